@@ -1,5 +1,5 @@
 // Times the library through the static library bench_codec, and counts what it allocates. `run` builds
-// and runs it; docs/SPEED.md says how its lines are read.
+// and runs it, and reads what it prints; docs/SPEED.md says what the lines mean.
 #include <float.h>
 #include <stdio.h>
 #include <stdlib.h>
@@ -34,7 +34,7 @@ enum {
     CHANNEL = 0x4001,
     FRAME_DATA = 60,            // of each frame of a stream
     FRAME_SIZE = 64,            // with its header
-    FRAMES_FEW = 10,            // in one piece
+    FRAMES_FEW = 10,            // in one chunk
     FRAMES_MORE = 100,
     FRAMES_MANY = 1000,
     FRAMES_MOST = 1024,         // 64 kB
@@ -222,12 +222,12 @@ static const struct row rows[ROWS] = {
     [CRC_LONG] = {"CRC-32, 4096 bytes", crc_long, 4},
     [CRC_SHORT] = {"CRC-32, 92 bytes", crc_short, 128},
     [PARSE_RESPONSE] = {"parse response, without FINGERPRINT", parse_response, 256},
-    [READ_RESPONSE] = {"parse it and read it", read_response, 128},
+    [READ_RESPONSE] = {"parse response and read it, without FINGERPRINT", read_response, 128},
     [PARSE_REQUEST] = {"parse request", parse_request, 256},
-    [LOOK_UP_REQUEST] = {"parse it and look up six", look_up_request, 128},
+    [LOOK_UP_REQUEST] = {"parse request and look up six", look_up_request, 128},
     [PARSE_WHOLE] = {"parse response, with FINGERPRINT", parse_whole, 64},
-    [LOOK_UP_WHOLE] = {"parse it and look up six", look_up_whole, 64},
-    [READ_WHOLE] = {"parse it and read it", read_whole, 64},
+    [LOOK_UP_WHOLE] = {"parse response and look up six, with FINGERPRINT", look_up_whole, 64},
+    [READ_WHOLE] = {"parse response and read it, with FINGERPRINT", read_whole, 64},
     [KEY_SHA1] = {"key, SHA-1", key_sha1, 64},
     [KEY_SHA256] = {"key, SHA-256", key_sha256, 64},
     [KEY_SHA512] = {"key, SHA-512", key_sha512, 64},
@@ -243,7 +243,8 @@ static const struct row rows[ROWS] = {
     [BUILD_LENT] = {"build response into a slice", build_lent, 64},
     [SIGN_SHA1] = {"key, build and sign response, SHA-1", sign_sha1, 16},
     [MARK_SHA1] = {"key, build and sign response, SHA-1, and its FINGERPRINT", mark_sha1, 16},
-    [MARK_LENT_SHA1] = {"the same into a slice", mark_lent_sha1, 16},
+    [MARK_LENT_SHA1] = {"key, build and sign response into a slice, SHA-1, and its FINGERPRINT",
+                        mark_lent_sha1, 16},
     [SIGN_SHA256] = {"key, build and sign response, SHA-256", sign_sha256, 16},
     [SIGN_SHA512] = {"key, build and sign response, SHA-512", sign_sha512, 16},
     [BUILD_REQUEST] = {"build request", build_request, 64},
@@ -257,17 +258,17 @@ static const struct row rows[ROWS] = {
                              128},
     [PARSE_CHANNEL] = {"parse channel frame", parse_channel, 256},
     [WRITE_CHANNEL] = {"write channel frame of 1200 bytes into a slice", write_channel, 64},
-    [FEED_FEW] = {"stream of 10 frames in one piece", feed_few, 16},
-    [FEED_MORE] = {"stream of 100 frames in one piece", feed_more, 2},
-    [FEED_MANY] = {"stream of 1000 frames in one piece", feed_many, 1},
-    [FEED_MOST] = {"stream of 1024 frames, 64 kB, in one piece", feed_most, 1},
-    [FEED_BYTES] = {"the same bytes one by one", feed_bytes, 1},
+    [FEED_FEW] = {"stream of 10 frames in one chunk", feed_few, 16},
+    [FEED_MORE] = {"stream of 100 frames in one chunk", feed_more, 2},
+    [FEED_MANY] = {"stream of 1000 frames in one chunk", feed_many, 1},
+    [FEED_MOST] = {"stream of 1024 frames, 64 kB, in one chunk", feed_most, 1},
+    [FEED_BYTES] = {"stream of 1024 frames, 64 kB, byte by byte", feed_bytes, 1},
     [ADD_1] = {"begin a message in a slice, 1 add", add_1, 128},
-    [ADD_18] = {"the same, 18 adds", add_18, 128},
-    [ADD_899] = {"the same, 899 adds", add_899, 8},
-    [ADD_1100] = {"the same, 1100 adds", add_1100, 8},
+    [ADD_18] = {"begin a message in a slice, 18 adds", add_18, 128},
+    [ADD_899] = {"begin a message in a slice, 899 adds", add_899, 8},
+    [ADD_1100] = {"begin a message in a slice, 1100 adds", add_1100, 8},
     [PARSE_UNKNOWNS] = {"parse 16,383 unknown types", parse_unknowns, 1},
-    [CHECK_UNKNOWNS] = {"parse and check them", check_unknowns, 1},
+    [CHECK_UNKNOWNS] = {"parse and check 16,383 unknown types", check_unknowns, 1},
 };
 
 // the least time of one call, in nanoseconds, and the allocations of one call
@@ -445,9 +446,9 @@ static void check_streams(void) {
     must(memcmp(wide + ATTRIBUTE_HEADER_SIZE, payload, PAYLOAD) == 0, "its data");
     must(stun_bench_write_channel(CHANNEL, WHOLE(payload), wide, size - 1) == 0, "no room for it");
     must(stun_bench_write_channel(0, WHOLE(payload), WHOLE(wide)) == 0, "no channel's number");
-    must(stun_bench_feed(WHOLE(stream), sizeof stream) == FRAMES_MOST, "a stream in one piece");
+    must(stun_bench_feed(WHOLE(stream), sizeof stream) == FRAMES_MOST, "a stream in one chunk");
     must(stun_bench_feed(WHOLE(stream), 1) == FRAMES_MOST, "a stream byte by byte");
-    must(stun_bench_feed(WHOLE(stream), FRAME_SIZE - 1) == FRAMES_MOST, "a stream in pieces");
+    must(stun_bench_feed(WHOLE(stream), FRAME_SIZE - 1) == FRAMES_MOST, "a stream in chunks");
 }
 
 static void check_types(void) {
@@ -581,7 +582,8 @@ static void tell_reading(void) {
          least[LOOK_UP_REQUEST] / least[VALIDATE_REQUEST_SHA1]);
     tell("parse the response of six attributes with six look-ups, to a key and its validation, both but for CRC-32",
          MOST_OF_VALIDATION, look_up / (least[VALIDATE_WHOLE_SHA1] - crc));
-    tell("the same, to a key and the validation of the response without FINGERPRINT", MOST_OF_VALIDATION,
+    tell("parse it with six look-ups, but for CRC-32, to a key and the validation of one without FINGERPRINT",
+         MOST_OF_VALIDATION,
          look_up / least[VALIDATE_RESPONSE_SHA1]);
     tell("check 16,383 unknown types, to their parse", MOST_OF_PARSE,
          (least[CHECK_UNKNOWNS] - least[PARSE_UNKNOWNS]) / least[PARSE_UNKNOWNS]);
@@ -606,12 +608,12 @@ static void tell_building(void) {
 
 static void tell_streams(void) {
     double few = least[FEED_FEW] / FRAMES_FEW;
-    tell("a frame of 100 in one piece, to one of 10", MOST_OF_FEW_FRAMES,
+    tell("a frame of 100 in one chunk, to one of 10", MOST_OF_FEW_FRAMES,
          least[FEED_MORE] / FRAMES_MORE / few);
-    tell("a frame of 1000 in one piece, to one of 10", MOST_OF_FEW_FRAMES,
+    tell("a frame of 1000 in one chunk, to one of 10", MOST_OF_FEW_FRAMES,
          least[FEED_MANY] / FRAMES_MANY / few);
-    tell("64 kB of frames in one piece, ns a byte", NO_BOUND, least[FEED_MOST] / sizeof stream);
-    tell("the same bytes one by one, ns a byte", NO_BOUND, least[FEED_BYTES] / sizeof stream);
+    tell("64 kB of frames in one chunk, ns a byte", NO_BOUND, least[FEED_MOST] / sizeof stream);
+    tell("64 kB of frames byte by byte, ns a byte", NO_BOUND, least[FEED_BYTES] / sizeof stream);
 }
 
 // the most allocations of these rows
@@ -639,12 +641,12 @@ static void tell_allocations(void) {
     static const unsigned signed_vectors[] = {SIGN_SHA1, MARK_SHA1, SIGN_SHA256, SIGN_SHA512,
                                               SIGN_REQUEST_SHA1};
     tell("allocations of parse and look-ups", 0, most_taken(ELEMENTS(reading)));
-    tell("of a key and a validation under it", 0, most_taken(ELEMENTS(validation)));
-    tell("of FINGERPRINT", 0, most_taken(ELEMENTS(marks)));
-    tell("of building into a slice", 0, most_taken(ELEMENTS(into_slices)));
-    tell("of a key, building and signing into a slice", 0, most_taken(ELEMENTS(signed_slices)));
-    tell("of building into a vector", 1, most_taken(ELEMENTS(into_vectors)));
-    tell("of a key, building and signing into a vector", 1, most_taken(ELEMENTS(signed_vectors)));
+    tell("allocations of a key and a validation under it", 0, most_taken(ELEMENTS(validation)));
+    tell("allocations of FINGERPRINT", 0, most_taken(ELEMENTS(marks)));
+    tell("allocations of building into a slice", 0, most_taken(ELEMENTS(into_slices)));
+    tell("allocations of a key, building and signing into a slice", 0, most_taken(ELEMENTS(signed_slices)));
+    tell("allocations of building into a vector", 1, most_taken(ELEMENTS(into_vectors)));
+    tell("allocations of a key, building and signing into a vector", 1, most_taken(ELEMENTS(signed_vectors)));
 }
 
 int main(int argc, char **argv) {
@@ -654,9 +656,9 @@ int main(int argc, char **argv) {
     time_rows(0, SMALL_ROWS, rounds);
     time_rows(SMALL_ROWS, ROWS, rounds);
     time_kept(rounds);
-    printf("%-56s %10s %12s\n", "", "ns", "allocations");
+    printf("%-72s %10s %12s\n", "", "ns", "allocations");
     for (unsigned i = 0; i < ROWS; i++) {
-        printf("%-56s %10.1f %12zu\n", rows[i].name, least[i], taken[i]);
+        printf("%-72s %10.1f %12zu\n", rows[i].name, least[i], taken[i]);
     }
     printf("\n%-96s %14s %9s\n", "", "wanted at most", "measured");
     tell_integrity();

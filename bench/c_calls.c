@@ -5,6 +5,8 @@
  *     cc -std=c11 -O2 -Wall -Wextra c_calls.c ../tests/c/steps.c $(pkg-config --cflags --libs turn_client) \
  *         -Wl,--wrap=malloc,--wrap=realloc -o c_calls && ./c_calls [ROUNDS]
  *
+ * `c_calls.py` does that, and can write results/speed.md.
+ *
  * Each answer is held against what is wanted, and each byte in the first turn: the exit status is 1 where one
  * differs. */
 #define _GNU_SOURCE

@@ -1,6 +1,8 @@
 #!/usr/bin/env python3
 """Measures what calls of a client cost that holds many permissions and channels, and frames over a socket.
 
+    bench/calls.py [--results FILE] [--note TEXT]
+
 It runs the program that `rt run` or `rt ci` built in `crates/turn_replay/out`, on traces in which a client
 is granted so many channels, each with its permission, and then on the same traces with many calls more at
 the end. What these took is the difference, of processor time, the least of a few runs each. It takes in
@@ -8,16 +10,23 @@ that a line is read, and its answer printed. Binds are as many as there are chan
 twice as many in the end. A bind with 1,000 channels that takes more than 100 microseconds is a missed
 bound, and so is a `poll` with 1,000 permissions and channels that takes more than 30, and each of them
 with 4,000 that takes more than six times as long. Over the socket of a connection that is to be bound frames
-come that tell nothing, 1,000 or 4,000 in a piece: that a frame of the latter takes more than twice as long is
-a missed bound, too. It ends with 1 where a bound is missed.
+come that tell nothing, 1,000 or 4,000 in a chunk: that a frame of the latter takes more than twice as long is
+a missed bound, too. It ends with 1 where a bound is missed. --results writes a section of results/speed.md.
 """
 
+import argparse
 import os
 import sys
 import tempfile
 from pathlib import Path
 
 TOP = Path(__file__).resolve().parent.parent
+sys.dont_write_bytecode = True
+sys.path.insert(0, str(TOP / "tools"))
+
+import results  # noqa: E402
+
+SECTION = "A client with many channels"
 PROGRAM = TOP / "crates/turn_replay/out/turn_replay"
 CLIENT, SERVER, RELAYED = "192.168.0.1:1000", "10.0.0.2:2000", "203.0.113.5:50000"
 SOCKET, PEER = "192.168.0.1:1001", "10.0.0.3"
@@ -127,7 +136,7 @@ def each(channels, calls, line):
 
 
 def each_frame(count):
-    """Microseconds of a frame, of so many in each piece over the socket of a connection that is to be bound."""
+    """Microseconds of a frame, of so many in each chunk over the socket of a connection that is to be bound."""
     t, now = joining()
     before = seconds(t.text())
     for _ in range(FRAMES // count):
@@ -136,31 +145,47 @@ def each_frame(count):
     return (seconds(t.text()) - before) / FRAMES * 1e6
 
 
-def told(name, few, many, most):
-    is_met = few <= most and many <= GROWTH * few
-    rest = "" if is_met else ", A MISSED BOUND"
-    print(f"{name}: {few:.1f} us with {FEW} channels, {many:.1f} with {MANY}{rest}")
-    return is_met
-
-
-def main():
-    if not os.access(PROGRAM, os.X_OK):
-        sys.exit(f"{PROGRAM} is not there: `rt run` in crates/turn_replay builds it")
+def measured():
+    """What is measured: its name, microseconds beside FEW and beside MANY, what the first may take, and how many times
+    as long the second."""
     bind = lambda now, i: f"bind {now} udp {peer(100_000 + i)}"
     poll = lambda now, i: f"poll {now + 50 * MS}"
     draw = lambda now, i: f"draw {now + 50 * MS}"
-    binds = [each(n, n, bind) for n in (FEW, MANY)]
-    polls = [each(n, CALLS, poll) for n in (FEW, MANY)]
+    yield "bind, beside so many channels", *(each(n, n, bind) for n in (FEW, MANY)), BIND, GROWTH
+    yield "poll, beside so many channels", *(each(n, CALLS, poll) for n in (FEW, MANY)), POLL, GROWTH
     draws = [each(n, CALLS, draw) for n in (FEW, MANY)]
-    good = told("bind", *binds, BIND)
-    good &= told("poll", *polls, POLL)
-    good &= told("draw, with nothing to send", *draws, POLL)
-    few, many = (each_frame(n) for n in (FEW, MANY))
-    is_met = many <= OF_FRAMES * few
-    rest = "" if is_met else ", A MISSED BOUND"
-    print(f"a frame over a socket: {few:.2f} us of {FEW} in a piece, {many:.2f} of {MANY}{rest}")
-    good &= is_met
-    return 0 if good else 1
+    yield "draw with nothing to send, beside so many channels", *draws, POLL, GROWTH
+    yield "a frame over a socket, of so many in a chunk", *(each_frame(n) for n in (FEW, MANY)), None, OF_FRAMES
+
+
+def is_met(few, many, most, growth):
+    return (most is None or few <= most) and many <= growth * few
+
+
+def table(rows):
+    """The table of what was measured, a row each."""
+    lines = []
+    for name, few, many, most, growth in rows:
+        missed = "" if is_met(few, many, most, growth) else "missed"
+        lines.append((name, f"{few:.2f}", most, f"{many:.2f}", f"{growth:g} times", missed))
+    return results.table(("microseconds", f"{FEW:,}", "at most", f"{MANY:,}", "at most", ""), lines)
+
+
+def main():
+    parser = argparse.ArgumentParser(description=__doc__, formatter_class=argparse.RawDescriptionHelpFormatter)
+    results.add_options(parser)
+    given = parser.parse_args()
+    if not os.access(PROGRAM, os.X_OK):
+        sys.exit(f"{PROGRAM} is not there: `rt run` in crates/turn_replay builds it")
+    rows = []
+    for row in measured():
+        name, few, many, *bounds = row
+        rest = "" if is_met(few, many, *bounds) else ", A MISSED BOUND"
+        print(f"{name}: {few:.2f} us of {FEW}, {many:.2f} of {MANY}{rest}", flush=True)
+        rows.append(row)
+    if given.results:
+        results.write(given.results, "speed", SECTION, results.head(results.own_command(), given.note), table(rows))
+    return 0 if all(is_met(*row[1:]) for row in rows) else 1
 
 
 if __name__ == "__main__":

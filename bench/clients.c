@@ -136,7 +136,7 @@ enum {
 // a frame in a stream to a datagram; twice as many bytes, one by one, to so many
 static const double MOST_OF_STREAM = 2, MOST_OF_TWICE = 2.5;
 
-// what a frame of these takes, in pieces of a size, in nanoseconds, and how many allocations one makes
+// what a frame of these takes, in chunks of a size, in nanoseconds, and how many allocations one makes
 static double drained(const uint8_t *stream, size_t frames, size_t size, size_t rounds, double *taken) {
     double least_none = DBL_MAX, least_all = DBL_MAX;
     size_t len = frames * STREAM_FRAME, by_none = 0, by_all = 0;
@@ -166,7 +166,7 @@ static void tell_drained(double datagram) {
     }
     double taken;
     double frame = drained(stream, STREAM_FRAMES, sizeof stream, STREAM_ROUNDS, &taken);
-    tell("take a frame of 1200 bytes in a piece of 54 over TCP, ns", NO_BOUND, frame);
+    tell("take a frame of 1200 bytes in a chunk of 54 over TCP, ns", NO_BOUND, frame);
     tell("  its allocations", 1, taken);
     tell("  to a datagram over UDP", MOST_OF_STREAM, frame / datagram);
     double few = drained(stream, BYTE_FRAMES, 1, BYTE_ROUNDS, &taken);

@@ -1,14 +1,17 @@
 #!/usr/bin/env python3
 """Measures what `turn-replay` keeps for each line of a trace, and of answers.
 
+    bench/replay.py [--results FILE] [--note TEXT]
+
 It runs the program that `rt run` or `rt ci` built in `crates/turn_replay/out`, on traces of the longest
 kinds: 1,000,000 `draw` lines, of which each but the first is answered `none`; and answers that no line
 names, beside as many that a line names. What a process held at most is told by the system; what it holds
 of as many bytes that are one remark is taken off. More than 40 bytes a line, or more than 40 bytes for an
 answer that no line names, are a missed bound, and so is an answer that is named and takes nothing. It
-ends with 1 where a bound is missed.
+ends with 1 where a bound is missed. --results writes a section of results/speed.md.
 """
 
+import argparse
 import os
 import subprocess
 import sys
@@ -16,6 +19,12 @@ import tempfile
 from pathlib import Path
 
 TOP = Path(__file__).resolve().parent.parent
+sys.dont_write_bytecode = True
+sys.path.insert(0, str(TOP / "tools"))
+
+import results  # noqa: E402
+
+SECTION = "Memory of a replay"
 PROGRAM = TOP / "crates/turn_replay/out/turn_replay"
 SETUP = (
     "desk realm sha1 auto\n"
@@ -59,26 +68,40 @@ def beside_a_remark(trace):
     return held(trace) - held(SETUP + "#" * (len(trace) - setup))
 
 
-def told(name, bytes_each, is_met):
-    print(f"{name}: {bytes_each:.1f} bytes{'' if is_met else ', A MISSED BOUND'}")
-    return is_met
-
-
-def main():
-    if not PROGRAM.exists():
-        sys.exit(f"{PROGRAM} is not there: `rt run` in crates/turn_replay builds it")
+def measured():
+    """What is measured: its name, how many bytes, what is wanted, and whether that is met."""
     each = beside_a_remark(SETUP + "draw 0\n" * LINES) / LINES
-    good = told("a `draw` line that is answered `none`", each, each <= MOST)
+    yield "a `draw` line that is answered `none`", each, f"at most {MOST}", each <= MOST
     # A desk answers each request of no user with a challenge of some 100 bytes.
     ask = "todesk 0 192.168.0.1:1000 @1 0 refuse 400\n"
     asked = SETUP + "draw 0\n" + ask * ANSWERS
     unnamed = beside_a_remark(asked) / ANSWERS
-    good &= told("an answer that no line names", unnamed, unnamed <= MOST)
+    yield "an answer that no line names", unnamed, f"at most {MOST}", unnamed <= MOST
     words = "+".join(f"@{number}:0:1" for number in range(2, ANSWERS + 2))
     naming = f"toclient 0 10.0.0.2:2000 192.168.0.1:1000 {words}\n"
     named = (held(asked + naming) - held(asked + "#" * len(naming))) / ANSWERS
-    good &= told("an answer that a later line names", named, named > unnamed)
-    return 0 if good else 1
+    yield "an answer that a later line names", named, "more than one that no line names", named > unnamed
+
+
+def table(rows):
+    """The table of what was measured, a row each."""
+    lines = [(name, f"{each:.1f}", wanted, "" if is_met else "missed") for name, each, wanted, is_met in rows]
+    return results.table(("for each", "bytes", "wanted", ""), lines)
+
+
+def main():
+    parser = argparse.ArgumentParser(description=__doc__, formatter_class=argparse.RawDescriptionHelpFormatter)
+    results.add_options(parser)
+    given = parser.parse_args()
+    if not PROGRAM.exists():
+        sys.exit(f"{PROGRAM} is not there: `rt run` in crates/turn_replay builds it")
+    rows = []
+    for name, each, wanted, is_met in measured():
+        print(f"{name}: {each:.1f} bytes{'' if is_met else ', A MISSED BOUND'}", flush=True)
+        rows.append((name, each, wanted, is_met))
+    if given.results:
+        results.write(given.results, "speed", SECTION, results.head(results.own_command(), given.note), table(rows))
+    return 0 if all(is_met for *_, is_met in rows) else 1
 
 
 if __name__ == "__main__":

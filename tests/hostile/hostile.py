@@ -5,6 +5,9 @@
     tests/hostile/hostile.py store [PROGRAM]        writes 200 of the seed 0 to `hostile.traces`
     tests/hostile/hostile.py stored [PROGRAM]       judges those, and that the judge sees what is falsified
 
+With --results FILE the first adds a row to the runs of results/hostile.md, and the last writes there how many of its
+traces reach what. --note TEXT goes with it.
+
 Traces are made by `hostile_courses.py` in rounds: a course is told what its lines were answered before it goes on.
 Each trace that is whole runs twice more than was needed to make it; `hostile_judge.py` judges the first answers, and
 the second ones are to be the same. What the program held at most is told by the system: more than is said below, or
@@ -15,7 +18,9 @@ What is wrong is printed, a line each, and the trace is written to a file of the
 be tested (`built` of tools/programs.py).
 """
 
+import argparse
 import os
+import re
 import subprocess
 import sys
 import tempfile
@@ -27,6 +32,8 @@ sys.dont_write_bytecode = True
 sys.path += [str(TOP / "tools"), str(TOP / "tests/oracle")]
 
 import programs  # noqa: E402
+import released  # noqa: E402
+import results  # noqa: E402
 from hostile_courses import begun, dice_of, goes_further  # noqa: E402
 from hostile_falsified import unseen  # noqa: E402
 from hostile_judge import fault  # noqa: E402
@@ -41,6 +48,19 @@ HELD, HELD_EACH = 16_000_000, 8
 OTHERS = 12
 # how often a long run tells how far it is
 TOLD = 10_000
+
+# What answers show that a trace reaches.
+REACHED = {
+    "allocation created": r"event AllocationCreated .*",
+    "permission created": r"event PermissionCreated .*",
+    "channel created": r"event ChannelCreated .*",
+    "TCP connection bound": r"event TcpConnected .*",
+    "data of a peer": r"peer .*",
+    "report of an ICMP error": r"icmp .*",
+    "a peer's connection attempt answered": r"transmit \S+ \S+ 011c.*",
+    "client closed": r"closed",
+}
+RUN_HEADS = ("date", "commit", "machine", "program", "seed", "traces", "wrong", "lines", "seconds", "note")
 
 # Runs a program, and prints its exit status and the most memory that it held, in kilobytes. That of a process
 # counts from the one that started it, so it is started by a small one.
@@ -158,34 +178,73 @@ def many(program, seed, count):
     return right, wrong, lines
 
 
+def how_built(program):
+    """How a program was built, as a page says it."""
+    if programs.is_tried(program):
+        return "by `rt try`, not proved"
+    return "released" if released.DIST in program.parents else "proved"
+
+
+def parsed():
+    parser = argparse.ArgumentParser(description=__doc__, formatter_class=argparse.RawDescriptionHelpFormatter)
+    parser.add_argument("words", nargs="+", metavar="WORD", help="SEED COUNT, `store` or `stored`; then a PROGRAM")
+    results.add_options(parser)
+    given = parser.parse_args()
+    is_long, count = given.words[0].isdigit(), len(given.words)
+    if not (is_long and count in (2, 3) or given.words[0] in ("store", "stored") and count < 3):
+        parser.error("give SEED COUNT, `store` or `stored`, and then at most a PROGRAM")
+    return given, given.words.pop() if count == (3 if is_long else 2) else None
+
+
 def main():
-    words = sys.argv[1:]
-    is_named = len(words) == (3 if words[:1] and words[0].isdigit() else 2)
-    program = Path(words.pop()).resolve() if is_named else programs.built("turn_replay")
+    given, named = parsed()
+    program = Path(named).resolve() if named else programs.built("turn_replay")
     if not program.exists():
         print(f"failed: {program} is not there\nhostile: 0 right, 1 wrong")
         return 1
-    if words == ["store"]:
+    if given.words == ["store"]:
         STORED.write_text("%".join(made(program, 0, 0, STORED_COUNT, others_of(program, 0))))
         return 0
-    if words == ["stored"]:
-        return stored(program)
-    before = time.time()
-    right, wrong, lines = many(program, int(words[0]), int(words[1]))
-    print(f"{lines} lines in {time.time() - before:.0f} seconds")
+    if given.words == ["stored"]:
+        return stored(program, given)
+    before, (seed, count) = time.time(), map(int, given.words)
+    right, wrong, lines = many(program, seed, count)
+    seconds = time.time() - before
+    print(f"{lines} lines in {seconds:.0f} seconds")
     print(f"hostile: {right} right, {wrong} wrong")
+    if given.results:
+        where = (results.today(), results.commit(), results.machine())
+        row = (*where, how_built(program), seed, f"{right + wrong:,}", wrong, f"{lines:,}", f"{seconds:.0f}")
+        row = (*row, given.note)
+        results.add_row(given.results, "hostile", "tests/hostile/hostile.py SEED COUNT", RUN_HEADS, row)
     return 1 if wrong else 0
 
 
-def stored(program):
+def reached(answers):
+    """How many traces reach what."""
+    for name, form in REACHED.items():
+        yield name, sum(any(re.fullmatch(form, it) for it in told) for told, _ in answers)
+
+
+def write_reached(given, program, answers):
+    facts = {"program": how_built(program), "traces": len(answers), "answers": f"{sum(len(it) for it, _ in answers):,}"}
+    top = results.head(results.own_command(), given.note, **facts)
+    rows = results.table(("reached", "traces"), reached(answers))
+    results.write(given.results, "hostile", "What the stored traces reach", top, rows)
+
+
+def stored(program, given):
     """Judges the stored traces, and the judge."""
     traces = STORED.read_text().split("%")
     right, wrong = 0, 1
     try:
         right, wrong = tell(faults(program, traces), traces)
-        for why in unseen(traces, run(program, traces)):
+        answers = run(program, traces)
+        for why in unseen(traces, answers):
             print(f"failed: {why}")
             wrong += 1
+        if given.results:
+            write_reached(given, program, answers)
     except Broken as why:
         print(f"failed: {why}")
     print(f"hostile: {right} right, {wrong} wrong")

@@ -18,13 +18,13 @@ RENEWALS = ((REFRESHED, 1), (STALE, 3), (PERMITTED, 3))
 RENEWING_SECONDS, RENEWING_INTERVAL = 655, 10000
 
 PAUSED_AFTER, PAUSED_FOR = 1.0, 3.0  # seconds
-# While the server stands still: 600 payloads of 1,200 bytes, more than its socket holds; 60 of 100, which it holds.
+# While the server is stopped: 600 payloads of 1,200 bytes, more than its socket holds; 60 of 100, which it holds.
 STEADY = {"count": 1000, "interval": 5, "size": 1200}
 SLOW = {"count": 100, "interval": 50}
 
 
 def pause(server, peer):
-    """The server stands still for a while, and goes on: how many payloads the peer had until then."""
+    """The server is stopped for a while, and continues: how many payloads the peer had until then."""
     time.sleep(PAUSED_AFTER)
     server.pause()
     time.sleep(PAUSED_FOR)
@@ -115,17 +115,17 @@ def refusals():
 
 def troubles():
     short = ("--max-allocate-lifetime=70",)
-    anew = Case("killed and started anew, UDP", SOME_LOST, seconds=15, during=restart, server=short, is_idle=True,
+    anew = Case("killed and restarted, UDP", SOME_LOST, seconds=15, during=restart, server=short, is_idle=True,
                 logged=(("error 437", 2),), **STEADY)
     return [
-        Case("stands still 3 s, UDP: more than it holds", SOME_LOST, during=pause, **STEADY),
-        Case("stands still 3 s, UDP: as much as it holds", during=pause, is_even=True, **SLOW),
-        Case("stands still 3 s, TCP: as much as it holds", transport="tcp", during=pause, is_even=True, **SLOW),
+        Case("stopped for 3 s, UDP: more than its socket holds", SOME_LOST, during=pause, **STEADY),
+        Case("stopped for 3 s, UDP: less than its socket holds", during=pause, is_even=True, **SLOW),
+        Case("stopped for 3 s, TCP: less than its socket holds", transport="tcp", during=pause, is_even=True, **SLOW),
         Case("killed, UDP", SOME_LOST, during=kill, is_idle=True, lasts=(40, 110), **STEADY),
         Case("killed, TCP", FAILED, transport="tcp", during=kill, **STEADY),
         anew,
-        replace(anew, name="killed and started anew, TCP", want=FAILED, transport="tcp", logged=()),
-        Case("lifetimes of 70 s: not believed of a REFRESH", FAILED, seconds=90, server=short, lasts=(69, 75),
+        replace(anew, name="killed and restarted, TCP", want=FAILED, transport="tcp", logged=()),
+        Case("lifetimes of 70 s: refused in a REFRESH response", FAILED, seconds=90, server=short, lasts=(69, 75),
              is_idle=True, logged=((REFRESHED, 1),)),
     ]
 

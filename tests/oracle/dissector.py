@@ -37,7 +37,7 @@ NAMES = {
 TEXTS = {0x0006: 513, 0x0014: 763, 0x0015: 763, 0x8003: 255, 0x8022: 763}
 ALGORITHMS = {1: "MD5", 2: "SHA256", 0xFF12: "SHA512"}
 FAMILIES = {1: "IPv4", 2: "IPv6"}
-# RFC 8656, section 12, goes up to 0x4FFF, RFC 5766 up to 0x7FFF; docs/DIFFERENCES.md says what holds.
+# RFC 8656, section 12, goes up to 0x4FFF, RFC 5766 up to 0x7FFF; docs/MIGRATION.md says what holds.
 CHANNELS = range(0x4000, 0x8000)
 # Unicode's Other_Grapheme_Extend: what extends the character before it, beside marks of Mn and Me.
 EXTENDING = {

@@ -17,7 +17,7 @@ def come_together(row):
     own, others, hides, takes = row[2:]
     is_shown = hides == "Required" and takes == "Disabled"
     come = SUPPORTED[own] & SUPPORTED[others] and not is_shown
-    print(f"{' '.join(row)}: {'Allocated' if come else 'TurnedAway'}")
+    print(f"{' '.join(row)}: {'Allocated' if come else 'CannotAgree'}")
 
 
 def main():

@@ -1,5 +1,5 @@
-//! A client that holds channels: datagrams and pieces of a stream that it is handed, and bytes that it sends to
-//! peers.
+//! Times a client with channels: the datagrams and the chunks of a stream that it receives, and the
+//! bytes that it sends to peers.
 
 ghost use Rattle.std.specs.Prelude.{◌≢◌};
 
@@ -24,30 +24,30 @@ use turn_desk_core::desk::Desk;
 use turn_types_attributes::credentials::TurnCredentials;
 use turn_types_frame::build::DelayedTransmitBuild;
 
-/// So long a client waits between two requests, in nanoseconds (RFC 8489, section 6.2.1).
+/// The time between two requests of a client, in nanoseconds (RFC 8489, section 6.2.1).
 const CADENCE: u64 = 50_000_000;
 
-/// A moment so many requests behind the first.
-pub(crate) fn moment(requests: usize) -> Instant {
+/// Returns the time at which this many requests have been sent since the first one.
+pub(crate) fn time(requests: usize) -> Instant {
     Instant::from_nanos((requests as u64).saturating_mul(CADENCE))
 }
 
-/// An address.
+/// Returns an address from its numbers.
 fn address(host: u32, port: u16) -> SocketAddr {
     SocketAddr::V4(SocketAddrV4::new(Ipv4Addr::from(host), port))
 }
 
-/// A port of the peer of a channel: each is a host of its own, from 10.1.0.0 on.
+/// Returns a port of the peer of a channel. Each peer is a host of its own, from 10.1.0.0 on.
 pub(crate) fn peer(channel: usize, port: u16) -> SocketAddr {
     address(0x0a01_0000u32.wrapping_add((channel % 65_536) as u32), port)
 }
 
-/// The own address of a client, and that of its server.
+/// The client's own address, and its server's.
 const HERE: (u32, u16) = (0xc0a8_0001, 1000);
 
 const SERVER: (u32, u16) = (0x0a00_0002, 2000);
 
-/// A client over UDP.
+/// Creates a client over UDP.
 pub(crate) fn over_udp(alloc: Global) -> Result<TurnClientUdp, NoMemory> {
     match TurnCredentials::new(alloc, "user", "pass") {
         Ok(user) => {
@@ -58,7 +58,7 @@ pub(crate) fn over_udp(alloc: Global) -> Result<TurnClientUdp, NoMemory> {
     }
 }
 
-/// A client over TCP, that asks for an allocation over UDP.
+/// Creates a client over TCP, which requests an allocation over UDP.
 fn over_tcp(alloc: Global) -> Result<TurnClientTcp, NoMemory> {
     match TurnCredentials::new(alloc, "user", "pass") {
         Ok(user) => {
@@ -69,7 +69,7 @@ fn over_tcp(alloc: Global) -> Result<TurnClientTcp, NoMemory> {
     }
 }
 
-/// A desk that knows the client's user.
+/// Creates a server core that knows the client's user.
 pub(crate) fn desk(alloc: Global) -> Result<Desk, NoMemory> {
     let Ok(realm) = String::from_str(alloc, "realm") else {
         return Err(NoMemory);
@@ -84,7 +84,7 @@ pub(crate) fn desk(alloc: Global) -> Result<Desk, NoMemory> {
     }
 }
 
-/// Adds the client's user to a server.
+/// Adds the client's user to a server's users.
 fn add_user(alloc: Global, auth: &mut LongTermServerAuth) -> Result<(), NoMemory> {
     let Ok(name) = String::from_str(alloc, "user") else {
         return Err(NoMemory);
@@ -98,7 +98,7 @@ fn add_user(alloc: Global, auth: &mut LongTermServerAuth) -> Result<(), NoMemory
     }
 }
 
-/// Has a desk answer what a client sends now, and hands the client the reply.
+/// Passes the client's next message to the server core, and its reply to the client.
 fn exchange(
     client: &mut impl TurnClientApi,
     desk: &mut Desk,
@@ -117,7 +117,7 @@ fn exchange(
     };
     match reply {
         Ok(Some(reply)) => {
-            hand_in(client, reply.as_slice(), now);
+            dispatch(client, reply.as_slice(), now);
             drop(reply);
             Ok(())
         }
@@ -126,8 +126,8 @@ fn exchange(
     }
 }
 
-/// Hands a client bytes of its server's. Answers whether they gave data of a peer.
-pub(crate) fn hand_in(client: &mut impl TurnClientApi, bytes: &[u8], now: Instant) -> bool {
+/// Passes bytes from its server to a client. Returns whether they gave data of a peer.
+pub(crate) fn dispatch(client: &mut impl TurnClientApi, bytes: &[u8], now: Instant) -> bool {
     let came = Transmit::new(
         bytes,
         client.transport(),
@@ -137,7 +137,8 @@ pub(crate) fn hand_in(client: &mut impl TurnClientApi, bytes: &[u8], now: Instan
     matches!(client.recv(came, now), TurnRecvRet::PeerData(_))
 }
 
-/// A client is granted an hour, and so many channels, each with a permission.
+/// Has the server core grant a client an allocation of an hour, and this many channels, each with a
+/// permission.
 pub(crate) fn hold(
     alloc: Global,
     client: &mut impl TurnClientApi,
@@ -155,25 +156,26 @@ pub(crate) fn hold(
     done
 }
 
-/// The same, where the allocation is decided so.
+/// Does the work of `hold`, with this decision on the allocation.
 fn bind(
     client: &mut impl TurnClientApi,
     desk: &mut Desk,
     granted: &Decision,
     channels: usize,
 ) -> Result<(), NoMemory> {
-    exchange(client, desk, granted, moment(0))?;
-    exchange(client, desk, granted, moment(1))?;
+    exchange(client, desk, granted, time(0))?;
+    exchange(client, desk, granted, time(1))?;
     for i in 0..channels {
-        let now = moment(i.saturating_add(2));
-        // What is refused binds nothing, and the answers tell.
+        let now = time(i.saturating_add(2));
+        // A refused call binds nothing; the results show it.
         let _ = client.bind_channel(TransportType::Udp, peer(i, 9000), now);
         exchange(client, desk, &Decision::Grant, now)?;
     }
     Ok(())
 }
 
-/// A client is granted so many channels by a desk of its own. Answers whether memory was there for that.
+/// Has a server core of its own grant a client this many channels. Returns whether no allocation
+/// failed.
 fn is_held(alloc: Global, client: &mut impl TurnClientApi, channels: usize) -> bool {
     match desk(alloc) {
         Ok(mut desk) => {
@@ -185,8 +187,9 @@ fn is_held(alloc: Global, client: &mut impl TurnClientApi, channels: usize) -> b
     }
 }
 
-/// Hands a client that holds so many channels these bytes of its server's, so many times. Answers how many
-/// times they gave data of a peer; 0 where memory is refused. What is answered is compared by `bench.c`.
+/// Passes these bytes from its server to a client over UDP with this many channels, `rounds` times.
+/// Returns how often they gave data of a peer; 0 if an allocation failed. `bench.c` compares the
+/// result.
 #[unsafe(no_mangle)]
 pub extern "C" fn stun_bench_take(
     alloc: Global,
@@ -197,7 +200,7 @@ pub extern "C" fn stun_bench_take(
     match over_udp(alloc) {
         Ok(mut client) => {
             let taken = if is_held(alloc, &mut client, channels) {
-                take(&mut client, moment(channels), rounds, bytes)
+                take(&mut client, time(channels), rounds, bytes)
             } else {
                 0
             };
@@ -208,20 +211,22 @@ pub extern "C" fn stun_bench_take(
     }
 }
 
-/// Hands a client these bytes so many times. Answers how many times they gave data of a peer.
+/// Passes these bytes to a client `rounds` times. Returns how often they gave data of a peer.
 fn take(client: &mut impl TurnClientApi, now: Instant, rounds: usize, bytes: &[u8]) -> usize {
     let mut taken = 0usize;
     for _ in 0..rounds {
-        if hand_in(client, bytes, now) {
+        if dispatch(client, bytes, now) {
             taken = taken.saturating_add(1);
         }
     }
     taken
 }
 
-/// Hands a client over TCP that holds so many channels these bytes of its stream, so many times, each time in
-/// pieces of this size, and asks behind each piece for all that waits. Answers how many frames gave data of a
-/// peer; 0 where memory is refused. What is answered is compared by `bench.c`.
+/// Passes these bytes of its stream to a client over TCP with this many channels, `rounds` times.
+///
+/// Each time they are passed in chunks of this size, and `poll_recv` is called after each chunk
+/// until it returns nothing. Returns how many frames gave data of a peer; 0 if an allocation
+/// failed. `bench.c` compares the result.
 #[unsafe(no_mangle)]
 pub extern "C" fn stun_bench_drain(
     alloc: Global,
@@ -235,7 +240,7 @@ pub extern "C" fn stun_bench_drain(
             let mut taken = 0usize;
             if is_held(alloc, &mut client, channels) {
                 for _ in 0..rounds {
-                    let given = drain(&mut client, moment(channels), bytes, size.max(1));
+                    let given = drain(&mut client, time(channels), bytes, size.max(1));
                     taken = taken.saturating_add(given);
                 }
             }
@@ -246,13 +251,14 @@ pub extern "C" fn stun_bench_drain(
     }
 }
 
-/// Hands a client these bytes of its stream in pieces. Answers how many frames gave data of a peer.
+/// Passes these bytes of its stream to a client in chunks. Returns how many frames gave data of a
+/// peer.
 fn drain(client: &mut impl TurnClientApi, now: Instant, bytes: &[u8], size: usize) -> usize
     requires { size ≢ 0 }
 {
     let mut taken = 0usize;
-    for piece in bytes.chunks(size) {
-        if hand_in(client, piece, now) {
+    for chunk in bytes.chunks(size) {
+        if dispatch(client, chunk, now) {
             taken = taken.saturating_add(1);
         }
         for _ in 0..bytes.len() {
@@ -268,9 +274,11 @@ fn drain(client: &mut impl TurnClientApi, now: Instant, bytes: &[u8], size: usiz
     taken
 }
 
-/// Has a client that holds so many channels send these bytes to a port of the peer of the last of them, so
-/// many times, and writes each time what goes to the server to the front of `out`. Answers how many times
-/// that was; 0 where memory is refused. What is answered is compared by `bench.c`.
+/// Has a client with this many channels send these bytes to a port of the peer of the last channel,
+/// `rounds` times.
+///
+/// Each time it writes what is sent to the server to the start of `out`. Returns how often it did;
+/// 0 if an allocation failed. `bench.c` compares the result.
 #[unsafe(no_mangle)]
 pub extern "C" fn stun_bench_send(
     alloc: Global,
@@ -284,7 +292,7 @@ pub extern "C" fn stun_bench_send(
     match over_udp(alloc) {
         Ok(mut client) => {
             let sent = if is_held(alloc, &mut client, channels) {
-                send(&mut client, moment(channels), rounds, to, bytes, out)
+                send(&mut client, time(channels), rounds, to, bytes, out)
             } else {
                 0
             };
@@ -295,7 +303,7 @@ pub extern "C" fn stun_bench_send(
     }
 }
 
-/// Has a client send these bytes to a peer, so many times. Answers how many times they were written.
+/// Has a client send these bytes to a peer `rounds` times. Returns how often they were written.
 fn send(
     client: &mut impl TurnClientApi,
     now: Instant,
@@ -313,8 +321,8 @@ fn send(
         if out.len() < len {
             return sent;
         }
-        let (front, _) = out.split_at_mut(len);
-        carrier.write_into(front);
+        let (head, _) = out.split_at_mut(len);
+        carrier.write_into(head);
         sent = sent.saturating_add(1);
     }
     sent

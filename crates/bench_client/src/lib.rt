@@ -1,5 +1,5 @@
-//! What C calls to time a client that takes and sends, the responses that it is handed, and an agent with
-//! requests outstanding.
+//! What C calls to time a client that receives and sends, the responses that it receives, and an
+//! agent with outstanding requests.
 #![tactic(auto)]
 
 pub mod agents;

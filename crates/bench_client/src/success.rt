@@ -1,6 +1,6 @@
-//! Signed success responses that a client is handed.
+//! Times the signed success responses that a client receives.
 
-use crate::client::{desk, hand_in, hold, moment, over_udp, peer};
+use crate::client::{desk, dispatch, hold, over_udp, peer, time};
 use rand_chacha::ChaCha20Rng;
 use rand_core::SeedableRng;
 use std::alloc::Global;
@@ -12,64 +12,70 @@ use turn_client_proto_api::event::TurnEvent;
 use turn_desk_core::decision::Decision;
 use turn_desk_core::desk::Desk;
 
-/// Has a client ask for so many permissions, each of another peer, and a desk answer them all, and then hands
-/// the client so many of the responses. Answers how many permissions it was told of; 0 where memory is
-/// refused. What is answered is compared by `bench.c`.
+/// Has a client request `requested` permissions, each for another peer, has a server core respond
+/// to them all, and then passes `taken` of the responses to the client.
+///
+/// Returns how many permissions the client reported; 0 if an allocation failed. `bench.c` compares
+/// the result.
 #[unsafe(no_mangle)]
-pub extern "C" fn stun_bench_take_successes(alloc: Global, asked: usize, taken: usize) -> usize {
+pub extern "C" fn stun_bench_take_successes(
+    alloc: Global,
+    requested: usize,
+    taken: usize,
+) -> usize {
     let Ok(mut client) = over_udp(alloc) else {
         return 0;
     };
-    let told = match desk(alloc) {
+    let reported = match desk(alloc) {
         Ok(mut desk) => {
-            let told = permitted(alloc, &mut client, &mut desk, asked, taken);
+            let reported = permitted(alloc, &mut client, &mut desk, requested, taken);
             drop(desk);
-            told
+            reported
         }
         Err(_) => 0,
     };
     drop(client);
-    told
+    reported
 }
 
-/// The same of a client and a desk of its own.
+/// Does the work of `stun_bench_take_successes` with this client and this server core.
 fn permitted(
     alloc: Global,
     client: &mut impl TurnClientApi,
     desk: &mut Desk,
-    asked: usize,
+    requested: usize,
     taken: usize,
 ) -> usize {
     if hold(alloc, client, desk, 0).is_err() {
         return 0;
     }
-    let mut told = 0usize;
-    if let Ok(replies) = replies(alloc, client, desk, asked) {
-        let now = moment(asked.saturating_add(2));
+    let mut reported = 0usize;
+    if let Ok(replies) = replies(alloc, client, desk, requested) {
+        let now = time(requested.saturating_add(2));
         for reply in replies.as_slice().iter().take(taken) {
-            hand_in(client, reply.as_slice(), now);
+            dispatch(client, reply.as_slice(), now);
         }
-        for _ in 0..asked.saturating_add(2) {
+        for _ in 0..requested.saturating_add(2) {
             if let Some(TurnEvent::PermissionCreated(..)) = client.poll_event() {
-                told = told.saturating_add(1);
+                reported = reported.saturating_add(1);
             }
         }
         drop(replies);
     }
-    told
+    reported
 }
 
-/// What a desk answers to a client that asks for so many permissions.
+/// Returns the server core's responses to a client that requests `requested` permissions.
 fn replies(
     alloc: Global,
     client: &mut impl TurnClientApi,
     desk: &mut Desk,
-    asked: usize,
+    requested: usize,
 ) -> Result<ListOf<Vec<u8>>, NoMemory> {
     let mut replies = ListOf::new(alloc);
-    for i in 0..asked {
-        let now = moment(i.saturating_add(2));
-        // What is refused is not answered, and the events tell.
+    for i in 0..requested {
+        let now = time(i.saturating_add(2));
+        // A refused call sends nothing and gets no response; the events show it.
         let _ = client.create_permission(TransportType::Udp, peer(i, 0).ip(), now);
         if let Some(reply) = answered(client, desk, i)? {
             replies.push(reply)?;
@@ -78,13 +84,14 @@ fn replies(
     Ok(replies)
 }
 
-/// What a desk answers to what a client sends at a moment.
+/// Returns the server core's response to the client's next message, sent when this many requests
+/// have been.
 fn answered(
     client: &mut impl TurnClientApi,
     desk: &mut Desk,
     requests: usize,
 ) -> Result<Option<Vec<u8>>, NoMemory> {
-    let now = moment(requests.saturating_add(2));
+    let now = time(requests.saturating_add(2));
     match client.poll_transmit(now)? {
         Some(sent) => {
             let mut words = ChaCha20Rng::from_seed([0; 32]);

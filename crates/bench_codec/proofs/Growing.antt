@@ -7,12 +7,12 @@ use Rattle.stun_types_write.specs.Drafts.{Draft}
 use Rattle.stun_types_write.specs.Outcomes.{IsAdded}
 use Rattle.bench_codec.specs.Lifetimes.{GrowsBy, lifetime}
 
--- by none
+-- A message grows by no LIFETIME if it is unchanged.
 pub grows_by_none : (text : List ℕ) → GrowsBy [] text text
 grows_by_none text mtype number adds h = h ∙ ap (λ (all : List Attr). message_text mtype number all)
     (sym (append-nil adds))
 
--- by one more
+-- A message that grew by some LIFETIMEs grows by one more.
 pub grows_by_one : (each : List ℕ) (seconds : ℕ) (first : List ℕ) (old new : Draft)
     → GrowsBy each first old.bytes
     → IsAdded (lifetime seconds) old new
@@ -20,6 +20,6 @@ pub grows_by_one : (each : List ℕ) (seconds : ℕ) (first : List ℕ) (old new
 grows_by_one each seconds first old new grown one mtype number adds h =
     let more : (adds ++ map lifetime each) ++ lifetime seconds ∷ [] ≡ adds ++ map lifetime (each ++ seconds ∷ []) =
     append_assoc adds (map lifetime each) (lifetime seconds ∷ []) ∙ ap
-    (λ (behind : List Attr). adds ++ behind) (sym (map_push lifetime each seconds)) in
+    (λ (following : List Attr). adds ++ following) (sym (map_push lifetime each seconds)) in
     one.text mtype number (adds ++ map lifetime each) (grown mtype number adds h)
     ∙ ap (λ (all : List Attr). message_text mtype number all) more

@@ -1,4 +1,4 @@
 pub mod Allocated
-pub mod Asked
+pub mod Requested
 pub mod Lifetimes
 pub mod Objected

@@ -1,15 +1,15 @@
-//! What the success response to an ALLOCATE tells.
+//! The contents of the success response to an ALLOCATE.
 
-/// What the success response to an ALLOCATE tells of an allocation with one address of IPv4 (RFC
+/// What the success response to an ALLOCATE says about an allocation with one IPv4 address (RFC
 /// 8656, section 7.3).
 #[repr(C)]
 #[derive(Clone, Copy, Debug, Default)]
 pub struct Allocation {
-    /// The relayed address, its first octet the highest.
+    /// The relayed address; its first octet is the most significant.
     pub relayed_ip: u32,
-    /// The address from which the request came, its first octet the highest.
+    /// The address from which the request came; its first octet is the most significant.
     pub mapped_ip: u32,
-    /// For how many seconds the allocation stands.
+    /// The lifetime of the allocation in seconds.
     pub lifetime: u32,
     /// The port of the relayed address.
     pub relayed_port: u16,

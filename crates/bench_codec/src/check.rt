@@ -1,4 +1,4 @@
-//! The check of what a request shows.
+//! Checks the attributes of a request.
 
 ghost use Rattle.std.specs.Prelude.{◌≡◌, IfSome};
 ghost use Rattle.bench_codec.specs.Allocated.{WritesOut};
@@ -10,11 +10,17 @@ use stun_types_message::parsed::Message;
 use stun_types_wire::class::MessageClass;
 use stun_types_write::vec::MessageWriteVec;
 
-/// Checks the attributes that a request shows, where no type is supported and none is required, and
-/// writes the error response to the front of `out`: ERROR-CODE 420 and UNKNOWN-ATTRIBUTES, which lists
-/// each unknown type once. Answers how many bytes it has; 0, with nothing written, where the bytes are
-/// no request, where no type is unknown, where the response is too long, where `out` has not the room,
-/// and where memory is refused.
+/// Checks the visible attributes of a request, with no attribute type supported and none required,
+/// and writes the error response to the start of `out`: ERROR-CODE 420 and UNKNOWN-ATTRIBUTES,
+/// which lists each unknown type once.
+///
+/// Returns the length of the response. Returns 0 and writes nothing if:
+///
+/// - the bytes are not a request;
+/// - no type is unknown;
+/// - the response would be too long;
+/// - `out` is too short;
+/// - an allocation fails.
 #[unsafe(no_mangle)]
 pub extern "C" fn stun_bench_check_types(alloc: Global, bytes: &[u8], out: &mut [u8]) -> usize
     ensures { WritesOut (unknown_text bytes.now) out.old out.new result }
@@ -29,7 +35,8 @@ pub extern "C" fn stun_bench_check_types(alloc: Global, bytes: &[u8], out: &mut 
     }
 }
 
-/// That response, in a writer. None where there is none, and where it is refused.
+/// Returns that response in a writer. Returns `None` if there is none to send or if building it
+/// fails.
 #[tactic(auto, using(crate::proofs::Objected::is_unknown_text))]
 fn objection_to(alloc: Global, bytes: &[u8]) -> Option<MessageWriteVec>
     ensures { IfSome result (λ reply. reply.bytes ≡ unknown_text bytes.now) }

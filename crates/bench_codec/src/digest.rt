@@ -1,4 +1,4 @@
-//! The digests alone, by which the rest is measured.
+//! Digests without any message: the benchmark reports the other times relative to them.
 
 ghost use Rattle.std.specs.Prelude.{◌≡◌};
 ghost use Rattle.sha1.specs.Sha1.{sha1};
@@ -38,7 +38,7 @@ pub struct Sha512Digest {
     pub bytes: [u8; 64],
 }
 
-/// Writes the SHA-1 of a text.
+/// Writes the SHA-1 digest of a text.
 #[unsafe(no_mangle)]
 pub extern "C" fn stun_bench_sha1(text: &[u8], digest: &mut Sha1Digest)
     ensures { digest.new.bytes ≡ sha1 text.now }
@@ -46,7 +46,7 @@ pub extern "C" fn stun_bench_sha1(text: &[u8], digest: &mut Sha1Digest)
     digest.bytes = Sha1::digest(text);
 }
 
-/// Writes the SHA-256 of a text.
+/// Writes the SHA-256 digest of a text.
 #[unsafe(no_mangle)]
 pub extern "C" fn stun_bench_sha256(text: &[u8], digest: &mut Sha256Digest)
     ensures { digest.new.bytes ≡ sha256 text.now }
@@ -54,7 +54,7 @@ pub extern "C" fn stun_bench_sha256(text: &[u8], digest: &mut Sha256Digest)
     digest.bytes = Sha256::digest(text);
 }
 
-/// Writes the SHA-512 of a text.
+/// Writes the SHA-512 digest of a text.
 #[unsafe(no_mangle)]
 pub extern "C" fn stun_bench_sha512(text: &[u8], digest: &mut Sha512Digest)
     ensures { digest.new.bytes ≡ sha512 text.now }
@@ -62,7 +62,7 @@ pub extern "C" fn stun_bench_sha512(text: &[u8], digest: &mut Sha512Digest)
     digest.bytes = Sha512::digest(text);
 }
 
-/// The CRC-32 of a text, of which FINGERPRINT is made (RFC 8489, section 14.7).
+/// Returns the CRC-32 of a text, from which FINGERPRINT is computed (RFC 8489, section 14.7).
 #[unsafe(no_mangle)]
 pub extern "C" fn stun_bench_crc32(text: &[u8]) -> u32
     ensures { result ≡ crc32 text.now }
@@ -70,7 +70,7 @@ pub extern "C" fn stun_bench_crc32(text: &[u8]) -> u32
     Crc32::checksum(text)
 }
 
-/// The value of the FINGERPRINT of a text, as a number (RFC 8489, section 14.7).
+/// Returns the FINGERPRINT value of a text as an integer (RFC 8489, section 14.7).
 #[unsafe(no_mangle)]
 pub extern "C" fn stun_bench_fingerprint(text: &[u8]) -> u32
     ensures { result ≡ big_number 4 (fingerprint_value text.now) }

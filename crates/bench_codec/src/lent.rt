@@ -1,4 +1,4 @@
-//! The building and the signing of a response into lent bytes, by a writer that takes no memory.
+//! Builds and signs a response in borrowed bytes, with a writer that allocates nothing.
 
 ghost use Rattle.std.specs.Prelude.{◌≡◌, IfSome, length};
 ghost use Rattle.stun_types_wire.specs.declared.algorithm.IntegrityAlgorithm.TheVariants.{Sha1};
@@ -16,60 +16,66 @@ use stun_types_wire::transaction::TransactionId;
 use stun_types_write::slice::MessageWriteMutSlice;
 use stun_types_write::writer::MessageWrite;
 
-/// Writes the success response to an ALLOCATE of this number to the front of `out`, as
-/// `stun_bench_build` does, by a writer into these very bytes. Answers how many bytes it has; 0 where
-/// SOFTWARE has more than 763 bytes, and where `out` has not the room: it then holds a part of it.
+/// Writes the success response to an ALLOCATE with this transaction ID to the start of `out`, like
+/// `stun_bench_build`, but the writer writes directly into `out`.
+///
+/// Returns the length of the response. Returns 0 if SOFTWARE has more than 763 bytes or if `out` is
+/// too short; `out` may then hold part of the response.
 #[unsafe(no_mangle)]
 pub extern "C" fn stun_bench_build_lent(
-    told: &Allocation,
+    reported: &Allocation,
     number: u64,
     software: &[u8],
     out: &mut [u8],
 ) -> usize
-    ensures { IsSizeOf (allocated_text told.now number software.now) result }
+    ensures { IsSizeOf (allocated_text reported.now number software.now) result }
 {
-    let Some(begun) = begin_into(number, out) else {
+    let Some(started) = begin_into(number, out) else {
         return 0;
     };
-    let mut writer = begun;
-    match add_response(&mut writer, told, number, software) {
-        Ok(()) => size_of_front(writer),
+    let mut writer = started;
+    match add_response(&mut writer, reported, number, software) {
+        Ok(()) => size_of_head(writer),
         Err(_) => 0,
     }
 }
 
-/// Writes the same response with a MESSAGE-INTEGRITY, under the key that a password makes, and a
-/// FINGERPRINT at its end. Otherwise the same; it is refused too where the password is not UTF-8.
+/// Writes the response of `stun_bench_build_lent` with a MESSAGE-INTEGRITY, under the key derived
+/// from the password, and a FINGERPRINT at its end.
+///
+/// Returns the length of the response. Returns 0 where `stun_bench_build_lent` does, and also if
+/// the password is not UTF-8.
 #[unsafe(no_mangle)]
 pub extern "C" fn stun_bench_mark_lent_sha1(
     password: &[u8],
-    told: &Allocation,
+    reported: &Allocation,
     number: u64,
     software: &[u8],
     out: &mut [u8],
 ) -> usize
-    ensures { IsSizeOf (marked_text Sha1 password.now told.now number software.now) result }
+    ensures { IsSizeOf (marked_text Sha1 password.now reported.now number software.now) result }
 {
     let Some(text) = text_of_password(password) else {
         return 0;
     };
     let key = IntegrityKey::short_term(text, IntegrityAlgorithm::Sha1);
-    let Some(begun) = begin_into(number, out) else {
+    let Some(started) = begin_into(number, out) else {
         return 0;
     };
-    let mut writer = begun;
-    if add_response(&mut writer, told, number, software).is_err() {
+    let mut writer = started;
+    if add_response(&mut writer, reported, number, software).is_err() {
         return 0;
     }
     match mark_response(&mut writer, &key) {
-        Ok(()) => size_of_front(writer),
+        Ok(()) => size_of_head(writer),
         Err(_) => 0,
     }
 }
 
-/// The response of this number, begun in these bytes, where a header has room.
+/// Starts the response with this transaction ID in `out`. Returns `None` if `out` has no room for a
+/// header.
 pub(crate) fn begin_into(number: u64, out: &mut [u8]) -> Option<MessageWriteMutSlice<'_>>
-    ensures { IfSome result (λ begun. BeginsResponse number (lent_draft begun).bytes) }
+    ensures { IfSome result (λ started. BeginsResponse number (lent_draft started).bytes) }
 {
     if out.len() < MessageHeader::LENGTH {
         return None;
@@ -79,10 +85,10 @@ pub(crate) fn begin_into(number: u64, out: &mut [u8]) -> Option<MessageWriteMutS
     Message::builder(response_type(), number, writer).ok()
 }
 
-/// How many bytes are written.
-pub(crate) fn size_of_front(writer: MessageWriteMutSlice<'_>) -> usize
+/// Returns how many bytes the writer wrote.
+pub(crate) fn size_of_head(writer: MessageWriteMutSlice<'_>) -> usize
     ensures { result ≡ length (lent_draft writer.entry).bytes }
 {
-    let (front, _) = writer.finish();
-    front.len()
+    let (head, _) = writer.finish();
+    head.len()
 }

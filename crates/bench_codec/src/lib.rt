@@ -1,6 +1,8 @@
-//! What C calls to time the library: digests, and the reading, validation, building and signing of a
-//! message, channel frames and streams. Most functions call the library's and state again what that
-//! states. A client and an agent are in `bench_client`.
+//! The functions that a C program calls to time the library: digests; reading, validating, building
+//! and signing messages; channel frames and streams.
+//!
+//! Most functions call the library's function and repeat its contract. The functions for a client
+//! and an agent are in `bench_client`.
 #![tactic(auto)]
 
 pub mod adds;
@@ -8,11 +10,11 @@ pub mod allocation;
 pub mod build;
 pub mod check;
 pub mod digest;
-pub mod kept;
 mod key;
 pub mod lent;
 pub mod read;
 pub mod request;
 mod response;
+pub mod stored;
 pub mod stream;
 pub mod validate;

@@ -1,12 +1,12 @@
-//! The reading of a message. None of this takes memory.
+//! Reads a message. No function here allocates.
 
 ghost use Rattle.std.specs.Prelude.{◌≡◌, ◌≢◌, ◌↔◌, ℕ, IsTrue, MatchOption, true, false};
 ghost use Rattle.std.specs.List.{list_all};
 ghost use Rattle.std.specs.declared.net.socket_addr.SocketAddr.TheVariants.{V4};
 ghost use Rattle.std.specs.declared.net.socket_addr.SocketAddrV4.{SocketAddrV4 as AddrV4};
 ghost use Rattle.stun_types_wire.specs.Grammar.{IsMessage};
-ghost use Rattle.bench_codec.specs.declared.allocation.Allocation.{Allocation as Told};
-ghost use Rattle.bench_codec.specs.Allocated.{Tells, TellsAddress, TellsLifetime, shows_kind};
+ghost use Rattle.bench_codec.specs.declared.allocation.Allocation.{Allocation as Reported};
+ghost use Rattle.bench_codec.specs.Allocated.{Reports, ReportsAddress, ReportsLifetime, shows_kind};
 ghost use Rattle.stun_types_wire.specs.Registry.{fingerprint_kind, xor_mapped_address_kind};
 ghost use Rattle.turn_types_attributes.specs.TurnRegistry.{xor_relayed_address_kind};
 
@@ -22,7 +22,7 @@ use stun_types_write::attribute::AttributeStaticType;
 use turn_types_attributes::lifetime::Lifetime;
 use turn_types_attributes::xor_relayed_address::XorRelayedAddress;
 
-/// Whether bytes are a message.
+/// Returns whether bytes are a message.
 #[unsafe(no_mangle)]
 pub extern "C" fn stun_bench_parse(bytes: &[u8]) -> bool
     ensures { IsTrue result ↔ IsMessage bytes.now }
@@ -30,7 +30,7 @@ pub extern "C" fn stun_bench_parse(bytes: &[u8]) -> bool
     Message::from_bytes(bytes).is_ok()
 }
 
-/// Whether bytes are a message that shows an attribute of each of these types.
+/// Returns whether bytes are a message with a visible attribute of each of these types.
 #[unsafe(no_mangle)]
 pub extern "C" fn stun_bench_shows(bytes: &[u8], atypes: &[u16]) -> bool
     ensures { IsTrue result ↔ (IsMessage bytes.now
@@ -42,22 +42,26 @@ pub extern "C" fn stun_bench_shows(bytes: &[u8], atypes: &[u16]) -> bool
     shows_each(&message, atypes)
 }
 
-/// Reads what the success response to an ALLOCATE tells, by a look-up of each attribute that it may
-/// show, and whether it shows a FINGERPRINT. False, with nothing written, where the bytes are no
-/// message, where a XOR-RELAYED-ADDRESS and a XOR-MAPPED-ADDRESS of IPv4 and a LIFETIME are not shown or
-/// are malformed, and where SOFTWARE or MESSAGE-INTEGRITY is not shown.
+/// Reads the success response to an ALLOCATE with one look-up per attribute, and reports whether it
+/// has a FINGERPRINT.
+///
+/// Returns false and writes nothing if:
+///
+/// - the bytes are not a message;
+/// - an IPv4 XOR-RELAYED-ADDRESS, an IPv4 XOR-MAPPED-ADDRESS or a LIFETIME is missing or malformed;
+/// - SOFTWARE or MESSAGE-INTEGRITY is missing.
 #[unsafe(no_mangle)]
 pub extern "C" fn stun_bench_read(
     bytes: &[u8],
-    told: &mut Allocation,
+    reported: &mut Allocation,
     has_fingerprint: &mut bool,
 ) -> bool
-    ensures read { result ≡ true → IsMessage bytes.now × Tells bytes.now told.new }
+    ensures read { result ≡ true → IsMessage bytes.now × Reports bytes.now reported.new }
     ensures fingerprint { result ≡ true → has_fingerprint.new
         ≡ shows_kind fingerprint_kind bytes.now }
-    ensures refused { result ≡ false → IsMessage bytes.now → (other : Told)
-        → ¬ Tells bytes.now other }
-    ensures unchanged { result ≡ false → (told.new ≡ told.old)
+    ensures refused { result ≡ false → IsMessage bytes.now → (other : Reported)
+        → ¬ Reports bytes.now other }
+    ensures unchanged { result ≡ false → (reported.new ≡ reported.old)
         × (has_fingerprint.new ≡ has_fingerprint.old) }
 {
     let Ok(message) = Message::from_bytes(bytes) else {
@@ -66,12 +70,12 @@ pub extern "C" fn stun_bench_read(
     let Some(read) = allocation_of(&message) else {
         return false;
     };
-    *told = read;
+    *reported = read;
     *has_fingerprint = message.has_attribute(FINGERPRINT);
     true
 }
 
-/// Whether a message shows an attribute of each of these types.
+/// Returns whether a message has a visible attribute of each of these types.
 fn shows_each(message: &Message, atypes: &[u16]) -> bool
     ensures { result ≡ list_all (λ kind. shows_kind kind message.now) atypes.now }
 {
@@ -80,9 +84,10 @@ fn shows_each(message: &Message, atypes: &[u16]) -> bool
         .all(|atype| message.has_attribute(AttributeType(*atype)))
 }
 
-/// What a message tells of an allocation.
+/// Returns the allocation that a message describes.
 fn allocation_of(message: &Message) -> Option<Allocation>
-    ensures { MatchOption result ((told : Told) → ¬ Tells message.now told) (Tells message.now) }
+    ensures { MatchOption result ((reported : Reported) → ¬ Reports message.now reported) (Reports
+        message.now) }
 {
     let relayed = relayed_of(message)?;
     let mapped = mapped_of(message)?;
@@ -99,11 +104,11 @@ fn allocation_of(message: &Message) -> Option<Allocation>
     })
 }
 
-/// The relayed address, where it is one of IPv4.
+/// Returns the relayed address if it is an IPv4 address.
 fn relayed_of(message: &Message) -> Option<SocketAddrV4>
     ensures { MatchOption result ((addr : AddrV4)
-        → ¬ TellsAddress xor_relayed_address_kind message.now addr)
-        (TellsAddress xor_relayed_address_kind message.now) }
+        → ¬ ReportsAddress xor_relayed_address_kind message.now addr)
+        (ReportsAddress xor_relayed_address_kind message.now) }
 {
     let raw = message.raw_attribute(XorRelayedAddress::TYPE)?;
     match XorRelayedAddress::try_from(&raw) {
@@ -112,11 +117,11 @@ fn relayed_of(message: &Message) -> Option<SocketAddrV4>
     }
 }
 
-/// The address from which the request came, where it is one of IPv4.
+/// Returns the address from which the request came, if it is an IPv4 address.
 fn mapped_of(message: &Message) -> Option<SocketAddrV4>
     ensures { MatchOption result ((addr : AddrV4)
-        → ¬ TellsAddress xor_mapped_address_kind message.now addr)
-        (TellsAddress xor_mapped_address_kind message.now) }
+        → ¬ ReportsAddress xor_mapped_address_kind message.now addr)
+        (ReportsAddress xor_mapped_address_kind message.now) }
 {
     let raw = message.raw_attribute(XorMappedAddress::TYPE)?;
     match XorMappedAddress::try_from(&raw) {
@@ -125,10 +130,10 @@ fn mapped_of(message: &Message) -> Option<SocketAddrV4>
     }
 }
 
-/// For how many seconds the allocation stands.
+/// Returns the lifetime of the allocation in seconds.
 fn lifetime_of(message: &Message) -> Option<u32>
-    ensures { MatchOption result ((seconds : ℕ) → ¬ TellsLifetime message.now seconds)
-        (TellsLifetime message.now) }
+    ensures { MatchOption result ((seconds : ℕ) → ¬ ReportsLifetime message.now seconds)
+        (ReportsLifetime message.now) }
 {
     let raw = message.raw_attribute(Lifetime::TYPE)?;
     match Lifetime::try_from(&raw) {
@@ -137,7 +142,7 @@ fn lifetime_of(message: &Message) -> Option<u32>
     }
 }
 
-/// An address, where it is one of IPv4.
+/// Returns the address if it is an IPv4 address.
 fn v4_of(addr: SocketAddr) -> Option<SocketAddrV4>
     ensures { MatchOption result ((v4 : AddrV4) → addr ≢ V4 v4) (λ v4. addr ≡ V4 v4) }
 {

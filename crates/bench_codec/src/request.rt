@@ -1,11 +1,11 @@
-//! The building and the signing of an ALLOCATE request.
+//! Builds and signs an ALLOCATE request.
 
 ghost use Rattle.std.specs.Prelude.{◌≡◌, [], ℕ, OnOk};
 ghost use Rattle.stun_types_wire.specs.declared.algorithm.IntegrityAlgorithm.TheVariants.{Sha1};
 ghost use Rattle.stun_types_wire.specs.Text.{message_text};
-ghost use Rattle.stun_types_write.specs.Adding.{IsBegun};
+ghost use Rattle.stun_types_write.specs.Adding.{IsStarted};
 ghost use Rattle.bench_codec.specs.Allocated.{WritesOut};
-ghost use Rattle.bench_codec.specs.Asked.{asked_text, asked_type, signed_asked_text};
+ghost use Rattle.bench_codec.specs.Requested.{requested_text, requested_type, signed_requested_text};
 
 use crate::build::{begin, copy_out};
 use crate::key::text_of_password;
@@ -23,9 +23,11 @@ use turn_types_attributes::lifetime::Lifetime;
 use turn_types_attributes::registry::ALLOCATE;
 use turn_types_attributes::requested_transport::RequestedTransport;
 
-/// Writes the ALLOCATE request of this number to the front of `out`: REQUESTED-TRANSPORT of UDP,
-/// LIFETIME, USERNAME, REALM and NONCE. Answers how many bytes it has; 0, with nothing written, where a
-/// text has more than 763 bytes, where `out` has not the room, and where memory is refused.
+/// Writes the ALLOCATE request with this transaction ID to the start of `out`: REQUESTED-TRANSPORT
+/// for UDP, LIFETIME, USERNAME, REALM and NONCE.
+///
+/// Returns the length of the request. Returns 0 and writes nothing if a text has more than 763
+/// bytes, if `out` is too short or if an allocation fails.
 #[unsafe(no_mangle)]
 pub extern "C" fn stun_bench_build_request(
     alloc: Global,
@@ -37,7 +39,7 @@ pub extern "C" fn stun_bench_build_request(
     out: &mut [u8],
 ) -> usize
     ensures { WritesOut
-        (asked_text lifetime number user.now realm.now nonce.now) out.old out.new result }
+        (requested_text lifetime number user.now realm.now nonce.now) out.old out.new result }
 {
     match begin(alloc, request_type(), number) {
         Ok(mut writer) => {
@@ -49,8 +51,11 @@ pub extern "C" fn stun_bench_build_request(
     }
 }
 
-/// Writes the same request with a MESSAGE-INTEGRITY at its end, under the key that a password makes.
-/// Otherwise the same; it is refused too where the password is not UTF-8.
+/// Writes the request of `stun_bench_build_request` with a MESSAGE-INTEGRITY at its end, under the
+/// key derived from the password.
+///
+/// Returns the length of the request. Returns 0 and writes nothing where `stun_bench_build_request`
+/// does, and also if the password is not UTF-8.
 #[unsafe(no_mangle)]
 pub extern "C" fn stun_bench_sign_request_sha1(
     alloc: Global,
@@ -63,7 +68,7 @@ pub extern "C" fn stun_bench_sign_request_sha1(
     out: &mut [u8],
 ) -> usize
     ensures { WritesOut
-        (signed_asked_text Sha1 password.now lifetime number user.now realm.now nonce.now)
+        (signed_requested_text Sha1 password.now lifetime number user.now realm.now nonce.now)
         out.old out.new result }
 {
     let Some(text) = text_of_password(password) else {
@@ -80,8 +85,10 @@ pub extern "C" fn stun_bench_sign_request_sha1(
     }
 }
 
-/// Adds what the request shows to one that was begun, and writes it to the front of `out`. Answers how
-/// many bytes it has; 0, with nothing written, where an add is refused, and where `out` has not the room.
+/// Adds the request's attributes to a started request and writes it to the start of `out`.
+///
+/// Returns the length of the request. Returns 0 and writes nothing if an add fails or if `out` is
+/// too short.
 fn ask(
     writer: &mut MessageWriteVec,
     lifetime: u32,
@@ -90,9 +97,9 @@ fn ask(
     nonce: &[u8],
     out: &mut [u8],
 ) -> usize
-    requires begun { IsBegun writer.old.bytes }
-    ensures { (number : ℕ) → writer.old.bytes ≡ message_text asked_type number []
-        → WritesOut (asked_text lifetime number user.now realm.now nonce.now)
+    requires started { IsStarted writer.old.bytes }
+    ensures { (number : ℕ) → writer.old.bytes ≡ message_text requested_type number []
+        → WritesOut (requested_text lifetime number user.now realm.now nonce.now)
         out.old out.new result }
 {
     match add_request(writer, lifetime, user, realm, nonce) {
@@ -101,7 +108,11 @@ fn ask(
     }
 }
 
-/// The same of the request that is signed under a key.
+/// Adds the request's attributes to a started request, signs it under a key and writes it to the
+/// start of `out`.
+///
+/// Returns the length of the request. Returns 0 and writes nothing if an add fails or if `out` is
+/// too short.
 fn sign(
     writer: &mut MessageWriteVec,
     key: &IntegrityKey<'_>,
@@ -111,9 +122,9 @@ fn sign(
     nonce: &[u8],
     out: &mut [u8],
 ) -> usize
-    requires begun { IsBegun writer.old.bytes }
-    ensures { (number : ℕ) → writer.old.bytes ≡ message_text asked_type number []
-        → WritesOut (signed_asked_text key.now.algorithm key.now.bytes lifetime number
+    requires started { IsStarted writer.old.bytes }
+    ensures { (number : ℕ) → writer.old.bytes ≡ message_text requested_type number []
+        → WritesOut (signed_requested_text key.now.algorithm key.now.bytes lifetime number
         user.now realm.now nonce.now) out.old out.new result }
 {
     if add_request(writer, lifetime, user, realm, nonce).is_err() {
@@ -125,16 +136,17 @@ fn sign(
     }
 }
 
-/// The type of the request.
+/// Returns the message type of the request.
 pub(crate) fn request_type() -> MessageType
-    ensures { result ≡ asked_type }
+    ensures { result ≡ requested_type }
 {
     MessageType::from_class_method(MessageClass::Request, ALLOCATE)
 }
 
-/// Adds what the request shows to one that was begun: REQUESTED-TRANSPORT of UDP, LIFETIME, USERNAME,
-/// REALM and NONCE. Refused with `TooLarge` where a text has more than 763 bytes, and as an add is.
-// Part of its callers, as adds are in one who writes them there.
+/// Adds the request's attributes to a started request: REQUESTED-TRANSPORT for UDP, LIFETIME,
+/// USERNAME, REALM and NONCE. Fails with `TooLarge` if a text has more than 763 bytes, and as an
+/// add fails.
+// Inlined into its callers, as in code that writes the adds in place.
 #[inline(always)]
 pub(crate) fn add_request<W: MessageWrite>(
     writer: &mut W,
@@ -143,12 +155,12 @@ pub(crate) fn add_request<W: MessageWrite>(
     realm: &[u8],
     nonce: &[u8],
 ) -> Result<(), StunWriteError>
-    requires begun { IsBegun (W.draft writer.old).bytes }
+    requires started { IsStarted (W.draft writer.old).bytes }
     ensures text { OnOk result ((number : ℕ)
-        → (W.draft writer.old).bytes ≡ message_text asked_type number []
+        → (W.draft writer.old).bytes ≡ message_text requested_type number []
         → (W.draft writer.new).bytes
-        ≡ asked_text lifetime number user.now realm.now nonce.now) }
-    ensures begun { OnOk result (IsBegun (W.draft writer.new).bytes) }
+        ≡ requested_text lifetime number user.now realm.now nonce.now) }
+    ensures started { OnOk result (IsStarted (W.draft writer.new).bytes) }
 {
     let transport = RequestedTransport::new(RequestedTransport::UDP);
     let lifetime = Lifetime::new(lifetime);

@@ -1,4 +1,4 @@
-//! Channel frames, and streams of them.
+//! Channel frames and streams of them.
 
 ghost use Rattle.std.specs.Prelude.{◌≡◌, ◌↔◌, ◌≢◌, IsTrue, None};
 ghost use Rattle.bench_codec.specs.Allocated.{WritesOut};
@@ -14,10 +14,10 @@ use turn_types_frame::channel::ChannelData;
 use turn_types_frame::delayed_channel::DelayedChannel;
 use turn_types_frame::tcp::{IncomingTcp, TurnTcpBuffer};
 
-/// How many bytes of data a frame has at most.
+/// The maximum number of data bytes in a frame.
 const MOST_DATA: usize = 0xFFFF;
 
-/// Whether a channel frame stands at the front of some bytes.
+/// Returns whether bytes start with a channel frame.
 #[unsafe(no_mangle)]
 pub extern "C" fn stun_bench_parse_channel(bytes: &[u8]) -> bool
     ensures { IsTrue result ↔ (channel_refusal bytes.now ≡ None) }
@@ -25,9 +25,10 @@ pub extern "C" fn stun_bench_parse_channel(bytes: &[u8]) -> bool
     ChannelData::parse(bytes).is_ok()
 }
 
-/// Writes the frame of a channel's number and data to the front of `out`. Answers how many bytes it has; 0,
-/// with nothing written, where the number is that of no channel, where there are more than 65,535 bytes of
-/// data, and where `out` has not the room.
+/// Writes the frame with this channel number and data to the start of `out`.
+///
+/// Returns the length of the frame. Returns 0 and writes nothing if the number is not a channel
+/// number, if the data has more than 65,535 bytes or if `out` is too short.
 #[unsafe(no_mangle)]
 pub extern "C" fn stun_bench_write_channel(id: u16, payload: &[u8], out: &mut [u8]) -> usize
     ensures { WritesOut (frame_text (record { id = id; payload = payload.now }))
@@ -41,12 +42,13 @@ pub extern "C" fn stun_bench_write_channel(id: u16, payload: &[u8], out: &mut [u
     if out.len() < len {
         return 0;
     }
-    let (front, _) = out.split_at_mut(len);
-    delayed.write_into(front)
+    let (head, _) = out.split_at_mut(len);
+    delayed.write_into(head)
 }
 
-/// Feeds a new buffer a stream in pieces of so many bytes, and takes all frames that it gives behind each
-/// piece. Answers how many there were. What is answered is compared with the frames by `bench.c`.
+/// Feeds a stream to a new buffer in chunks of `size` bytes, and takes all available frames after
+/// each chunk. Returns the number of frames, which `bench.c` compares with the number that the
+/// stream holds.
 #[unsafe(no_mangle)]
 pub extern "C" fn stun_bench_feed(alloc: Global, bytes: &[u8], size: usize) -> usize {
     let mut buffer = TurnTcpBuffer::new(alloc);
@@ -55,28 +57,28 @@ pub extern "C" fn stun_bench_feed(alloc: Global, bytes: &[u8], size: usize) -> u
     frames
 }
 
-/// Feeds a buffer a stream in pieces of so many bytes. Answers how many frames it gave.
+/// Feeds a stream to a buffer in chunks of `size` bytes. Returns the number of frames that it gave.
 fn feed(buffer: &mut TurnTcpBuffer, bytes: &[u8], size: usize) -> usize {
     let mut frames = 0usize;
-    for piece in bytes.chunks(size.max(1)) {
+    for chunk in bytes.chunks(size.max(1)) {
         frames = frames
-            .saturating_add(feed_piece(buffer, piece))
+            .saturating_add(feed_chunk(buffer, chunk))
             .saturating_add(take_waiting(buffer, bytes.len()));
     }
     frames
 }
 
-/// Feeds a buffer a piece. Answers how many frames that gave: one, or none.
-fn feed_piece(buffer: &mut TurnTcpBuffer, piece: &[u8]) -> usize {
+/// Feeds a chunk to a buffer. Returns the number of frames that this call gave: one or none.
+fn feed_chunk(buffer: &mut TurnTcpBuffer, chunk: &[u8]) -> usize {
     let server = SocketAddr::V4(SocketAddrV4::new(Ipv4Addr::new(10, 0, 0, 2), 3478));
-    let transmit = Transmit::new(piece, TransportType::Tcp, server, server);
+    let transmit = Transmit::new(chunk, TransportType::Tcp, server, server);
     match buffer.incoming_tcp(transmit) {
         None | Some(IncomingTcp::NoMemory(_)) => 0,
         Some(_) => 1,
     }
 }
 
-/// Takes the frames that wait in a buffer, so many at most. Answers how many there were.
+/// Takes at most `most` frames that are ready in a buffer. Returns their number.
 fn take_waiting(buffer: &mut TurnTcpBuffer, most: usize) -> usize {
     let mut frames = 0usize;
     for _ in 0..most {

@@ -1,4 +1,4 @@
-//! Validation under a password.
+//! Validates a message under a password.
 
 ghost use Rattle.std.specs.Prelude.{◌≡◌, ◌↔◌, ℕ, List, IsTrue, MatchOption, false};
 ghost use Rattle.std.specs.Str.{IsUtf8};
@@ -10,18 +10,19 @@ use stun_types_integrity::key::IntegrityKey;
 use stun_types_message::parsed::Message;
 use stun_types_wire::algorithm::IntegrityAlgorithm;
 
-/// What C is told of a question that may have no answer.
+/// The answer to a question, as C receives it; the answer may be unknown.
 #[repr(C)]
 #[derive(Clone, Copy, Debug)]
 pub struct Answer {
     /// Whether the answer is known.
     pub known: bool,
-    /// The answer; false where it is not known.
+    /// The answer; false if it is unknown.
     pub holds: bool,
 }
 
-/// Whether bytes are a message that shows a MESSAGE-INTEGRITY with the right HMAC under a password
-/// (RFC 8489, sections 9.1.1 and 14.5). It is not known where the password is not UTF-8, and else it is.
+/// Returns whether bytes are a message with a visible MESSAGE-INTEGRITY whose HMAC is right under
+/// this password (RFC 8489, sections 9.1.1 and 14.5). The answer is unknown only if the password is
+/// not UTF-8.
 #[unsafe(no_mangle)]
 pub extern "C" fn stun_bench_validate_sha1(password: &[u8], bytes: &[u8]) -> Answer
     ensures known { IsTrue result.known → (IsTrue result.holds
@@ -29,10 +30,11 @@ pub extern "C" fn stun_bench_validate_sha1(password: &[u8], bytes: &[u8]) -> Ans
     ensures unknown { result.known ≡ false → (¬ IsUtf8 password.now)
         × (result.holds ≡ false) }
 {
-    told(validates(password, bytes, IntegrityAlgorithm::Sha1))
+    reported(validates(password, bytes, IntegrityAlgorithm::Sha1))
 }
 
-/// The same of a MESSAGE-INTEGRITY-SHA256 (RFC 8489, section 14.6).
+/// Does what `stun_bench_validate_sha1` does, for a MESSAGE-INTEGRITY-SHA256 (RFC 8489, section
+/// 14.6).
 #[unsafe(no_mangle)]
 pub extern "C" fn stun_bench_validate_sha256(password: &[u8], bytes: &[u8]) -> Answer
     ensures known { IsTrue result.known → (IsTrue result.holds
@@ -40,10 +42,10 @@ pub extern "C" fn stun_bench_validate_sha256(password: &[u8], bytes: &[u8]) -> A
     ensures unknown { result.known ≡ false → (¬ IsUtf8 password.now)
         × (result.holds ≡ false) }
 {
-    told(validates(password, bytes, IntegrityAlgorithm::Sha256))
+    reported(validates(password, bytes, IntegrityAlgorithm::Sha256))
 }
 
-/// The same of a MESSAGE-INTEGRITY-SHA512.
+/// Does what `stun_bench_validate_sha1` does, for a MESSAGE-INTEGRITY-SHA512.
 #[unsafe(no_mangle)]
 pub extern "C" fn stun_bench_validate_sha512(password: &[u8], bytes: &[u8]) -> Answer
     ensures known { IsTrue result.known → (IsTrue result.holds
@@ -51,11 +53,11 @@ pub extern "C" fn stun_bench_validate_sha512(password: &[u8], bytes: &[u8]) -> A
     ensures unknown { result.known ≡ false → (¬ IsUtf8 password.now)
         × (result.holds ≡ false) }
 {
-    told(validates(password, bytes, IntegrityAlgorithm::Sha512))
+    reported(validates(password, bytes, IntegrityAlgorithm::Sha512))
 }
 
-/// Whether bytes are a message that shows the integrity attribute of an algorithm with the right
-/// HMAC under a password. None where the password is not UTF-8.
+/// Returns whether bytes are a message with the visible integrity attribute of an algorithm whose
+/// HMAC is right under a password. Returns `None` if the password is not UTF-8.
 fn validates(password: &[u8], bytes: &[u8], algorithm: IntegrityAlgorithm) -> Option<bool>
     ensures { MatchOption result (¬ IsUtf8 password.now) (λ holds. IsTrue holds
         ↔ ((text : List ℕ) × IsSigned bytes.now password.now algorithm text)) }
@@ -68,8 +70,8 @@ fn validates(password: &[u8], bytes: &[u8], algorithm: IntegrityAlgorithm) -> Op
     }
 }
 
-/// An answer as C is told it.
-fn told(holds: Option<bool>) -> Answer
+/// Returns the answer in the form that C receives.
+fn reported(holds: Option<bool>) -> Answer
     ensures { MatchOption holds ((result.known ≡ false) × (result.holds ≡ false))
         (λ answer. (IsTrue result.known) × (result.holds ≡ answer)) }
 {

@@ -5,18 +5,18 @@ use Rattle.std.specs.List.{list_any}
 use Rattle.std.specs.Char.{is_ascii_uppercase}
 use Rattle.hex.specs.Hex.{decode_of, encode_lower}
 
--- the bytes of which the text is lower case hex
+-- The bytes that a text encodes in lower case hex, if it does.
 unfoldable pub hex_bytes : List ℕ → Option (List ℕ)
 hex_bytes text = if list_any is_ascii_uppercase text then None else result_ok (decode_of text)
 
--- the word `-`
+-- Whether a word is `-`.
 abbrev pub is_dash : List ℕ → Bool
 is_dash word = length word == 1 && slice_index word 0 == 45
 
--- the bytes that a word spells: none for `-`, else those of which it is lower case hex
+-- The bytes that a word encodes: none for `-`, otherwise those that it encodes in lower case hex.
 unfoldable pub word_bytes : List ℕ → Option (List ℕ)
 word_bytes word = if is_dash word then Some [] else hex_bytes word
 
--- the hex text of some bytes, or a dash for none
+-- The hex encoding of bytes, or `-` if there are none.
 abbrev pub hex_text : List ℕ → List ℕ
 hex_text bytes = if length bytes == 0 then codes "-" else encode_lower bytes

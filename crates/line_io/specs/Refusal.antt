@@ -1,9 +1,9 @@
--- What is printed of a line that can't be read.
+-- What is printed for a line that can't be read.
 use Rattle.std.specs.Prelude.{ℕ, List, codes}
 use Rattle.line_io.specs.declared.refusal.LineError.{LineError}
 use Rattle.line_io.specs.declared.refusal.LineError.TheVariants.{Bad, NoMemory}
 
--- the text of an error
+-- The text of an error.
 abbrev pub name_of_line_error : LineError → List ℕ
 name_of_line_error Bad = codes "bad line"
 name_of_line_error NoMemory = codes "no memory"

@@ -1,4 +1,4 @@
-//! Reading the input of a program whole.
+//! Reading the whole input of a program.
 
 ghost use Rattle.std.specs.Prelude.{◌≡◌, ◌<◌, ◌≤◌, ◌+◌, length, Ok, true, IfOk, OnOk};
 ghost use Rattle.std.specs.Io.KnownBytes.{Consumes, IsAtEnd};
@@ -7,30 +7,35 @@ ghost use Rattle.line_io.specs.Input.{ReadsOn, TakesAtMost};
 use std::alloc::Global;
 use std::io::{ErrorKind, Read};
 
-/// The most bytes of an input.
+/// The maximum length of an input in bytes.
 pub const MAX_INPUT: usize = 16_777_216;
 
-/// How many bytes are asked for at once.
+/// The number of bytes that one read requests at most.
 const CHUNK: usize = 4096;
 
-/// Why an input couldn't be read.
+/// Why an input can't be read.
 #[derive(Clone, Copy, Debug, PartialEq, Eq)]
 pub enum InputError {
-    /// Memory was refused.
+    /// An allocation failed, or the reader reports that it is out of memory.
     NoMemory,
-    /// The reader failed, or has more than [`MAX_INPUT`] bytes.
+    /// The reader failed, or gives more than [`MAX_INPUT`] bytes.
     Fault,
 }
 
-/// The bytes of an input: all that the reader gives. At most one byte more than [`MAX_INPUT`] is
-/// taken from it. A read that was interrupted is tried again.
+/// Reads all bytes of an input. A read that is interrupted is repeated. At most one byte more than
+/// [`MAX_INPUT`] is taken from the reader, also if the call fails.
+///
+/// # Errors
+///
+/// - `NoMemory`: an allocation failed, or the reader reports that it is out of memory.
+/// - `Fault`: the reader failed, or gives more than [`MAX_INPUT`] bytes.
 pub fn read_input<I: Read>(alloc: Global, input: &mut I) -> Result<Vec<u8>, InputError>
     ensures bound { IfOk result (λ bytes. length bytes.items ≤ MAX_INPUT) }
-    // The bytes are what was taken from the reader, and nothing is left there.
+    // On success, the bytes are those that were taken from the reader, and none is left there.
     ensures whole { IfOk result (λ bytes. Consumes (I.remaining input.old)
         (I.remaining input.new) bytes.items) }
     ensures end { OnOk result (IsAtEnd (I.remaining input.new)) }
-    // Whatever the answer, no more than this is taken.
+    // On success and on failure, no more bytes than this are taken.
     ensures taken { TakesAtMost (MAX_INPUT + 1) (I.remaining input.old) (I.remaining input.new) }
 {
     let mut bytes = Vec::new(alloc);
@@ -49,7 +54,7 @@ pub fn read_input<I: Read>(alloc: Global, input: &mut I) -> Result<Vec<u8>, Inpu
     Err(InputError::Fault)
 }
 
-/// How many bytes are asked for next, where so many were taken.
+/// Returns how many bytes the next read requests, after `taken` bytes were taken.
 fn room_left(taken: usize) -> usize
     requires { taken ≤ MAX_INPUT }
     ensures some { 0 < result }
@@ -59,7 +64,8 @@ fn room_left(taken: usize) -> usize
     (MAX_INPUT + 1 - taken).min(CHUNK)
 }
 
-/// Reads once into the room that is given, and appends what came. Answers whether nothing is left.
+/// Reads once into `room`, and appends the bytes that were read to `bytes`. Returns whether the
+/// input has ended.
 fn read_on<I: Read>(input: &mut I, room: &mut [u8], bytes: &mut Vec<u8>) -> Result<bool, InputError>
     requires { 0 < length room.old }
     ensures step { ReadsOn (length room.old) (I.remaining input.old)

@@ -1,6 +1,8 @@
-//! What programs share that read lines: the whole input ([`input`]), cut into lines ([`cut`]) and
-//! words ([`word`]), bytes in hex ([`lower_hex`]), and how such a program ends ([`stop`],
-//! [`status`]).
+//! What programs that read lines share:
+//!
+//! - reading the whole input ([`input`]), and cutting it into lines ([`cut`]) and words ([`word`]);
+//! - bytes in hex ([`lower_hex`]), and why a line is refused ([`refusal`]);
+//! - how such a program ends ([`stop`], [`status`]).
 #![tactic(auto)]
 
 pub mod cut;

@@ -8,7 +8,7 @@ ghost use Rattle.line_io.specs.LowerHex.{hex_bytes, hex_text, is_dash, word_byte
 use crate::refusal::LineError;
 use std::alloc::{AllocError, Global};
 
-/// Whether a word is `-`, which stands for no bytes.
+/// Returns whether a word is `-`, which stands for no bytes.
 pub fn is_no_bytes(word: &str) -> bool
     ensures { result ≡ is_dash word.now }
 {
@@ -16,8 +16,12 @@ pub fn is_no_bytes(word: &str) -> bool
     bytes.len() == 1 && bytes[0] == b'-'
 }
 
-/// The bytes that a word spells: none for `-`, else those of which it is lower case hex. Refused with
-/// `Bad` where it is neither.
+/// Decodes a word: `-` as no bytes, and lower case hex as its bytes.
+///
+/// # Errors
+///
+/// - `Bad`: the word is neither.
+/// - `NoMemory`: an allocation failed.
 #[tactic(auto, unfolding(crate::specs::LowerHex::word_bytes))]
 pub fn read_hex(alloc: Global, word: &str) -> Result<Vec<u8>, LineError>
     ensures ok { IfOk result (λ bytes. word_bytes word.now ≡ Some bytes.items) }
@@ -29,7 +33,8 @@ pub fn read_hex(alloc: Global, word: &str) -> Result<Vec<u8>, LineError>
     decode_lower(alloc, word)
 }
 
-/// The bytes of lower case hex.
+/// Decodes lower case hex. Fails with `Bad` if the text is none, and with `NoMemory` if an
+/// allocation fails.
 #[tactic(auto, unfolding(crate::specs::LowerHex::hex_bytes))]
 pub fn decode_lower(alloc: Global, text: &str) -> Result<Vec<u8>, LineError>
     ensures ok { IfOk result (λ bytes. hex_bytes text.now ≡ Some bytes.items) }
@@ -45,14 +50,14 @@ pub fn decode_lower(alloc: Global, text: &str) -> Result<Vec<u8>, LineError>
     }
 }
 
-/// Whether an upper case letter stands in a text.
+/// Returns whether a text has an upper case letter.
 fn has_uppercase(text: &str) -> bool
     ensures { result ≡ list_any is_ascii_uppercase text.now }
 {
     text.as_bytes().iter().any(|byte| byte.is_ascii_uppercase())
 }
 
-/// Bytes in lower case hex, or `-` where there are none.
+/// Encodes bytes in lower case hex, or as `-` if there are none. Fails only if an allocation fails.
 pub fn write_hex(alloc: Global, bytes: &[u8]) -> Result<String, AllocError>
     ensures { IfOk result (λ text. string_bytes text ≡ hex_text bytes.now) }
 {

@@ -9,9 +9,10 @@ use stun_types_base::memory::NoMemory;
 /// Why a line can't be read.
 #[derive(Clone, Copy, Debug, PartialEq, Eq)]
 pub enum LineError {
-    /// The line is no line of the language, or stands where it may not.
+    /// The line is not a line of the language, or is not permitted at this position.
     Bad,
-    /// Memory was refused, so that nothing is known of the line.
+    /// An allocation failed. The line may be good or bad: unlike other calls that return
+    /// `NoMemory`, those that read lines may do so before they find the line to be bad.
     NoMemory,
 }
 

@@ -1,23 +1,23 @@
-//! How a program ends that reads lines.
+//! How a program that reads lines ends.
 
 ghost use Rattle.std.specs.Prelude.{◌≡◌, ◌≤◌};
 ghost use Rattle.line_io.specs.Status.{number_of};
 
-/// How a program ends that reads lines, as the program's exit status tells it.
+/// How a program that reads lines ends, as its exit status reports.
 #[derive(Clone, Copy, Debug, PartialEq, Eq)]
 pub enum Status {
-    /// Each line was done.
+    /// Every line was processed.
     Done,
-    /// A line was bad; the lines before it were done.
+    /// A line was bad. The lines before it were processed.
     BadTrace,
-    /// Memory was refused.
+    /// An allocation failed.
     NoMemory,
-    /// The input couldn't be read whole or is too long, or an answer couldn't be written.
+    /// The input couldn't be read to its end or is too long, or output couldn't be written.
     Fault,
 }
 
 impl Status {
-    /// The exit status, 0 to 3.
+    /// Returns the exit status, 0 to 3.
     pub fn number(self) -> u8
         ensures value { result ≡ number_of self }
         ensures bound { result ≤ 3 }

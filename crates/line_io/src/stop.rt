@@ -1,4 +1,4 @@
-//! Why a program stops before its end, and what it prints then.
+//! Why a program stops early, and what it prints then.
 
 ghost use Rattle.std.specs.Prelude.{◌≡◌, ◌≢◌};
 ghost use Rattle.std.specs.Io.KnownBytes.{Appends, Keeps};
@@ -8,20 +8,20 @@ use crate::refusal::LineError;
 use crate::status::Status;
 use std::io::Write;
 
-/// Why a program stops before its end.
+/// Why a program stops early.
 #[derive(Clone, Copy, Debug, PartialEq, Eq)]
 pub enum Stop {
-    /// The line of this number is bad, lines counted from 1.
+    /// The line with this number is bad. Lines are counted from 1.
     BadLine(usize),
-    /// Memory was refused.
+    /// An allocation failed.
     NoMemory,
     /// The input couldn't be read, or is too long.
     Unread,
-    /// An answer couldn't be written.
+    /// Output couldn't be written.
     Unwritten,
 }
 
-/// Why a program stops at a line that couldn't be done, of this number.
+/// Returns why a program stops when the line with this number fails.
 pub fn stop_at(number: usize, error: LineError) -> Stop
     ensures stop { result ≡ stop_of number error }
     ensures written { result ≢ Stop.Unwritten }
@@ -32,7 +32,8 @@ pub fn stop_at(number: usize, error: LineError) -> Stop
     }
 }
 
-/// Prints why a program stopped, and answers its status. After a failed write nothing is printed.
+/// Prints why a program stopped, and returns its status, or `Fault` if printing fails. Prints
+/// nothing if the reason is that output couldn't be written.
 pub fn print_stop<O: Write>(output: &mut O, stop: Stop) -> Status
     ensures status { result ≢ Status.Fault → result ≡ status_of stop }
     ensures printed { result ≢ Status.Fault → Appends (O.contents output.old)
@@ -50,7 +51,7 @@ pub fn print_stop<O: Write>(output: &mut O, stop: Stop) -> Status
     }
 }
 
-/// The status of a program that stopped.
+/// Returns the status of a program that stopped.
 fn stop_status(stop: Stop) -> Status
     ensures { result ≡ status_of stop }
 {
@@ -61,10 +62,10 @@ fn stop_status(stop: Stop) -> Status
     }
 }
 
-/// Sees to it that nothing printed is held back, and answers the status then.
+/// Flushes the output. Returns `status`, or `Fault` if flushing fails.
 pub fn flush<O: Write>(output: &mut O, status: Status) -> Status
     ensures same { result ≢ Status.Fault → result ≡ status }
-    ensures kept { Keeps (O.contents output.old) (O.contents output.new) }
+    ensures stored { Keeps (O.contents output.old) (O.contents output.new) }
 {
     match output.flush() {
         Ok(()) => status,

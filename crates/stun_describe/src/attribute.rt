@@ -1,4 +1,4 @@
-//! One attribute: its type, its name, and its value in words.
+//! One attribute as text: its type, its name and its value.
 
 use crate::refusal::Refusal;
 use crate::turn::push_turn;
@@ -31,19 +31,19 @@ use stun_types_wire::transaction::TransactionId;
 use stun_types_write::attribute::{AttributeFromRaw, AttributeStaticType};
 use stun_types_write::reading::text_of;
 
-/// Appends the line of an attribute that a message of this number shows: its type, its name, and its
-/// value in words; or why it is no value of that type, and its bytes.
+/// Appends the line of an attribute of a message with this transaction ID: its type, its name and
+/// its value. For an invalid value the line has the reason and the bytes instead.
 pub fn push_attribute(
     alloc: Global,
     text: &mut String,
     raw: &RawAttribute<'_>,
-    number: TransactionId,
+    transaction_id: TransactionId,
     names: &Names,
 ) -> Result<(), NoMemory> {
     let atype = raw.get_type();
     let (value, name) = (atype.value(), atype.name(names));
     write!(text, "attribute 0x{value:04x} {name} ")?;
-    if !push_value(alloc, text, raw, number)? {
+    if !push_value(alloc, text, raw, transaction_id)? {
         text.push_str(" of ")?;
         push_hex(alloc, text, raw.value())?;
     }
@@ -51,15 +51,15 @@ pub fn push_attribute(
     Ok(())
 }
 
-/// Appends the value of an attribute in words, in a message of this number; or `refused`, and why it is no
-/// value of that type. Answers whether it is one.
+/// Appends the value of an attribute as text, in a message with this transaction ID; for an invalid
+/// value `refused` and the reason. Returns whether the value is valid.
 pub(crate) fn push_value(
     alloc: Global,
     text: &mut String,
     raw: &RawAttribute<'_>,
-    number: TransactionId,
+    transaction_id: TransactionId,
 ) -> Result<bool, NoMemory> {
-    match push_read(alloc, text, raw, number) {
+    match push_read(alloc, text, raw, transaction_id) {
         Ok(()) => Ok(true),
         Err(StunParseError::NoMemory) => Err(NoMemory),
         Err(error) => {
@@ -70,20 +70,23 @@ pub(crate) fn push_value(
     }
 }
 
-/// Appends the value of an attribute in words, in a message of this number. Refused as the type's own
-/// `from_raw` refuses it; nothing is appended then. The value of a type that this repository does not read
-/// is its bytes.
+/// Appends the value of an attribute as text, in a message with this transaction ID. The text is
+/// hex for a type that this repository does not decode.
+///
+/// # Errors
+///
+/// - The errors of the type's own `from_raw`. Nothing is appended then.
 fn push_read(
     alloc: Global,
     text: &mut String,
     raw: &RawAttribute<'_>,
-    number: TransactionId,
+    transaction_id: TransactionId,
 ) -> Result<(), StunParseError> {
     let is_read = push_text(text, raw)?
-        || push_address(text, raw, number)?
+        || push_address(text, raw, transaction_id)?
         || push_numbers(alloc, text, raw)?
         || push_digest(alloc, text, raw)?
-        || push_turn(alloc, text, raw, number)?;
+        || push_turn(alloc, text, raw, transaction_id)?;
     if !is_read {
         push_hex(alloc, text, raw.value())?;
     }
@@ -96,7 +99,8 @@ pub(crate) fn push_hex(alloc: Global, text: &mut String, bytes: &[u8]) -> Result
     text.push_str(hex.as_str())
 }
 
-/// Appends the text of an attribute that holds one, in quotation marks. Answers whether it holds one.
+/// Appends the text of an attribute that contains one, in quotation marks. Returns whether the
+/// attribute contains one.
 fn push_text(text: &mut String, raw: &RawAttribute<'_>) -> Result<bool, StunParseError> {
     let atype = raw.get_type();
     let Some(longest) = longest_text(atype) else {
@@ -107,7 +111,8 @@ fn push_text(text: &mut String, raw: &RawAttribute<'_>) -> Result<bool, StunPars
     Ok(true)
 }
 
-/// How many bytes the text of an attribute of this type has at most. None of a type that holds no text.
+/// Returns the maximum length in bytes of the text of an attribute, or `None` if its type contains
+/// no text.
 fn longest_text(atype: AttributeType) -> Option<usize> {
     match atype {
         Username::TYPE => Some(Username::MAX_LEN),
@@ -119,14 +124,18 @@ fn longest_text(atype: AttributeType) -> Option<usize> {
     }
 }
 
-/// Appends the address of an attribute of STUN that holds one. Answers whether it holds one.
+/// Appends the address of a STUN attribute that contains one. Returns whether the attribute
+/// contains one.
 fn push_address(
     text: &mut String,
     raw: &RawAttribute<'_>,
-    number: TransactionId,
+    transaction_id: TransactionId,
 ) -> Result<bool, StunParseError> {
     match raw.get_type() {
-        XorMappedAddress::TYPE => push_addr(text, XorMappedAddress::try_from(raw)?.addr(number))?,
+        XorMappedAddress::TYPE => push_addr(
+            text,
+            XorMappedAddress::try_from(raw)?.addr(transaction_id),
+        )?,
         AlternateServer::TYPE => push_addr(text, AlternateServer::try_from(raw)?.server())?,
         _ => return Ok(false),
     }
@@ -138,8 +147,8 @@ pub(crate) fn push_addr(text: &mut String, addr: SocketAddr) -> Result<(), Alloc
     write!(text, "{addr}")
 }
 
-/// Appends the numbers of an attribute that tells some: the names of algorithms, the code of an error and
-/// its reason, the types that were not known. Answers whether it tells some.
+/// Appends the numbers of an attribute that contains some: the names of algorithms, an error code
+/// and its reason, or unknown attribute types. Returns whether the attribute contains some.
 fn push_numbers(
     alloc: Global,
     text: &mut String,
@@ -192,7 +201,7 @@ pub(crate) fn push_error(
     Ok(())
 }
 
-/// Appends the types that the value of an UNKNOWN-ATTRIBUTES lists, or `-` where it lists none.
+/// Appends the types that the value of an UNKNOWN-ATTRIBUTES lists, or `-` if it lists none.
 fn push_types(text: &mut String, value: &[u8]) -> Result<(), AllocError> {
     if value.is_empty() {
         return text.push_str("-");
@@ -209,7 +218,8 @@ fn push_types(text: &mut String, value: &[u8]) -> Result<(), AllocError> {
     Ok(())
 }
 
-/// Appends the bytes of an attribute that holds a digest. Answers whether it holds one.
+/// Appends the bytes of an attribute that contains a digest. Returns whether the attribute contains
+/// one.
 fn push_digest(
     alloc: Global,
     text: &mut String,

@@ -1,4 +1,4 @@
-//! What a message is, in words: the names of its parts, the values of its attributes, and refusals.
+//! Messages as text: the names of their parts, the values of their attributes, and errors.
 //! `docs/INSPECT.md` says how values are written.
 #![tactic(auto)]
 

@@ -1,4 +1,4 @@
-//! What bytes are, in a few short lines.
+//! A description of bytes in a few short lines.
 
 use crate::attribute::{push_hex, push_value};
 use crate::names::class_name;
@@ -24,11 +24,15 @@ use turn_types_peer::connection_id::ConnectionId;
 use turn_types_peer::data::Data;
 use turn_types_peer::xor_peer_address::XorPeerAddress;
 
-/// Which characters of a transaction ID are shown: its first six hex digits, behind `0x`.
-const SHOWN_OF_NUMBER: (usize, usize) = (2, 8);
+/// The range of characters of a transaction ID that is printed: its first six hex digits, after
+/// `0x`.
+const LISTED_OF_ID: (usize, usize) = (2, 8);
 
-/// Appends what bytes are, in lines with a line feed between each two: a message, its name and what is of
-/// interest in it; a channel frame; or so many bytes.
+/// Appends a description of bytes, in lines that are separated by line feeds:
+///
+/// - a message: its name and its main attributes;
+/// - a channel frame: its channel number and its data;
+/// - other bytes: their number, and the bytes.
 pub fn push_lines(
     alloc: Global,
     text: &mut String,
@@ -50,8 +54,11 @@ pub fn push_lines(
     Ok(())
 }
 
-/// Appends what a message is: method, class, the first digits of its transaction ID; then each attribute of
-/// interest, its name and its value in words; and by what it is signed.
+/// Appends the description of a message:
+///
+/// - its method, its class and the first digits of its transaction ID;
+/// - each main attribute, with its name and its value;
+/// - the algorithms that it is signed with.
 fn push_message(
     alloc: Global,
     text: &mut String,
@@ -72,14 +79,17 @@ fn push_message(
 }
 
 /// Appends the first digits of a transaction ID.
-fn push_digits(alloc: Global, text: &mut String, number: TransactionId) -> Result<(), AllocError> {
-    let (from, to) = SHOWN_OF_NUMBER;
-    let number = format!(in alloc; "{number}")?;
-    text.push_str(number.as_str().get(from..to).unwrap_or(""))
+fn push_digits(
+    alloc: Global,
+    text: &mut String,
+    transaction_id: TransactionId,
+) -> Result<(), AllocError> {
+    let (from, to) = LISTED_OF_ID;
+    let transaction_id = format!(in alloc; "{transaction_id}")?;
+    text.push_str(transaction_id.as_str().get(from..to).unwrap_or(""))
 }
 
-/// Appends by which algorithms a message is signed, by the integrity attributes that it shows. Nothing is
-/// appended where it shows none.
+/// Appends the algorithms of a message's visible integrity attributes, or nothing if it has none.
 fn push_signed(text: &mut String, message: &Message<'_>) -> Result<(), NoMemory> {
     let mut before = "\nsigned by ";
     for (atype, name) in [
@@ -95,7 +105,7 @@ fn push_signed(text: &mut String, message: &Message<'_>) -> Result<(), NoMemory>
     Ok(())
 }
 
-/// Whether an attribute is shown.
+/// Returns whether an attribute is one of the main attributes, which are printed.
 fn is_of_interest(raw: &RawAttribute<'_>) -> bool {
     match raw.get_type() {
         ErrorCode::TYPE

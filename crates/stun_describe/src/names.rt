@@ -1,4 +1,4 @@
-//! The names of what a message shows.
+//! The names of the parts of a message.
 
 use crate::registry::{ADDRESS_ERROR_CODE, EVEN_PORT, RESERVATION_TOKEN};
 use std::alloc::Global;
@@ -20,8 +20,8 @@ use turn_types_peer::data::Data;
 use turn_types_peer::icmp::Icmp;
 use turn_types_peer::xor_peer_address::XorPeerAddress;
 
-/// The names of RFC 8489, and those of TURN's methods and attributes (RFC 8656, sections 17 and 18;
-/// RFC 6062, section 6).
+/// Returns the names of RFC 8489, and those of TURN's methods and attributes (RFC 8656, sections 17
+/// and 18; RFC 6062, section 6).
 pub fn names(alloc: Global) -> Result<Names, NoMemory> {
     let mut names = Names::new(alloc);
     add_methods(&mut names)?;
@@ -70,7 +70,7 @@ fn add_attributes(names: &mut Names) -> Result<(), NoMemory> {
     Ok(())
 }
 
-/// The name of a class.
+/// Returns the name of a class.
 pub fn class_name(class: MessageClass) -> &'static str {
     match class {
         MessageClass::Request => "request",
@@ -80,7 +80,7 @@ pub fn class_name(class: MessageClass) -> &'static str {
     }
 }
 
-/// The name of an algorithm of integrity.
+/// Returns the name of an integrity algorithm.
 pub fn algorithm_name(algorithm: IntegrityAlgorithm) -> &'static str {
     match algorithm {
         IntegrityAlgorithm::Sha1 => "Sha1",

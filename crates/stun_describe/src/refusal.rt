@@ -1,9 +1,10 @@
-//! Refusals by their names, with their numbers.
+//! Errors, printed as their names and numbers.
 
 use std::fmt;
 use stun_types_wire::error::{StunParseError, ValidateError};
 
-/// Why bytes are no message or no attribute, to be printed as the name of the error and its numbers.
+/// Why bytes are not a message or not an attribute. Prints as the name of the error and its
+/// numbers.
 #[derive(Clone, Copy)]
 pub struct Refusal(pub StunParseError);
 
@@ -25,7 +26,7 @@ impl fmt::Display for Refusal {
     }
 }
 
-/// The name of an error.
+/// Returns the name of an error.
 fn error_name(error: StunParseError) -> &'static str {
     match error {
         StunParseError::NotStun => "NotStun",
@@ -40,7 +41,7 @@ fn error_name(error: StunParseError) -> &'static str {
     }
 }
 
-/// Why a message is not validated, to be printed alike.
+/// Why a message does not validate. Prints as the name of the error and its numbers.
 #[derive(Clone, Copy)]
 pub struct Objection(pub ValidateError);
 

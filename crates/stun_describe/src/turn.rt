@@ -1,4 +1,4 @@
-//! The values of TURN's attributes in words (RFC 8656, section 18; RFC 6062, section 6.2).
+//! The values of TURN's attributes as text (RFC 8656, section 18; RFC 6062, section 6.2).
 
 use crate::attribute::{push_addr, push_error, push_hex};
 use crate::registry::{ADDRESS_ERROR_CODE, EVEN_PORT, RESERVATION_TOKEN};
@@ -24,13 +24,17 @@ use turn_types_peer::data::Data;
 use turn_types_peer::icmp::Icmp;
 use turn_types_peer::xor_peer_address::XorPeerAddress;
 
-/// Appends the value of one of TURN's attributes in words, in a message of this number. Answers whether it
-/// is of one of these types. Refused as the attribute's own `try_from` refuses it.
+/// Appends the value of a TURN attribute as text, in a message with this transaction ID. Returns
+/// whether the attribute is a TURN attribute.
+///
+/// # Errors
+///
+/// - The errors of the attribute's own `try_from`, or those of `push_wish`.
 pub(crate) fn push_turn(
     alloc: Global,
     text: &mut String,
     raw: &RawAttribute<'_>,
-    number: TransactionId,
+    transaction_id: TransactionId,
 ) -> Result<bool, StunParseError> {
     match raw.get_type() {
         ChannelNumber::TYPE => {
@@ -38,9 +42,15 @@ pub(crate) fn push_turn(
             write!(text, "0x{channel:04x}")?;
         }
         Lifetime::TYPE => write!(text, "{}", Lifetime::try_from(raw)?.seconds())?,
-        XorPeerAddress::TYPE => push_addr(text, XorPeerAddress::try_from(raw)?.addr(number))?,
+        XorPeerAddress::TYPE => push_addr(
+            text,
+            XorPeerAddress::try_from(raw)?.addr(transaction_id),
+        )?,
         Data::TYPE => push_hex(alloc, text, Data::bytes_of(raw)?)?,
-        XorRelayedAddress::TYPE => push_addr(text, XorRelayedAddress::try_from(raw)?.addr(number))?,
+        XorRelayedAddress::TYPE => push_addr(
+            text,
+            XorRelayedAddress::try_from(raw)?.addr(transaction_id),
+        )?,
         RequestedTransport::TYPE => push_transport(text, raw)?,
         ConnectionId::TYPE => write!(text, "{}", ConnectionId::try_from(raw)?.id())?,
         Icmp::TYPE => push_report(text, raw)?,
@@ -49,10 +59,15 @@ pub(crate) fn push_turn(
     Ok(true)
 }
 
-/// Appends what an attribute of an ALLOCATE asks for, or what it is told of that, in words. Answers whether it
-/// is of one of these types. Refused as the attribute's own `try_from` refuses it, an EVEN-PORT and an
-/// ADDRESS-ERROR-CODE as told below, a RESERVATION-TOKEN with `Truncated` or `TooLarge` where it has not eight
-/// bytes.
+/// Appends the value of an attribute of an ALLOCATE request or of its response as text. Returns
+/// whether the attribute is one.
+///
+/// # Errors
+///
+/// - EVEN-PORT: the errors of `reserved_in_words`.
+/// - ADDRESS-ERROR-CODE: the errors of `push_family_error`.
+/// - RESERVATION-TOKEN: `Truncated` or `TooLarge` if its length is not eight bytes.
+/// - Others: the errors of the attribute's own `try_from`.
 fn push_wish(
     alloc: Global,
     text: &mut String,
@@ -91,7 +106,7 @@ fn push_transport(text: &mut String, raw: &RawAttribute<'_>) -> Result<(), StunP
     Ok(())
 }
 
-/// Appends type, code and data of an ICMP.
+/// Appends the type, code and data of an ICMP attribute.
 fn push_report(text: &mut String, raw: &RawAttribute<'_>) -> Result<(), StunParseError> {
     let report = Icmp::try_from(raw)?;
     let (icmp_type, code, details) = (report.icmp_type(), report.code(), report.data());
@@ -99,9 +114,13 @@ fn push_report(text: &mut String, raw: &RawAttribute<'_>) -> Result<(), StunPars
     Ok(())
 }
 
-/// Whether an EVEN-PORT asks that the next port be reserved, too: the top bit R of its one byte
-/// (RFC 8656, section 18.7). The other bits are not looked at. Refused with `Truncated` where there is
-/// no byte, `TooLarge` where there are more.
+/// Returns the word for whether an EVEN-PORT requests the reservation of the next port: the top bit
+/// R of its only byte (RFC 8656, section 18.7). The other bits are ignored.
+///
+/// # Errors
+///
+/// - `Truncated`: the value is empty.
+/// - `TooLarge`: the value has more than one byte.
 fn reserved_in_words(raw: &RawAttribute<'_>) -> Result<&'static str, StunParseError> {
     let value = value_of(raw, EVEN_PORT, 1, 1)?;
     if value[0] < 0x80 {
@@ -111,9 +130,13 @@ fn reserved_in_words(raw: &RawAttribute<'_>) -> Result<&'static str, StunParseEr
     }
 }
 
-/// Appends the family of an ADDRESS-ERROR-CODE, which stands in its first byte, and its code and reason,
-/// which stand as in an ERROR-CODE (RFC 8656, section 18.12). Refused, in this order: as an ERROR-CODE of
-/// that value is, and with `InvalidAttributeData` where the first byte is the number of no family.
+/// Appends the family of an ADDRESS-ERROR-CODE, which is its first byte, and its code and reason,
+/// which have the format of an ERROR-CODE (RFC 8656, section 18.12).
+///
+/// # Errors
+///
+/// 1. The errors of reading the value as an ERROR-CODE.
+/// 2. `InvalidAttributeData`: the first byte is not the number of a family.
 fn push_family_error(
     alloc: Global,
     text: &mut String,
@@ -131,7 +154,7 @@ fn push_family_error(
     push_error(alloc, text, &alike)
 }
 
-/// The name of a family.
+/// Returns the name of an address family.
 fn family_name(family: AddressFamily) -> &'static str {
     match family {
         AddressFamily::IPV4 => "IPv4",

@@ -10,19 +10,19 @@ use Rattle.line_io.specs.Stop.{bad_text, status_of, stop_text}
 use Rattle.line_io.proofs.AppendLemmas.{appends_nothing, appends_on}
 use Rattle.stun_inspect.specs.Printed.{Prints, PrintsText, PrintsTextAnd}
 
--- nothing is printed
+-- Nothing is printed.
 pub prints_none : (old : Option (List ℕ)) → PrintsText old old
 prints_none old = ([], appends_nothing old)
 
--- texts behind texts
+-- A text is printed after another.
 pub prints_on : (old mid new : Option (List ℕ)) → PrintsText old mid → PrintsText mid new → PrintsText old new
 prints_on old mid new first second = (first.0 ++ second.0, appends_on old mid new first.0 second.0 first.1 second.1)
 
--- a last text behind others
+-- A last text is printed after others.
 prints_last : (old mid new : Option (List ℕ)) (last : List ℕ) → PrintsText old mid → Appends mid new last → PrintsTextAnd old new last
 prints_last old mid new last first second = (first.0, appends_on old mid new first.0 last first.1 second)
 
--- how a program ends that stopped
+-- How a program that stopped ends.
 pub ended : (stop : Stop) (status : Status) (old mid new : Option (List ℕ))
     → ((◌≡◌ {A = Result (Unit {0}) Stop} (Err stop) (Err Stops.Unwritten) → ⊥) → PrintsText old mid) → (status ≢ Fault → status ≡ status_of stop)
     → (status ≢ Fault → Appends mid new (stop_text stop)) → Prints status old new

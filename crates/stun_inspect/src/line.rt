@@ -9,10 +9,10 @@ use line_io::refusal::LineError;
 use line_io::word::read_words;
 use std::alloc::Global;
 
-/// A line that says something.
+/// A line that is not blank and not a comment.
 #[derive(Drop)]
 pub enum Line<'a> {
-    /// `user NAME REALM PASSWORD`: what follows is validated under the key of a user in a realm.
+    /// `user NAME REALM PASSWORD`: validate the following lines under the key of a user in a realm.
     User {
         /// The user's name.
         name: &'a str,
@@ -21,19 +21,19 @@ pub enum Line<'a> {
         /// The user's password.
         password: &'a str,
     },
-    /// `password PASSWORD`: what follows is validated under the key of a password alone.
+    /// `password PASSWORD`: validate the following lines under the key of a password alone.
     Password(&'a str),
-    /// `message HEX`: these bytes as a message.
+    /// `message HEX`: describe these bytes as a message.
     Message(Vec<u8>),
-    /// `raw HEX`: these bytes as one attribute.
+    /// `raw HEX`: describe these bytes as one attribute.
     Raw(Vec<u8>),
-    /// `frame HEX`: these bytes as one channel frame.
+    /// `frame HEX`: describe these bytes as one channel frame.
     Frame(Vec<u8>),
-    /// `stream HEX`: these bytes as the front of a stream.
+    /// `stream HEX`: describe these bytes as the first bytes of a stream.
     Stream(Vec<u8>),
 }
 
-/// Reads a line, of which the line feed is no part.
+/// Reads a line, without its line feed.
 pub(crate) fn read_line<'a>(alloc: Global, line: &'a [u8]) -> Result<Line<'a>, LineError>
     ensures ok { IfOk result (IsLine line.entry.now) }
     ensures bad { result ≡ Err LineError.Bad → (read : Line) → ¬ (IsLine line.entry.now read) }
@@ -42,7 +42,7 @@ pub(crate) fn read_line<'a>(alloc: Global, line: &'a [u8]) -> Result<Line<'a>, L
     spell(alloc, words.as_slice())
 }
 
-/// The line that some words spell.
+/// Reads a line from its words.
 fn spell<'a>(alloc: Global, words: &[&'a str]) -> Result<Line<'a>, LineError>
     ensures ok { IfOk result (IsLineOf (map (λ x. x.now) words.entry.now)) }
     ensures bad { result ≡ Err LineError.Bad → (read : Line)
@@ -71,7 +71,7 @@ fn spell<'a>(alloc: Global, words: &[&'a str]) -> Result<Line<'a>, LineError>
     }
 }
 
-/// The credentials of a user, from the words behind `user`.
+/// Reads the credentials of a user from the words after `user`.
 fn read_user<'a>(words: &[&'a str]) -> Result<Line<'a>, LineError>
     ensures ok { IfOk result (IsNamed (codes "user") (map (λ x. x.now) words.entry.now)) }
     ensures bad { result ≡ Err LineError.Bad → (read : Line)
@@ -87,7 +87,7 @@ fn read_user<'a>(words: &[&'a str]) -> Result<Line<'a>, LineError>
     })
 }
 
-/// The credentials of a password, from the words behind `password`.
+/// Reads a password from the words after `password`.
 fn read_password<'a>(words: &[&'a str]) -> Result<Line<'a>, LineError>
     ensures ok { IfOk result (IsNamed (codes "password") (map (λ x. x.now) words.entry.now)) }
     ensures bad { result ≡ Err LineError.Bad → (read : Line)
@@ -99,7 +99,7 @@ fn read_password<'a>(words: &[&'a str]) -> Result<Line<'a>, LineError>
     Ok(Line::Password(password))
 }
 
-/// The bytes that one word spells.
+/// Reads bytes from a list of one word.
 fn read_bytes(alloc: Global, words: &[&str]) -> Result<Vec<u8>, LineError>
     ensures ok { IfOk result (λ bytes. SpellBytes (map (λ x. x.now) words.now) bytes.items) }
     ensures bad { result ≡ Err LineError.Bad → (bytes : List ℕ)

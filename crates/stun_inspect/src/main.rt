@@ -1,8 +1,13 @@
-//! `stun-inspect`: reads lines from standard input that give messages, attributes, channel frames and
-//! streams in hex, and prints what each of them is, one fact a line. `docs/INSPECT.md` has the language.
+//! `stun-inspect`: reads lines from standard input that contain messages, attributes, channel
+//! frames and streams in hex, and describes each of them, one fact a line. `docs/INSPECT.md`
+//! describes the language.
 //!
-//! The exit status is 0 where every line was done, 1 at a bad line, 2 where memory was refused, 3
-//! where the input could not be read or the answers not be written.
+//! The exit status is:
+//!
+//! - 0: every line was executed.
+//! - 1: there is a bad line.
+//! - 2: an allocation failed.
+//! - 3: the input could not be read, or the output could not be written.
 #![tactic(auto)]
 
 mod line;

@@ -1,4 +1,4 @@
-//! One message: what its header tells, what it shows, and whether it holds.
+//! One message: its header, its attributes, and whether it validates.
 
 use line_io::lower_hex::write_hex;
 use std::alloc::Global;
@@ -20,7 +20,7 @@ use stun_types_wire::names::Names;
 use stun_types_wire::transaction::TransactionId;
 use stun_types_write::attribute::{Attribute, AttributeStaticType};
 
-/// Appends what bytes are as a message, under some credentials where there are any.
+/// Appends the description of bytes as a message, and validates it if there are credentials.
 pub(crate) fn push_message(
     alloc: Global,
     text: &mut String,
@@ -33,7 +33,7 @@ pub(crate) fn push_message(
     match Message::from_bytes(bytes) {
         Ok(message) => {
             push_header(text, &message, names)?;
-            push_shown(alloc, text, &message, names)?;
+            push_listed(alloc, text, &message, names)?;
             match credentials {
                 Some(credentials) => push_integrity(text, &message, credentials, names)?,
                 None => text.push_str("validation without credentials\n")?,
@@ -45,7 +45,7 @@ pub(crate) fn push_message(
     Ok(())
 }
 
-/// Appends what bytes are as one attribute. An address is xored under the number 0.
+/// Appends the description of bytes as one attribute. An address is decoded with transaction ID 0.
 pub(crate) fn push_raw(
     alloc: Global,
     text: &mut String,
@@ -61,14 +61,14 @@ pub(crate) fn push_raw(
     Ok(())
 }
 
-/// Appends a line that says why bytes are not what they are given as.
+/// Appends a line with the reason why bytes are invalid.
 pub(crate) fn push_refused(text: &mut String, error: StunParseError) -> Result<(), NoMemory> {
     let refusal = Refusal(error);
     writeln!(text, "refused {refusal}")?;
     Ok(())
 }
 
-/// Appends a line of a name and bytes in hex.
+/// Appends a line with a name and bytes in hex.
 pub(crate) fn push_named(
     alloc: Global,
     text: &mut String,
@@ -80,7 +80,7 @@ pub(crate) fn push_named(
     Ok(())
 }
 
-/// Appends class, method and number.
+/// Appends the class, the method and the transaction ID.
 fn push_header(text: &mut String, message: &Message<'_>, names: &Names) -> Result<(), NoMemory> {
     let class = class_name(message.class());
     let method = message.method();
@@ -92,24 +92,24 @@ fn push_header(text: &mut String, message: &Message<'_>, names: &Names) -> Resul
     Ok(())
 }
 
-/// Appends each attribute that is shown, and the bytes that stand behind them.
-fn push_shown(
+/// Appends each visible attribute, and the bytes after them.
+fn push_listed(
     alloc: Global,
     text: &mut String,
     message: &Message<'_>,
     names: &Names,
 ) -> Result<(), NoMemory> {
     let bytes = message.as_ref();
-    let mut behind = bytes.get(MessageHeader::LENGTH..).unwrap_or(&[]);
+    let mut following = bytes.get(MessageHeader::LENGTH..).unwrap_or(&[]);
     for (_, raw) in message.iter_attributes() {
         push_attribute(alloc, text, &raw, message.transaction_id(), names)?;
-        behind = behind.get(raw.padded_len()..).unwrap_or(&[]);
+        following = following.get(raw.padded_len()..).unwrap_or(&[]);
     }
-    push_named(alloc, text, "behind", behind)
+    push_named(alloc, text, "behind", following)
 }
 
-/// Appends what each integrity attribute that is shown comes to under the credentials, and the
-/// verdict by the last of them.
+/// Appends the result of validating each visible integrity attribute under the credentials, and
+/// then the result for the message, which is decided by the last of them.
 fn push_integrity(
     text: &mut String,
     message: &Message<'_>,
@@ -132,7 +132,7 @@ fn push_integrity(
     push_verdict(text, message.validate_integrity(credentials))
 }
 
-/// Appends a verdict on a message, and ends its line.
+/// Appends the result of a validation, and a line feed.
 fn push_verdict(
     text: &mut String,
     verdict: Result<IntegrityAlgorithm, ValidateError>,
@@ -150,7 +150,7 @@ fn push_verdict(
     Ok(())
 }
 
-/// Appends whether a FINGERPRINT is shown.
+/// Appends whether a FINGERPRINT is visible.
 fn push_fingerprint(text: &mut String, message: &Message<'_>) -> Result<(), NoMemory> {
     if message.has_attribute(Fingerprint::TYPE) {
         text.push_str("fingerprint shown\n")?;

@@ -23,17 +23,22 @@ use stun_types_integrity::credentials::{
 };
 use stun_types_wire::names::Names;
 
-/// Reads an input whole, and prints of each line that gives bytes what they are. At the first bad
-/// line it prints `bad trace: line N`, lines counted from 1; where memory is refused `no memory`;
-/// where the input can't be read or is too long `read fault`. After a failed write nothing more is
-/// printed.
+/// Reads a whole input, and describes the bytes of each line that has some.
+///
+/// If it stops early, it prints one more line:
+///
+/// - `bad trace: line N` at the first bad line; lines are counted from 1.
+/// - `no memory` if an allocation failed.
+/// - `read fault` if the input can't be read or is too long.
+///
+/// After a failed write nothing more is printed.
 pub(crate) fn inspect<I: Read, O: Write>(alloc: Global, input: &mut I, output: &mut O) -> Status
-    // At most one byte more than the longest input is taken from the reader.
+    // At most one byte more than the maximum length of an input is read.
     ensures taken { TakesAtMost (MAX_INPUT + 1) (I.remaining input.old) (I.remaining input.new) }
-    // Where the input was read, it is all that the reader had.
+    // If the input was read, it is everything that the reader had.
     ensures whole { result ≢ Status.Fault → result ≢ Status.NoMemory
         → TakesAll MAX_INPUT (I.remaining input.old) (I.remaining input.new) }
-    // Where it ended well, each line says nothing or can be read.
+    // If it ends well, each line can be read, or is blank or a comment.
     ensures done { result ≡ Status.Done → TakesLines IsReadable (I.remaining input.old)
         (I.remaining input.new) }
     ensures printed { Prints result (O.contents output.old) (O.contents output.new) }
@@ -44,7 +49,7 @@ pub(crate) fn inspect<I: Read, O: Write>(alloc: Global, input: &mut I, output: &
     }
 }
 
-/// Reads an input whole, and prints what its lines give.
+/// Reads a whole input, and describes the bytes of its lines.
 fn inspect_input<I: Read, O: Write>(
     alloc: Global,
     input: &mut I,
@@ -65,17 +70,17 @@ fn inspect_input<I: Read, O: Write>(
     }
 }
 
-/// What is kept from line to line.
+/// The state between two lines.
 #[derive(Drop)]
 struct Inspector {
     alloc: Global,
     names: Names,
-    /// Those of the last line that gave some.
+    /// The credentials of the last line that contained some.
     credentials: Option<MessageIntegrityCredentials>,
 }
 
 impl Inspector {
-    /// One that has read no line.
+    /// Returns the state before the first line.
     fn new(alloc: Global) -> Result<Inspector, NoMemory> {
         Ok(Inspector {
             alloc,
@@ -84,14 +89,15 @@ impl Inspector {
         })
     }
 
-    /// What is printed of a line: nothing of one that gives credentials.
+    /// Executes a line, and returns the text to print. It is empty for a line with credentials.
     fn in_words(&mut self, line: &Line<'_>) -> Result<String, NoMemory> {
         let mut text = String::new(self.alloc);
         self.push_line(&mut text, line)?;
         Ok(text)
     }
 
-    /// Keeps the credentials of a line that gives some, and appends what bytes are of one that gives bytes.
+    /// Stores the credentials of a line that contains some, or appends the description of its
+    /// bytes.
     fn push_line(&mut self, text: &mut String, line: &Line<'_>) -> Result<(), NoMemory> {
         match line {
             Line::User {
@@ -117,7 +123,7 @@ impl Inspector {
     }
 }
 
-/// The credentials of a user in a realm.
+/// Returns the credentials of a user in a realm.
 fn credentials_of_user(
     alloc: Global,
     name: &str,
@@ -131,7 +137,7 @@ fn credentials_of_user(
     Ok(MessageIntegrityCredentials::from(key))
 }
 
-/// The credentials of a password alone.
+/// Returns the credentials of a password alone.
 fn credentials_of_password(
     alloc: Global,
     password: &str,
@@ -141,7 +147,7 @@ fn credentials_of_password(
     Ok(MessageIntegrityCredentials::from(credentials))
 }
 
-/// Prints what the lines of a text give.
+/// Describes the bytes of the lines of a text.
 fn inspect_text<O: Write>(alloc: Global, text: &[u8], output: &mut O) -> Result<(), Stop>
     ensures read { OnOk result (AllByRecursion IsReadable (lines_of text.now)) }
     ensures printed { result ≢ Err Stop.Unwritten
@@ -165,7 +171,7 @@ fn inspect_text<O: Write>(alloc: Global, text: &[u8], output: &mut O) -> Result<
     }
 }
 
-/// Prints what one line gives, where it gives something.
+/// Describes the bytes of one line; a blank line or a comment does nothing.
 fn inspect_line<O: Write>(
     inspector: &mut Inspector,
     number: usize,

@@ -1,3 +1,3 @@
--- What an agent has to say at a moment, by name.
+-- Re-exports the results of polling an agent.
 pub use Rattle.stun_proto_agent.specs.declared.agent.StunAgentPollRet.{StunAgentPollRet}
 pub use Rattle.stun_proto_agent.specs.declared.agent.StunAgentPollRet.TheVariants.{TransactionTimedOut, TransactionCancelled, WaitUntil}

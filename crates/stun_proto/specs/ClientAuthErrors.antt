@@ -1,3 +1,3 @@
--- What a client refuses a message for, by name.
+-- Re-exports the errors of a client's validation.
 pub use Rattle.stun_proto_client.specs.declared.error.LongTermClientAuthError.{LongTermClientAuthError}
 pub use Rattle.stun_proto_client.specs.declared.error.LongTermClientAuthError.TheVariants.{Unauthorized, IntegrityFailed, UnsupportedFeature, NoMemory}

@@ -1,4 +1,4 @@
--- The definitions that the contracts below this face cite, each file under its own name.
+-- The definitions that the contracts of the crates below this facade use, each file under its own name.
 pub mod AgentErrors
 pub mod AgentPolls
 pub mod ClientAuthErrors
@@ -11,7 +11,7 @@ pub use Rattle.stun_proto_agent.specs.AgentRest
 pub use Rattle.stun_proto_agent.specs.Transaction.Agents
 pub use Rattle.stun_proto_agent.specs.Handling
 pub use Rattle.stun_proto_agent.specs.Transaction.Least
-pub use Rattle.stun_types_base.specs.Moments
+pub use Rattle.stun_types_base.specs.Times
 pub use Rattle.stun_proto_agent.specs.Numbers
 pub use Rattle.stun_proto_agent.specs.RequestLending
 pub use Rattle.stun_proto_agent.specs.Requests

@@ -1,3 +1,3 @@
--- What a validation at the server answers, by name.
+-- Re-exports the results of a server's validation.
 pub use Rattle.stun_proto_server.specs.declared.validation.LongTermServerValidation.{LongTermServerValidation}
 pub use Rattle.stun_proto_server.specs.declared.validation.LongTermServerValidation.TheVariants.{Validated}

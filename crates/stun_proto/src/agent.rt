@@ -1,5 +1,5 @@
-//! The agent of requests (RFC 8489, section 6): when each is sent again, when it is given up, and which
-//! responses are awaited.
+//! The agent of requests (RFC 8489, section 6): when each is retransmitted, when it is given up,
+//! and which responses are awaited.
 
 pub use stun_proto_agent::agent::{StunAgent, StunAgentPollRet};
 pub use stun_proto_agent::builder::StunAgentBuilder;

@@ -1,5 +1,5 @@
-//! Authentication (RFC 8489, section 9): short-term and long-term credentials as a client has them, and
-//! long-term ones as a server sees them.
+//! Authentication (RFC 8489, section 9): short-term and long-term credentials on the client's side,
+//! and long-term credentials on the server's side.
 
 pub use stun_proto_auth::feature::Feature;
 pub use stun_proto_auth::nonce::{

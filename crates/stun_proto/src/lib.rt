@@ -1,8 +1,11 @@
-//! What stands behind STUN messages (RFC 8489): moments, requests that wait for responses, and the
-//! authentication of either side. Nothing here does IO: moments and random words come in with the calls.
+//! STUN transactions and authentication (RFC 8489): time, requests that await responses, and the
+//! authentication of clients and servers. Nothing here performs input or output: the caller passes
+//! the time and the random words.
 //!
-//! [`agent`] has the agent of requests, [`auth`] the three authenticators, their settings and their
-//! refusals, [`types`] the messages; [`laws`] what the contracts mean for a layer above.
+//! - [`agent`]: the agent of requests.
+//! - [`auth`]: the three authenticators, their settings and their errors.
+//! - [`types`]: the messages.
+//! - [`laws`]: theorems that follow from the contracts, for the layers above.
 #![tactic(auto)]
 
 pub mod agent;

@@ -2,5 +2,5 @@ pub mod AgentMaps
 pub mod Numbers
 pub mod Quiet
 pub mod Sent
--- What stands above this crate has these through it.
+-- Re-exported for the crates that depend on this one.
 pub use Rattle.stun_proto_transaction.proofs as Transaction

@@ -1,4 +1,4 @@
--- The code of an agent, by which proofs tell its values apart.
+-- The encoding of an agent's value, by which proofs distinguish values.
 use Rattle.std.specs.Prelude.{Bool, true, Option, ⊤, refl}
 use Rattle.std.specs.Coded.{Coded, code_by, coded×, coded_ℕ, coded_bool, coded_option}
 use Rattle.std.specs.FinMap as map
@@ -13,19 +13,19 @@ use Rattle.stun_proto_transaction.specs.Schedule.{Waits}
 use Rattle.stun_proto_agent.specs.State.{Agent}
 use Rattle.stun_proto_transaction.specs.TransactionCodes.{transaction_code, waits_code}
 
--- the code of the requests that are outstanding
+-- The encoding of the outstanding requests.
 abbrev pub outstanding_code : Coded (map.FinMap nat_cmp Transaction)
 outstanding_code = map.code coded_ℕ transaction_code
 
--- the code of what has no content
+-- The encoding of the unit type.
 abbrev pub nothing_code : Coded ⊤
 nothing_code = code_by Bool coded_bool (λ _. true) (λ _. tt) (λ _. refl)
 
--- the code of the validated addresses
+-- The encoding of the validated addresses.
 abbrev pub validated_code : Coded (map.FinMap socket_addr_cmp ⊤)
 validated_code = map.code addr.the_row.coded nothing_code
 
--- the code of an agent
+-- The encoding of an agent.
 abbrev pub agent_code : Coded Agent
 agent_code =
     code_by

@@ -8,5 +8,5 @@ pub mod Requests
 pub mod Sending
 pub mod State
 pub mod View
--- What stands above this crate has these through it.
+-- Re-exported for the crates that depend on this one.
 pub use Rattle.stun_proto_transaction.specs as Transaction

@@ -1,31 +1,31 @@
--- How the numbers of requests come and go (RFC 8489, sections 6.1 to 6.3).
+-- How transaction IDs become outstanding and stop being so (RFC 8489, sections 6.1 to 6.3).
 use Rattle.std.specs.Prelude.{◌≡◌, ◌≢◌, ◌≤◌, ℕ, Some, None}
 use Rattle.std.specs.FinMap as map
 use Rattle.stun_types_wire.specs.Grammar.{number_at}
 use Rattle.stun_proto_transaction.specs.Agents.{Transaction}
 use Rattle.stun_proto_agent.specs.State.{Agent}
 
--- a number is outstanding no more; every other one is what it was
-pub record IsWithout (old : Agent) (number : ℕ) (new : Agent) : Type 0 where
-  pub gone : map.get new.outstanding number ≡ None
-  pub others : (other : ℕ) → other ≢ number → map.get new.outstanding other ≡ map.get old.outstanding other
+-- The transaction ID is no longer outstanding, and every other entry is unchanged.
+pub record IsWithout (old : Agent) (transaction_id : ℕ) (new : Agent) : Type 0 where
+  pub gone : map.get new.outstanding transaction_id ≡ None
+  pub others : (other : ℕ) → other ≢ transaction_id → map.get new.outstanding other ≡ map.get old.outstanding other
 
--- a request was outstanding under its number before: the same bytes to the same address, first sent at the same moment,
--- and none of its transmissions is forgotten
-pub record WasOutstanding (old : Agent) (number : ℕ) (t : Transaction) : Type 0 where
+-- A request was outstanding before under the same transaction ID. Its bytes, its target and the time of its
+-- first transmission are unchanged, and its count of transmissions has not decreased.
+pub record WasOutstanding (old : Agent) (transaction_id : ℕ) (t : Transaction) : Type 0 where
   pub before : Transaction
-  pub there : map.get old.outstanding number ≡ Some before
+  pub there : map.get old.outstanding transaction_id ≡ Some before
   pub same_bytes : t.bytes ≡ before.bytes
   pub same_target : t.to ≡ before.to
-  pub same_moment : t.sent ≡ before.sent
+  pub same_time : t.sent ≡ before.sent
   pub counted : before.used ≤ t.used
 
--- no request is outstanding afterwards that wasn't before
+-- Every request that is outstanding afterwards was outstanding before.
 abbrev pub NothingNew : Agent → Agent → Type 0
-NothingNew old new = (number : ℕ) (t : Transaction)
-    → map.get new.outstanding number ≡ Some t → WasOutstanding old number t
+NothingNew old new = (transaction_id : ℕ) (t : Transaction)
+    → map.get new.outstanding transaction_id ≡ Some t → WasOutstanding old transaction_id t
 
--- each request that is outstanding is kept under the number that its bytes show
+-- Each outstanding request is stored under the transaction ID in its bytes.
 abbrev pub ShowsNumbers : Agent → Type 0
-ShowsNumbers agent = (number : ℕ) (t : Transaction)
-    → map.get agent.outstanding number ≡ Some t → number_at t.bytes ≡ number
+ShowsNumbers agent = (transaction_id : ℕ) (t : Transaction)
+    → map.get agent.outstanding transaction_id ≡ Some t → number_at t.bytes ≡ transaction_id

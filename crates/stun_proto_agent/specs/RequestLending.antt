@@ -1,4 +1,4 @@
--- What a request is once a `&mut` to its agent has ended.
+-- The state of a request handle once a `&mut` to its agent has ended.
 use Rattle.std.specs.Borrow.{Lends, Fml, MutBor}
 use Rattle.std.specs.Prelude.{[]}
 use mir.Syntax.{named}
@@ -7,11 +7,12 @@ use Rattle.stun_proto_agent.specs.contracts.agent.StunAgent as agent
 use Rattle.stun_proto_agent.specs.contracts.request.StunRequestMut.{the_row}
 use Rattle.stun_proto_agent.specs.declared.request.StunRequestMut.{StunRequestMut}
 
--- the request with another value of its agent
+-- The request handle with another value of its agent.
 abbrev pub with_agent : StunRequestMut → Agent → StunRequestMut
 with_agent request left = record request { agent = record request.agent { now = left } }
 
--- the agent is the last one written through the borrow; the number, the address and the algorithm stay
+-- When the borrow ends, the agent has the value last written through it. The transaction ID, the address and
+-- the algorithm are unchanged.
 abbrev pub LendsAgent : MutBor StunRequestMut → MutBor Agent → Fml
 LendsAgent request borrow =
     Lends (the_row (record { mir = named 1; lft = [] })) agent.the_row request borrow (with_agent request.now)

@@ -1,4 +1,4 @@
--- The agent that the fields of a `StunAgent` hold.
+-- The agent that the fields of a `StunAgent` represent.
 use Rattle.std.specs.Prelude.{◌≡◌, map}
 use Rattle.std.specs.FinMap as finite
 use Rattle.stun_proto_agent.specs.State.{Agent, is_tcp}
@@ -14,6 +14,6 @@ agent_of a = record {
   validated = finite.from_entries (map (λ e. (e.0, e.1)) a.validated.entries);
 }
 
--- the requests that are outstanding go by the agent's transport
+-- The outstanding requests use the agent's transport.
 abbrev pub IsAgent : Inside → Type 0
 IsAgent a = a.outstanding.is_tcp ≡ is_tcp a.transport

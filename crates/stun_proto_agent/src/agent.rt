@@ -1,4 +1,4 @@
-//! The agent of STUN requests.
+//! The STUN agent: tracks outstanding requests and their retransmissions.
 
 ghost use Rattle.std.specs.Prelude.{◌≡◌, ◌≤◌, [], MatchOption, OnErr, OnOk, is_some, max};
 ghost use Rattle.std.specs.FinMap as finite;
@@ -6,9 +6,9 @@ ghost use Rattle.std.specs.Option.{option_map};
 ghost use Rattle.std.specs.declared.net.socket_addr.SocketAddr.{SocketAddr};
 ghost use Rattle.stun_proto_transaction.specs.Agents.{Transaction, changed, integrity_of, is_ended, is_over, transmitted};
 ghost use Rattle.stun_proto_transaction.specs.Least.{IsLeast};
-ghost use Rattle.stun_proto_agent.specs.Sending.{NoneDue, begun, is_due_of, kept_under};
+ghost use Rattle.stun_proto_agent.specs.Sending.{NoneDue, started, is_due_of, stored_under};
 ghost use Rattle.stun_proto_agent.specs.State.{IsNext, IsPolled, NoneEnded, is_tcp, longest_wait};
-ghost use Rattle.stun_types_base.specs.Moments.{moment_after};
+ghost use Rattle.stun_types_base.specs.Times.{time_after};
 
 use std::alloc::Global;
 use std::collections::BTreeMap;
@@ -24,25 +24,27 @@ use stun_types_base::transport::TransportType;
 use stun_types_wire::algorithm::IntegrityAlgorithm;
 use stun_types_wire::transaction::TransactionId;
 
-/// The longest that an agent tells to wait, in seconds.
+/// The longest wait that an agent reports, in seconds.
 const LONGEST_WAIT: u64 = 3600;
 
-/// What an agent has to say at a moment, by `StunAgent::poll`.
+/// The result of `StunAgent::poll`.
 #[derive(Clone, Copy, Debug, PartialEq, Eq)]
 pub enum StunAgentPollRet {
-    /// The transaction of this number has ended without a response: the wait behind its last transmission
-    /// is over (RFC 8489, section 6.2.1). It is outstanding no more.
+    /// The transaction with this ID ended without a response: the wait after its last transmission
+    /// is over (RFC 8489, section 6.2.1). It is no longer outstanding.
     TransactionTimedOut(TransactionId),
-    /// The transaction of this number was cancelled by `StunRequestMut::cancel`. It is outstanding no
-    /// more.
+    /// The transaction with this ID was cancelled by `StunRequestMut::cancel`. It is no longer
+    /// outstanding.
     TransactionCancelled(TransactionId),
-    /// Nothing is to be sent, and nothing ends, before this moment; unless a call changes the agent.
+    /// Nothing is due to be sent and no transaction ends before this time, unless a call changes
+    /// the agent.
     WaitUntil(Instant),
 }
 
-/// Keeps the requests of one side that wait for responses: when each is sent again, and when it is given
-/// up (RFC 8489, section 6.2.1). It performs no input or output, and reads no clock: the caller sends what
-/// it answers, and tells it the moment. After each call that changes it, this loop drives it:
+/// Tracks the requests of one side that await responses: when each is retransmitted and when it is
+/// given up (RFC 8489, section 6.2.1). It performs no input or output and reads no clock: the
+/// caller sends what the agent returns, and passes it the time. After each call that changes the
+/// agent, drive it with this loop:
 ///
 /// <!-- crates/test_rows_proto/src/agent.rt: drive -->
 /// ```rust
@@ -64,9 +66,10 @@ pub enum StunAgentPollRet {
 /// }
 /// ```
 ///
-/// A program sends what `poll_transmit` gives, and minds what has ended, where this one prints it; and it
-/// waits where this one goes to the next moment. Nothing is sent again or ended before its
-/// moment, whatever moments the caller tells. Contracts see the record `Agent` of `specs/State.antt`.
+/// Where this loop prints, a program sends what `poll_transmit` returns and reacts to the
+/// transactions that ended. Where this loop sets `now`, a program waits until that time. Whatever
+/// times the caller passes, nothing is retransmitted or ended before its time. Contracts see the
+/// record `Agent` of `specs/State.antt`.
 #[derive(Debug, Drop)]
 pub struct StunAgent {
     alloc: Global,
@@ -95,7 +98,7 @@ impl Model for StunAgent {
 }
 
 impl StunAgent {
-    /// An agent with nothing outstanding and no validated address.
+    /// Creates an agent with no outstanding request and no validated address.
     pub(crate) fn new(
         alloc: Global,
         transport: TransportType,
@@ -123,52 +126,59 @@ impl StunAgent {
         }
     }
 
-    /// The transport that requests go out by.
+    /// Returns the transport over which requests are sent.
     pub fn transport(&self) -> TransportType
         ensures { result ≡ self.now.transport }
     {
         self.transport
     }
 
-    /// The agent's own address, from which requests go out.
+    /// Returns the agent's own address, from which requests are sent.
     pub fn local_addr(&self) -> SocketAddr
         ensures { result ≡ self.now.here }
     {
         self.local
     }
 
-    /// The address of the other side, as the builder was told it; `None`, where it was not. The agent sends
-    /// each request where the call says, and not there.
+    /// Returns the other side's address as it was given to the builder, or `None` if none was
+    /// given. The agent does not send to it: each call that sends names its target.
     pub fn remote_addr(&self) -> Option<SocketAddr>
         ensures { result ≡ self.now.remote }
     {
         self.remote
     }
 
-    /// Whether a response came from an address, or the address was made a validated one.
+    /// Returns whether a response that ended a transaction came from the address, or
+    /// `validated_peer` was called for it.
     pub fn is_validated_peer(&self, remote_addr: SocketAddr) -> bool
         ensures { result ≡ is_some (finite.get self.now.validated remote_addr) }
     {
         self.validated.contains_key(&remote_addr)
     }
 
-    /// What is to be done at a moment. The transaction of least number that has ended is taken out of the
-    /// agent and named: as cancelled, where it was cancelled as a whole, and else as timed out. One call
-    /// names one: call it again until it answers `WaitUntil`.
+    /// Removes and reports one transaction that has ended by `now`, or returns how long to wait. If
+    /// several have ended, the one with the least transaction ID is reported: as cancelled if
+    /// `StunRequestMut::cancel` was called for it, otherwise as timed out. Call it again until it
+    /// returns `WaitUntil`.
     ///
-    /// Where none has ended, nothing changes, and the answer is the moment until which nothing is to be
-    /// done. It is the least of the next moments at which a transmission is due or a transaction ends, but
-    /// no earlier than now, and no later than an hour from now. It is now where a transmission is due that
-    /// `poll_transmit` was not asked for.
+    /// If none has ended, nothing changes, and the result is `WaitUntil` with the earliest time at
+    /// which a transmission is due or a transaction ends:
     ///
-    /// With nothing due and none ended it takes no walk over the outstanding requests, except that the first
-    /// call behind one that ended or delayed the request of the earliest moment walks over their moments once.
-    /// Where one has ended, it walks over the moments up to that one, and the next call goes on from there.
+    /// - It is no earlier than `now`, and no later than an hour after `now`.
+    /// - It is `now` while a transmission is due that `poll_transmit` has not returned yet.
+    ///
+    /// # Cost
+    ///
+    /// - If nothing is due and none has ended, the outstanding requests are not scanned. The
+    ///   exception is the first call after the request with the earliest time was ended or delayed:
+    ///   it scans their times once.
+    /// - If one has ended, the times up to that one are scanned, and the next call continues from
+    ///   there.
     pub fn poll(&mut self, now: Instant) -> StunAgentPollRet
         ensures { IsPolled self.old now result self.new }
     {
         let Some((number, is_over)) = self.ended(now) else {
-            return StunAgentPollRet::WaitUntil(self.next_moment(now));
+            return StunAgentPollRet::WaitUntil(self.next_time(now));
         };
         self.take_out(number);
         if is_over {
@@ -178,8 +188,8 @@ impl StunAgent {
         }
     }
 
-    /// The number of the transaction of least number that has ended at a moment, where one has, and
-    /// whether it is cancelled as a whole.
+    /// Returns the least ID of the transactions that have ended by `now`, if any, and whether that
+    /// transaction was cancelled as a whole.
     fn ended(&mut self, now: Instant) -> Option<(TransactionId, bool)>
         ensures found { MatchOption result (NoneEnded self.old now) (λ found. (t : Transaction)
             × IsLeast (is_ended now) self.old.outstanding found.0 t
@@ -189,59 +199,60 @@ impl StunAgent {
         self.outstanding.first_ended(now)
     }
 
-    /// Whether a request of this number is outstanding.
-    pub(crate) fn is_outstanding(&self, number: TransactionId) -> bool
-        ensures { result ≡ is_some (finite.get self.now.outstanding number) }
+    /// Returns whether a request with this transaction ID is outstanding.
+    pub(crate) fn is_outstanding(&self, transaction_id: TransactionId) -> bool
+        ensures { result ≡ is_some (finite.get self.now.outstanding transaction_id) }
     {
-        self.outstanding.get(number).is_some()
+        self.outstanding.get(transaction_id).is_some()
     }
 
-    /// The bytes of the request of this number; none, where there is no such request.
-    pub(crate) fn bytes_of(&self, number: TransactionId) -> &[u8]
-        ensures { MatchOption (finite.get self.now.outstanding number) (result.now ≡ [])
+    /// Returns the bytes of the outstanding request with this transaction ID; empty if there is
+    /// none.
+    pub(crate) fn bytes_of(&self, transaction_id: TransactionId) -> &[u8]
+        ensures { MatchOption (finite.get self.now.outstanding transaction_id) (result.now ≡ [])
             (λ t. result.now ≡ t.bytes) }
     {
-        match self.outstanding.get(number) {
+        match self.outstanding.get(transaction_id) {
             Some(transaction) => transaction.bytes(),
             None => &[],
         }
     }
 
-    /// Where the request of this number goes, where there is such a request.
-    pub(crate) fn target_of(&self, number: TransactionId) -> Option<SocketAddr>
+    /// Returns the target of the outstanding request with this transaction ID, if there is one.
+    pub(crate) fn target_of(&self, transaction_id: TransactionId) -> Option<SocketAddr>
         ensures { result ≡ option_map (λ (t : Transaction). t.to)
-            (finite.get self.now.outstanding number) }
+            (finite.get self.now.outstanding transaction_id) }
     {
-        match self.outstanding.get(number) {
+        match self.outstanding.get(transaction_id) {
             Some(transaction) => Some(transaction.to()),
             None => None,
         }
     }
 
-    /// Changes the request of a number, where it is outstanding.
-    pub(crate) fn change(&mut self, number: TransactionId, with: Change)
-        ensures { MatchOption (finite.get self.old.outstanding number) (self.new ≡ self.old)
-            (λ t. self.new ≡ kept_under self.old number (changed with t)) }
+    /// Changes the request with this transaction ID, if it is outstanding.
+    pub(crate) fn change(&mut self, transaction_id: TransactionId, with: Change)
+        ensures { MatchOption (finite.get self.old.outstanding transaction_id) (self.new ≡ self.old)
+            (λ t. self.new ≡ stored_under self.old transaction_id (changed with t)) }
     {
-        self.outstanding.change(number, with);
+        self.outstanding.change(transaction_id, with);
     }
 
-    /// Where the request of a number goes, and the algorithm of the last integrity attribute that it
-    /// shows, where it is outstanding.
-    pub(crate) fn told_of(
+    /// Returns the target of the request with this transaction ID and the algorithm of its last
+    /// visible integrity attribute, if the request is outstanding.
+    pub(crate) fn reported_of(
         &self,
-        number: TransactionId,
+        transaction_id: TransactionId,
     ) -> Option<(SocketAddr, Option<IntegrityAlgorithm>)>
         ensures { result ≡ option_map (λ (t : Transaction). (t.to, integrity_of t))
-            (finite.get self.now.outstanding number) }
+            (finite.get self.now.outstanding transaction_id) }
     {
-        match self.outstanding.get(number) {
+        match self.outstanding.get(transaction_id) {
             Some(transaction) => Some((transaction.to(), transaction.integrity())),
             None => None,
         }
     }
 
-    /// The number of the request of least number of which a transmission is due, where there is one.
+    /// Returns the least transaction ID of the requests of which a transmission is due, if any.
     pub(crate) fn due(&mut self, now: Instant) -> Option<TransactionId>
         ensures found { MatchOption result (NoneDue self.old now) (λ number. (t : Transaction)
             × IsLeast (is_due_of self.old now) self.old.outstanding number t) }
@@ -250,38 +261,42 @@ impl StunAgent {
         self.outstanding.first_due(now)
     }
 
-    /// Counts a transmission of the request of a number, where it is outstanding and one is left.
-    pub(crate) fn transmit(&mut self, number: TransactionId)
-        ensures { MatchOption (finite.get self.old.outstanding number) (self.new ≡ self.old)
+    /// Counts one transmission of the request with this transaction ID, if it is outstanding and a
+    /// transmission is left.
+    pub(crate) fn transmit(&mut self, transaction_id: TransactionId)
+        ensures { MatchOption (finite.get self.old.outstanding transaction_id) (self.new ≡ self.old)
             (λ t. self.new
-            ≡ kept_under self.old number (transmitted (is_tcp self.old.transport) t)) }
+            ≡ stored_under self.old transaction_id (transmitted (is_tcp self.old.transport) t)) }
     {
-        self.outstanding.transmit(number);
+        self.outstanding.transmit(transaction_id);
     }
 
-    /// Keeps a request as outstanding, in place of one of that number. Where memory is refused, nothing
-    /// changes.
+    /// Stores an outstanding request, replacing any with the same transaction ID. If an allocation
+    /// fails, nothing changes.
     pub(crate) fn keep_request(
         &mut self,
-        number: TransactionId,
+        transaction_id: TransactionId,
         bytes: &[u8],
         to: SocketAddr,
         now: Instant,
     ) -> Result<(), NoMemory>
         ensures ok { OnOk result (self.new ≡ record self.old {
-          outstanding = finite.insert self.old.outstanding number
-              (begun self.old bytes.now to now);
+          outstanding = finite.insert self.old.outstanding transaction_id
+              (started self.old bytes.now to now);
         }) }
         ensures err { OnErr result (self.new ≡ self.old) }
     {
         let bytes = Vec::from_slice(self.alloc, bytes)?;
         let transaction = Transaction::new(bytes, to, now, self.waits.copied());
-        self.outstanding.insert(number, transaction)?;
+        self.outstanding.insert(transaction_id, transaction)?;
         Ok(())
     }
 
-    /// Makes an address a validated one: from then on `is_validated_peer` answers true for it. Where memory
-    /// is refused, `NoMemory`, and nothing changes.
+    /// Marks an address as validated: from then on `is_validated_peer` returns `true` for it.
+    ///
+    /// # Errors
+    ///
+    /// - `NoMemory`: an allocation failed. Nothing changes.
     pub fn validated_peer(&mut self, addr: SocketAddr) -> Result<(), NoMemory>
         ensures ok { OnOk result
             (self.new ≡ record self.old { validated = finite.insert self.old.validated addr tt }) }
@@ -291,26 +306,27 @@ impl StunAgent {
         Ok(())
     }
 
-    /// Takes a transaction out, where there is one of that number.
-    pub(crate) fn take_out(&mut self, number: TransactionId)
+    /// Removes the transaction with this ID, if there is one.
+    pub(crate) fn take_out(&mut self, transaction_id: TransactionId)
         ensures { self.new
-            ≡ record self.old { outstanding = finite.remove self.old.outstanding number } }
+            ≡ record self.old { outstanding = finite.remove self.old.outstanding transaction_id } }
     {
-        self.outstanding.remove(number);
+        self.outstanding.remove(transaction_id);
     }
 
-    /// The least of the next moments, not earlier than now and not later than the longest wait.
-    fn next_moment(&mut self, now: Instant) -> Instant
+    /// Returns the earliest time at which there is something to do, but no earlier than `now` and
+    /// no later than the longest wait.
+    fn next_time(&mut self, now: Instant) -> Instant
         requires { NoneEnded self.old now }
         ensures next { IsNext self.old now result }
         ensures state { self.new ≡ self.old }
     {
         let most = hour_after(now);
-        self.outstanding.next_moment(now, most)
+        self.outstanding.next_time(now, most)
     }
 }
 
-/// Whether a transport is TCP.
+/// Returns whether a transport is TCP.
 fn goes_by_tcp(transport: TransportType) -> bool
     ensures { result ≡ is_tcp transport }
 {
@@ -320,9 +336,9 @@ fn goes_by_tcp(transport: TransportType) -> bool
     }
 }
 
-/// The moment at the end of the longest wait.
+/// Returns the time at the end of the longest wait.
 fn hour_after(now: Instant) -> Instant
-    ensures is { result ≡ moment_after now longest_wait }
+    ensures is { result ≡ time_after now longest_wait }
     ensures later { now ≤ result }
 {
     now.saturating_add(Duration::from_secs(LONGEST_WAIT))

@@ -1,4 +1,4 @@
-//! How an agent is made.
+//! The builder of an agent.
 
 ghost use Rattle.std.specs.Prelude.{◌≡◌, None, Some};
 ghost use Rattle.std.specs.Duration.{as_nanos};
@@ -14,8 +14,8 @@ use std::time::Duration;
 use stun_proto_transaction::waits::Waits;
 use stun_types_base::transport::TransportType;
 
-/// What an agent is made of, by `StunAgent::builder`. Contracts see the record `Agent`, with nothing
-/// outstanding and no validated address.
+/// The settings from which an agent is built, created by `StunAgent::builder`. Contracts see the
+/// record `Agent`, with nothing outstanding and no validated address.
 #[derive(Debug, Drop)]
 pub struct StunAgentBuilder {
     alloc: Global,
@@ -45,10 +45,14 @@ impl Model for StunAgentBuilder {
 }
 
 impl StunAgent {
-    /// An agent of a transport and its own address, to be completed. Over UDP it waits 500 ms for the
-    /// response to a request, and twice as long each time, without a greatest wait; it sends the request
-    /// seven times, and waits eight seconds behind the last. Over TCP it sends once, and gives up at the
-    /// same moment (RFC 8489, sections 6.2.1 and 6.2.2). It keeps the allocator.
+    /// Starts building an agent with a transport and the agent's own address. It stores the
+    /// allocator.
+    ///
+    /// The default waits are (RFC 8489, sections 6.2.1 and 6.2.2):
+    ///
+    /// - Over UDP a request is sent seven times. The first wait is 500 ms, each next one is twice
+    ///   as long without an upper limit, and the wait after the last transmission is eight seconds.
+    /// - Over TCP a request is sent once, and is given up at the same time as over UDP.
     pub fn builder(alloc: Global, transport: TransportType, local: SocketAddr) -> StunAgentBuilder
         ensures { result ≡ record {
           transport = transport;
@@ -71,7 +75,7 @@ impl StunAgent {
 }
 
 impl StunAgentBuilder {
-    /// The same with an address of the other side, which `StunAgent::remote_addr` answers then.
+    /// Sets the address of the other side, which `StunAgent::remote_addr` then returns.
     pub fn remote_addr(self, addr: SocketAddr) -> StunAgentBuilder
         ensures { result ≡ record self { remote = Some addr } }
     {
@@ -81,10 +85,15 @@ impl StunAgentBuilder {
         }
     }
 
-    /// The same with other waits for each new request. The first wait, `initial`, is behind the first
-    /// transmission; each next one is twice as long, and none is longer than `max`. A request is sent
-    /// `retransmits` times in all, at least once. `final_retransmit_timeout` is waited behind the last,
-    /// and may be longer than `max`. Over TCP a request is sent once, and the end is the same.
+    /// Sets the waits of each new request:
+    ///
+    /// - `initial` is the wait after the first transmission. Each next wait is twice as long, but
+    ///   none is longer than `max`.
+    /// - `retransmits` is how many times a request is sent in all; it is sent at least once.
+    /// - `final_retransmit_timeout` is the wait after the last transmission. It may be longer than
+    ///   `max`.
+    ///
+    /// Over TCP a request is sent once, and is given up at the same time as over UDP.
     pub fn request_retransmits(
         self,
         initial: Duration,
@@ -107,7 +116,8 @@ impl StunAgentBuilder {
         }
     }
 
-    /// The agent: nothing is outstanding, and no address is validated. It holds no memory yet.
+    /// Builds the agent, with no outstanding request and no validated address. It allocates nothing
+    /// yet.
     pub fn build(self) -> StunAgent
         ensures { result ≡ self }
     {

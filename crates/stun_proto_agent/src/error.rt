@@ -1,36 +1,37 @@
-//! Why an agent refuses.
+//! The errors of an agent's calls.
 
 use std::alloc::AllocError;
 use stun_types_base::memory::NoMemory;
 use stun_types_wire::error::{StunParseError, StunWriteError};
 use thiserror::Error;
 
-/// Why an agent refuses a call. A refused call changes nothing.
+/// Why a call of an agent is refused. A refused call changes nothing.
 #[derive(Clone, Copy, Debug, PartialEq, Eq, Error)]
 pub enum StunError {
-    /// `send_request`: a request of this number is outstanding.
+    /// `send_request`: a request with this transaction ID is outstanding.
     #[error("already in progress")]
     AlreadyInProgress,
-    /// No call of the agent answers this.
+    /// No call of the agent returns this.
     #[error("resource not found")]
     ResourceNotFound,
-    /// No call of the agent answers this.
+    /// No call of the agent returns this.
     #[error("timed out")]
     TimedOut,
-    /// The message is of a class that the call doesn't take: `send` takes no request, and `send_request`
-    /// nothing else.
+    /// The call does not accept a message of this class: `send` accepts no request, `send_request`
+    /// accepts only requests.
     #[error("protocol violation")]
     ProtocolViolation,
-    /// No call of the agent answers this.
+    /// No call of the agent returns this.
     #[error("aborted")]
     Aborted,
-    /// `send` and `send_request`: the bytes are no message, for the cause that parsing them has.
+    /// `send` and `send_request`: the bytes are not a STUN message. The value is the error of
+    /// parsing them.
     #[error("the message can't be parsed")]
     ParseError(StunParseError),
-    /// No call of the agent answers this.
+    /// No call of the agent returns this.
     #[error("the message can't be written")]
     WriteError(StunWriteError),
-    /// Memory was refused, and no other refusal holds.
+    /// An allocation failed, and no other refusal applies.
     #[error("no memory")]
     NoMemory,
 }

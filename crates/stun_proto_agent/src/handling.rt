@@ -1,4 +1,4 @@
-//! What reaches an agent.
+//! Handling of received messages.
 
 ghost use Rattle.std.specs.Prelude.{◌≡◌, IfOk, OnErr, OnOk, true};
 ghost use Rattle.stun_proto_agent.specs.Handling.{after_message, ends_one, is_taken};
@@ -10,14 +10,22 @@ use stun_types_base::memory::NoMemory;
 use stun_types_message::parsed::Message;
 
 impl StunAgent {
-    /// Whether a message that came from an address is one to look at (RFC 8489, sections 6.3.1 to 6.3.4).
-    /// A response is, where a request of its number is outstanding, whatever address it came from: the
-    /// transaction ends, and the address is a validated one from then on. Another response is not, and
-    /// changes nothing; so the same response is taken up once. A request or an indication is, and changes
-    /// nothing. The agent looks at class and number alone: authentication is the caller's.
+    /// Handles a received message, and returns whether the caller should process it (RFC 8489,
+    /// sections 6.3.1 to 6.3.4):
     ///
-    /// Where memory is refused, which only a response to a request that is outstanding can meet,
-    /// `NoMemory`, and nothing changes.
+    /// - A response to an outstanding request: `true`, whatever address it came from. The
+    ///   transaction ends, and the address is validated from then on.
+    /// - Any other response: `false`, and nothing changes. So a response that is received twice is
+    ///   accepted once.
+    /// - A request or an indication: `true`, and nothing changes.
+    ///
+    /// The agent checks only the class and the transaction ID. Authentication is left to the
+    /// caller.
+    ///
+    /// # Errors
+    ///
+    /// - `NoMemory`: an allocation failed. It occurs only for a response to an outstanding request.
+    ///   Nothing changes.
     pub fn handle_stun_message(
         &mut self,
         msg: &Message<'_>,
@@ -40,7 +48,7 @@ impl StunAgent {
         Ok(true)
     }
 
-    /// The same as `handle_stun_message`, at a moment, which makes no difference.
+    /// Handles a received message exactly as `handle_stun_message` does. The time is ignored.
     pub fn handle_stun_message_with_time(
         &mut self,
         msg: &Message<'_>,

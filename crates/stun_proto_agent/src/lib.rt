@@ -1,4 +1,5 @@
-//! The agent of STUN requests, and the clock that it goes by. It performs no input or output.
+//! The STUN agent: tracks outstanding requests, as time is passed to it. It performs no input or
+//! output.
 #![tactic(auto)]
 
 pub mod agent;

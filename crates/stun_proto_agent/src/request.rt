@@ -1,11 +1,11 @@
-//! A request that is outstanding, looked at and changed.
+//! Handles that read and change an outstanding request.
 
 ghost use Rattle.std.specs.Prelude.{◌≡◌, MatchOption, None, Some, option_map};
 ghost use Rattle.std.specs.Borrow.{RestsIfNone, sem};
 ghost use Rattle.std.specs.Duration.{as_nanos};
 ghost use Rattle.std.specs.FinMap as finite;
 ghost use Rattle.stun_proto_agent.specs.RequestLending.{LendsAgent};
-ghost use Rattle.stun_proto_agent.specs.Requests.{IsChangedRequest, IsTold};
+ghost use Rattle.stun_proto_agent.specs.Requests.{IsChangedRequest, IsReported};
 ghost use Rattle.stun_proto_agent.specs.contracts.agent.StunAgent.{the_row};
 ghost use Rattle.stun_proto_transaction.specs.declared.transaction.Change.TheVariants.{Cancel, CancelRetransmissions, ConfigureTimeout};
 
@@ -17,7 +17,8 @@ use stun_proto_transaction::waits::Waits;
 use stun_types_wire::algorithm::IntegrityAlgorithm;
 use stun_types_wire::transaction::TransactionId;
 
-/// A request that is outstanding, to be looked at. It borrows the agent, so that nothing changes meanwhile.
+/// A read-only handle to an outstanding request. It borrows the agent, so nothing changes while it
+/// exists.
 #[derive(Debug, Drop)]
 pub struct StunRequest<'a> {
     agent: &'a StunAgent,
@@ -25,9 +26,9 @@ pub struct StunRequest<'a> {
     integrity: Option<IntegrityAlgorithm>,
 }
 
-/// A request that was outstanding when this was made, to be changed. What it says of address and algorithm
-/// is as it was then. Where the request no longer is outstanding, as after a `poll` of `mut_agent()`, the
-/// calls that change it do nothing.
+/// A handle to change a request that was outstanding when the handle was created. Its address and
+/// algorithm are those of that time. If the request is no longer outstanding, for instance after a
+/// `poll` of `mut_agent()`, the calls that change it do nothing.
 #[derive(Drop)]
 pub struct StunRequestMut<'a> {
     agent: &'a mut StunAgent,
@@ -37,13 +38,14 @@ pub struct StunRequestMut<'a> {
 }
 
 impl StunAgent {
-    /// The request of a number, to be looked at; `None`, where none of that number is outstanding.
+    /// Returns a read-only handle to the request with this transaction ID, or `None` if it is not
+    /// outstanding.
     pub fn request_transaction(&self, transaction_id: TransactionId) -> Option<StunRequest<'_>>
         ensures { MatchOption result (finite.get self.now.outstanding transaction_id ≡ None)
             (λ request. (request.agent.now ≡ self.now)
-            × IsTold self.now transaction_id request.peer request.integrity) }
+            × IsReported self.now transaction_id request.peer request.integrity) }
     {
-        let (peer, integrity) = self.told_of(transaction_id)?;
+        let (peer, integrity) = self.reported_of(transaction_id)?;
         Some(StunRequest {
             agent: self,
             peer,
@@ -51,8 +53,8 @@ impl StunAgent {
         })
     }
 
-    /// The request of a number, to be changed; `None`, where none of that number is outstanding. What is
-    /// changed through it is changed of this agent.
+    /// Returns a handle to change the request with this transaction ID, or `None` if it is not
+    /// outstanding. Changes through the handle change this agent.
     pub fn mut_request_transaction(
         &mut self,
         transaction_id: TransactionId,
@@ -62,12 +64,13 @@ impl StunAgent {
             (λ request. (request.agent.now ≡ self.old)
             × (request.agent.ghost_name ≡ self.entry.ghost_name)
             × (request.number ≡ transaction_id)
-            × IsTold self.old transaction_id request.peer request.integrity) }
-        // The agent ends as the one that the request holds.
+            × IsReported self.old transaction_id request.peer request.integrity) }
+        // When the handle ends, the agent has the last value that the handle gave it; if the result
+        // is `None`, it is unchanged.
         ensures* ends { sem 𝓛 (RestsIfNone the_row self.entry (λ request. request.agent.ghost_name)
             result (λ new. new ≡ self.old)) }
     {
-        let (peer, integrity) = self.told_of(transaction_id)?;
+        let (peer, integrity) = self.reported_of(transaction_id)?;
         Some(StunRequestMut {
             agent: self,
             number: transaction_id,
@@ -78,22 +81,22 @@ impl StunAgent {
 }
 
 impl<'a> StunRequest<'a> {
-    /// The address that the request goes to.
+    /// Returns the address to which the request is sent.
     pub fn peer_address(&self) -> SocketAddr
         ensures { result ≡ self.now.peer }
     {
         self.peer
     }
 
-    /// The algorithm of the last integrity attribute that the request shows (RFC 8489, sections 14.5 and
-    /// 14.6); `None`, where it shows none.
+    /// Returns the algorithm of the request's last visible integrity attribute (RFC 8489, sections
+    /// 14.5 and 14.6), or `None` if it has none.
     pub fn integrity(&self) -> Option<IntegrityAlgorithm>
         ensures { result ≡ self.now.integrity }
     {
         self.integrity
     }
 
-    /// The agent that the request is outstanding at.
+    /// Returns the agent of the request.
     pub fn agent(&self) -> &'a StunAgent
         ensures { result.now ≡ self.now.agent.now }
     {
@@ -102,30 +105,30 @@ impl<'a> StunRequest<'a> {
 }
 
 impl<'a> StunRequestMut<'a> {
-    /// The address that the request goes to, as it was when this was made.
+    /// Returns the address to which the request was sent when this handle was created.
     pub fn peer_address(&self) -> SocketAddr
         ensures { result ≡ self.now.peer }
     {
         self.peer
     }
 
-    /// The algorithm of the last integrity attribute that the request shows (RFC 8489, sections 14.5 and
-    /// 14.6), as it was when this was made; `None`, where it showed none.
+    /// Returns the algorithm of the request's last visible integrity attribute (RFC 8489, sections
+    /// 14.5 and 14.6) when this handle was created, or `None` if it had none.
     pub fn integrity(&self) -> Option<IntegrityAlgorithm>
         ensures { result ≡ self.now.integrity }
     {
         self.integrity
     }
 
-    /// The agent, as it is now: with what was changed through this request.
+    /// Returns the agent in its present state, including the changes made through this handle.
     pub fn agent(&self) -> &StunAgent
         ensures { result.now ≡ self.now.agent.now }
     {
         self.agent
     }
 
-    /// The agent, to be changed. Whatever is changed of it, the request keeps its number, and what it
-    /// says of address and algorithm.
+    /// Returns the agent for changes. Whatever is changed, this handle keeps its transaction ID,
+    /// address and algorithm.
     pub fn mut_agent(&mut self) -> &mut StunAgent
         ensures* writes_back { sem 𝓛 (LendsAgent self.entry result) }
         ensures value { result.now ≡ self.old.agent.now }
@@ -133,9 +136,9 @@ impl<'a> StunRequestMut<'a> {
         self.agent
     }
 
-    /// Nothing more of the request is sent (RFC 8489, section 6.2.1). Its end is the same: until then it
-    /// is outstanding, and a response to it is taken up. Where it is no longer outstanding, nothing
-    /// changes.
+    /// Stops retransmitting the request (RFC 8489, section 6.2.1). It still ends at the same time;
+    /// until then it is outstanding, and a response to it is accepted. If it is no longer
+    /// outstanding, nothing changes.
     pub fn cancel_retransmissions(&mut self)
         ensures { IsChangedRequest self.old CancelRetransmissions self.new }
     {
@@ -143,20 +146,24 @@ impl<'a> StunRequestMut<'a> {
             .change(self.number, Change::CancelRetransmissions);
     }
 
-    /// Nothing more of the request is sent, and it has ended. It is outstanding until `poll` answers its
-    /// number as `TransactionCancelled`, or a response comes before. Where it is no longer outstanding,
-    /// nothing changes.
+    /// Cancels the request: it is not retransmitted, and its transaction has ended. It stays
+    /// outstanding until `poll` reports it as `TransactionCancelled`, or a response comes first. If
+    /// it is no longer outstanding, nothing changes.
     pub fn cancel(&mut self)
         ensures { IsChangedRequest self.old Cancel self.new }
     {
         self.agent.change(self.number, Change::Cancel);
     }
 
-    /// How the request waits from now on (RFC 8489, section 6.2.1). The first wait, `initial_rto`, is behind
-    /// the first transmission; each next one is twice as long, without a greatest wait. The request is
-    /// sent `retransmits` times in all, at least once. `last_retransmit_timeout` is waited behind the last.
-    /// The waits count from the first sending, and the transmissions made so far count too. Where the
-    /// request is no longer outstanding, nothing changes.
+    /// Sets the waits of the request from now on (RFC 8489, section 6.2.1):
+    ///
+    /// - `initial_rto` is the wait after the first transmission. Each next wait is twice as long,
+    ///   without an upper limit.
+    /// - `retransmits` is how many times the request is sent in all; it is sent at least once.
+    /// - `last_retransmit_timeout` is the wait after the last transmission.
+    ///
+    /// The waits count from the first transmission, and the transmissions made so far count as
+    /// well. If the request is no longer outstanding, nothing changes.
     pub fn configure_timeout(
         &mut self,
         initial_rto: Duration,
@@ -175,9 +182,9 @@ impl<'a> StunRequestMut<'a> {
             .change(self.number, Change::ConfigureTimeout(waits));
     }
 
-    /// How the request waits from now on, as by `configure_timeout`, but no wait between two transmissions
-    /// is longer than the greatest one, `max_rto`. The wait behind the last transmission may be longer.
-    /// Where the request is no longer outstanding, nothing changes.
+    /// Sets the waits of the request from now on as `configure_timeout` does, with `max_rto` as the
+    /// upper limit of a wait between two transmissions. The wait after the last transmission may be
+    /// longer. If the request is no longer outstanding, nothing changes.
     pub fn configure_timeout_with_max(
         &mut self,
         initial_rto: Duration,

@@ -1,4 +1,4 @@
-//! What an agent sends.
+//! Sending of messages and data.
 
 ghost use Rattle.std.specs.Prelude.{◌≡◌, ◌≢◌, ⊤, IfOk, MatchOption, MatchResult, None, Some, OnOk, OnErr, is_some};
 ghost use Rattle.std.specs.Borrow.{sem};
@@ -7,7 +7,7 @@ ghost use Rattle.stun_proto_agent.specs.AgentRest.{AgentRests};
 ghost use Rattle.stun_types_base.specs.Data.{data_bytes};
 ghost use Rattle.stun_types_wire.specs.Grammar.{number_at};
 ghost use Rattle.stun_types_base.specs.Refusals.{RefusesFor};
-ghost use Rattle.stun_proto_agent.specs.Sending.{IsSent, begun, is_request, request_refusal, send_refusal, with_request};
+ghost use Rattle.stun_proto_agent.specs.Sending.{IsSent, started, is_request, request_refusal, send_refusal, with_request};
 
 use crate::agent::StunAgent;
 use crate::error::StunError;
@@ -20,8 +20,8 @@ use stun_types_wire::class::MessageClass;
 use stun_types_wire::transaction::TransactionId;
 
 impl StunAgent {
-    /// Bytes that go to an address as they are, by the agent's transport and from its own address. They are
-    /// not looked at, and nothing is kept of them.
+    /// Addresses data to `to`, over the agent's transport and from its own address. The bytes are
+    /// not inspected, and nothing is stored.
     pub fn send_data<T>(&self, bytes: T, to: SocketAddr) -> Transmit<T>
         ensures { result ≡ record {
           bytes = bytes;
@@ -33,9 +33,13 @@ impl StunAgent {
         Transmit::new(bytes, self.transport(), self.local_addr(), to)
     }
 
-    /// A response or an indication that goes to an address, once (RFC 8489, sections 6.2.1 and 6.3.1.2).
-    /// Nothing is kept of it. Refused with `ParseError` where the bytes are no message, and with
-    /// `ProtocolViolation` where they are a request.
+    /// Addresses a response or an indication to `to`, to be sent once (RFC 8489, sections 6.2.1 and
+    /// 6.3.1.2). Nothing is stored.
+    ///
+    /// # Errors
+    ///
+    /// 1. `ParseError`: the bytes are not a STUN message.
+    /// 2. `ProtocolViolation`: the message is a request.
     pub fn send<T: AsSlice<u8> + Drop>(
         &self,
         msg: T,
@@ -55,13 +59,18 @@ impl StunAgent {
         Ok(self.send_data(msg, to))
     }
 
-    /// A request that goes to an address, and that is outstanding from then on (RFC 8489, section 6.2): the
-    /// answer is its first transmission, which counts as made at `now`. The bytes are kept, and
-    /// `poll_transmit` answers them again when they are due.
+    /// Starts a transaction: returns the first transmission of a request to `to`, which counts as
+    /// made at `now` (RFC 8489, section 6.2). The request is outstanding from then on. Its bytes
+    /// are stored, and `poll_transmit` returns them when a retransmission is due.
     ///
-    /// Refused with `ParseError` where the bytes are no message, with `ProtocolViolation` where they are
-    /// no request, and with `AlreadyInProgress` where a request of that number is outstanding, in this
-    /// order. Where memory is refused, and nothing else is, `NoMemory`. A refusal changes nothing.
+    /// # Errors
+    ///
+    /// A refusal changes nothing.
+    ///
+    /// 1. `ParseError`: the bytes are not a STUN message.
+    /// 2. `ProtocolViolation`: the message is not a request.
+    /// 3. `AlreadyInProgress`: a request with this transaction ID is outstanding.
+    /// 4. `NoMemory`: an allocation failed.
     pub fn send_request<'a, T: AsSlice<u8> + Drop>(
         &'a mut self,
         msg: T,
@@ -79,7 +88,8 @@ impl StunAgent {
         Ok(self.first_transmission(number, to))
     }
 
-    /// Whether bytes are a request whose number is not outstanding. Refused as `send_request` is.
+    /// Checks that bytes are a request whose transaction ID is not outstanding, and returns the ID.
+    /// Fails as `send_request` does.
     #[tactic(auto, unfolding(crate::specs::Sending::request_refusal))]
     fn check_request(&self, bytes: &[u8]) -> Result<TransactionId, StunError>
         ensures { MatchResult result (λ number. (request_refusal self.now bytes.now ≡ None)
@@ -98,16 +108,16 @@ impl StunAgent {
         Ok(number)
     }
 
-    /// The transmission of a request that is outstanding.
-    fn first_transmission(&self, number: TransactionId, to: SocketAddr) -> Transmit<&[u8]>
-        ensures { MatchOption (finite.get self.now.outstanding number) ⊤
+    /// Returns the transmission of an outstanding request.
+    fn first_transmission(&self, transaction_id: TransactionId, to: SocketAddr) -> Transmit<&[u8]>
+        ensures { MatchOption (finite.get self.now.outstanding transaction_id) ⊤
             (λ t. IsSent self.now t.bytes to result) }
     {
-        self.send_data(self.bytes_of(number), to)
+        self.send_data(self.bytes_of(transaction_id), to)
     }
 }
 
-/// Whether bytes are a message that waits for no response. Refused as `send` is.
+/// Checks that bytes are a message that awaits no response. Fails as `send` does.
 #[tactic(auto, unfolding(crate::specs::Sending::send_refusal))]
 fn check_sent(bytes: &[u8]) -> Result<(), StunError>
     ensures { MatchResult result (λ _. send_refusal bytes.now ≡ None)
@@ -120,7 +130,7 @@ fn check_sent(bytes: &[u8]) -> Result<(), StunError>
     Ok(())
 }
 
-/// Whether a message is a request.
+/// Returns whether a message is a request.
 fn is_request(message: &Message<'_>) -> bool
     ensures { result ≡ is_request message.now }
 {

@@ -1,4 +1,4 @@
-//! What is due to be sent again.
+//! Retransmission of outstanding requests.
 
 ghost use Rattle.std.specs.Prelude.{◌≡◌, MatchOption, None, Some};
 ghost use Rattle.std.specs.Borrow.{sem};
@@ -6,7 +6,7 @@ ghost use Rattle.std.specs.FinMap as finite;
 ghost use Rattle.stun_proto_agent.specs.AgentRest.{AgentRests};
 ghost use Rattle.stun_proto_transaction.specs.Agents.{Transaction, transmitted};
 ghost use Rattle.stun_proto_transaction.specs.Least.{IsLeast};
-ghost use Rattle.stun_proto_agent.specs.Sending.{IsAfterTransmit, IsDueSent, IsSent, NoneDue, is_due_of, kept_under};
+ghost use Rattle.stun_proto_agent.specs.Sending.{IsAfterTransmit, IsDueSent, IsSent, NoneDue, is_due_of, stored_under};
 ghost use Rattle.stun_proto_agent.specs.State.{is_tcp};
 
 use crate::agent::StunAgent;
@@ -15,14 +15,18 @@ use stun_types_base::transmit::Transmit;
 use stun_types_wire::transaction::TransactionId;
 
 impl StunAgent {
-    /// What is due to be sent again at a moment (RFC 8489, section 6.2.1): the request of least number of
-    /// which a transmission is left whose moment isn't later, with its own bytes, to where it went. It
-    /// counts as made. One call answers one transmission: call it again until it answers `None`, which
-    /// means that none is due and that nothing has changed.
+    /// Returns one retransmission that is due at `now`, and counts it as made (RFC 8489, section
+    /// 6.2.1). If several requests have one due, the one with the least transaction ID is returned,
+    /// with its own bytes and its own target. Call it again until it returns `None`: then none is
+    /// due, and nothing has changed.
     ///
-    /// With nothing due it takes no walk over the outstanding requests, except once over their moments where
-    /// the earliest has come, and its request has ended or was delayed meanwhile. Where one is due, it walks
-    /// over the moments up to that one, and the next call goes on from there.
+    /// # Cost
+    ///
+    /// - If nothing is due, the outstanding requests are not scanned. The exception is when the
+    ///   earliest time has come and its request was ended or delayed meanwhile: then their times
+    ///   are scanned once.
+    /// - If one is due, the times up to that one are scanned, and the next call continues from
+    ///   there.
     pub fn poll_transmit<'a>(&'a mut self, now: Instant) -> Option<Transmit<&'a [u8]>>
         ensures sent { MatchOption result (NoneDue self.old now) (IsDueSent self.old now) }
         ensures* state { sem 𝓛 (AgentRests self.entry (λ new. IsAfterTransmit self.old now new)) }
@@ -32,13 +36,13 @@ impl StunAgent {
         self.transmission(number)
     }
 
-    /// What goes out for the request of a number, where it is outstanding.
-    fn transmission(&self, number: TransactionId) -> Option<Transmit<&[u8]>>
-        ensures { MatchOption result (finite.get self.now.outstanding number ≡ None)
-            (λ sent. (t : Transaction) × (finite.get self.now.outstanding number ≡ Some t)
+    /// Returns the transmission of the request with this transaction ID, if it is outstanding.
+    fn transmission(&self, transaction_id: TransactionId) -> Option<Transmit<&[u8]>>
+        ensures { MatchOption result (finite.get self.now.outstanding transaction_id ≡ None)
+            (λ sent. (t : Transaction) × (finite.get self.now.outstanding transaction_id ≡ Some t)
             × IsSent self.now t.bytes t.to sent) }
     {
-        let to = self.target_of(number)?;
-        Some(self.send_data(self.bytes_of(number), to))
+        let to = self.target_of(transaction_id)?;
+        Some(self.send_data(self.bytes_of(transaction_id), to))
     }
 }

@@ -1,4 +1,5 @@
--- What is kept of supported algorithms: there is room for each, and what is told of them is kept too.
+-- How supported algorithms are stored: there is a position for each, and their PASSWORD-ALGORITHMS value is
+-- stored too.
 use Rattle.std.proofs.Common.{◌≡◌, ◌≢◌, ℕ, zero, suc, ◌+◌, ◌*◌, ◌<◌, ◌≤◌, Bool, true, false, List, [], ◌∷◌, ◌++◌, length, take, drop, get_or, slice_set, refl, sym, ap, ◌∙◌, subst, arith, drop-drop}
 use Rattle.std.specs.Prelude.{◌||◌}
 use Rattle.std.specs.List.{IsDistinct, AllByRecursion, list_any}
@@ -9,7 +10,7 @@ use Rattle.stun_types_wire.specs.declared.algorithm.IntegrityAlgorithm.TheVarian
 use Rattle.stun_types_wire.specs.Strength.{strength}
 use Rattle.stun_types_auth_attributes.specs.Entries.{entries, entry}
 use Rattle.stun_proto_auth.specs.SupportedAlgorithms.{is_same_algorithm, list_of, number_by}
-use Rattle.stun_proto_auth.specs.KeptAlgorithms.{AreKept, blanks}
+use Rattle.stun_proto_auth.specs.StoredAlgorithms.{AreStored, blanks}
 
 -- ---- none twice
 
@@ -20,12 +21,13 @@ neither false b h = (refl, h)
 pub others : (a b : IntegrityAlgorithm) → is_same_algorithm a b ≡ false → is_same_algorithm b a ≡ false
 others a b h = ne_eqb (strength b) (strength a) (λ same. eqb-false (strength a) (strength b) h (sym same))
 
--- no algorithm is one that is put behind them
+-- If an algorithm differs from all of a list and from one more, it differs from all of the list with that one
+-- appended.
 all_others : (x a : IntegrityAlgorithm) (xs : List IntegrityAlgorithm) → AllByRecursion (λ y. is_same_algorithm x y ≡ false) xs → is_same_algorithm x a ≡ false → AllByRecursion (λ y. is_same_algorithm x y ≡ false) (xs ++ a ∷ [])
 all_others x a [] all h = (h, tt)
 all_others x a (y ∷ xs) all h = (all.0, all_others x a xs all.1 h)
 
--- another algorithm behind some that are distinct
+-- Appending another algorithm to distinct ones leaves them distinct.
 pub more_distinct : (xs : List IntegrityAlgorithm) (a : IntegrityAlgorithm) → IsDistinct is_same_algorithm xs → list_any (is_same_algorithm a) xs ≡ false → IsDistinct is_same_algorithm (xs ++ a ∷ [])
 unfolding IsDistinct
 more_distinct [] a d h = (tt, tt)
@@ -62,31 +64,31 @@ few (x ∷ y ∷ z ∷ w ∷ rest) d =
     absurd (no_four (strength x) (strength y) (strength z) (strength w) (low x) (low y) (low z) (low w) (high x) (high y) (high z) (high w)
     (apart x y d.0.0) (apart x z d.0.1.0) (apart x w d.0.1.1.0) (apart y z d.1.0.0) (apart y w d.1.0.1.0) (apart z w d.1.1.0.0))
 
--- ---- what is kept
+-- ---- what is stored
 
--- one algorithm
-pub one_kept : (a : IntegrityAlgorithm) (told : List ℕ) → told ≡ list_of (a ∷ Sha1 ∷ Sha1 ∷ []) → AreKept (a ∷ Sha1 ∷ Sha1 ∷ []) told 1
+-- The stored form of one algorithm.
+pub one_stored : (a : IntegrityAlgorithm) (decoded : List ℕ) → decoded ≡ list_of (a ∷ Sha1 ∷ Sha1 ∷ []) → AreStored (a ∷ Sha1 ∷ Sha1 ∷ []) decoded 1
 unfolding IsDistinct
-one_kept a told e = record { size = refl; some = omega arith; within = omega arith; distinct = (tt, tt); rest = refl; entries = e }
+one_stored a decoded e = record { size = refl; some = omega arith; within = omega arith; distinct = (tt, tt); rest = refl; entries = e }
 
--- there is room for an algorithm that isn't kept
-pub has_room : (xs : List IntegrityAlgorithm) (told : List ℕ) (n : ℕ) (a : IntegrityAlgorithm) → AreKept xs told n → list_any (is_same_algorithm a) (take n xs) ≡ false → n < 3
-has_room xs told n a k h =
+-- There is a position for an algorithm that is not in the list.
+pub has_room : (xs : List IntegrityAlgorithm) (decoded : List ℕ) (n : ℕ) (a : IntegrityAlgorithm) → AreStored xs decoded n → list_any (is_same_algorithm a) (take n xs) ≡ false → n < 3
+has_room xs decoded n a k h =
     let long : length (take n xs) ≡ n = length-take-le n xs k.within in
     let most : length (take n xs ++ a ∷ []) ≤ 3 = few (take n xs ++ a ∷ []) (more_distinct (take n xs) a k.distinct h) in
     omega (arith, length-append (take n xs) (a ∷ []))
 
--- it is put behind the others
-pub one_more : (xs : List IntegrityAlgorithm) (told : List ℕ) (n : ℕ) (a : IntegrityAlgorithm) → AreKept xs told n → list_any (is_same_algorithm a) (take n xs) ≡ false → take (n + 1) (slice_set xs n a) ≡ take n xs ++ a ∷ []
-one_more xs told n a k h =
+-- It is appended to the others.
+pub one_more : (xs : List IntegrityAlgorithm) (decoded : List ℕ) (n : ℕ) (a : IntegrityAlgorithm) → AreStored xs decoded n → list_any (is_same_algorithm a) (take n xs) ≡ false → take (n + 1) (slice_set xs n a) ≡ take n xs ++ a ∷ []
+one_more xs decoded n a k h =
     let size : length xs ≡ 3 = k.size in
-    let below : n < length xs = omega (arith, has_room xs told n a k h) in
+    let below : n < length xs = omega (arith, has_room xs decoded n a k h) in
     take_more_set xs n a below
 
--- what is kept then
-pub more_kept : (xs : List IntegrityAlgorithm) (old new : List ℕ) (n m : ℕ) (a : IntegrityAlgorithm) → AreKept xs old n → m ≡ n → list_any (is_same_algorithm a) (take n xs) ≡ false
-    → new ≡ list_of (slice_set xs m a) → AreKept (slice_set xs m a) new (n + 1)
-more_kept xs old new n m a k is h e = rw is (
+-- The stored form afterwards.
+pub more_stored : (xs : List IntegrityAlgorithm) (old new : List ℕ) (n m : ℕ) (a : IntegrityAlgorithm) → AreStored xs old n → m ≡ n → list_any (is_same_algorithm a) (take n xs) ≡ false
+    → new ≡ list_of (slice_set xs m a) → AreStored (slice_set xs m a) new (n + 1)
+more_stored xs old new n m a k is h e = rw is (
     let size : length xs ≡ 3 = k.size in
     let below : n < length xs = omega (arith, has_room xs old n a k h) in
     record {
@@ -98,28 +100,28 @@ more_kept xs old new n m a k is h e = rw is (
       entries = rw is at e;
     })
 
--- one algorithm more
-pub ruleset adding = (has_room, one_more, more_kept)
+-- Appending an algorithm.
+pub ruleset adding = (has_room, one_more, more_stored)
 
--- ---- what is told
+-- ---- what is reported
 
 four_more : (n : ℕ) → 4 * suc n ≡ suc (suc (suc (suc (4 * n))))
 four_more n = omega arith
 
--- what is told of those at the front stands at the front
-pub front_told : (xs : List IntegrityAlgorithm) (n : ℕ) → take (4 * n) (list_of xs) ≡ list_of (take n xs)
+-- The entries of the first `n` algorithms are the first 4 `n` bytes of the value.
+pub head_decoded : (xs : List IntegrityAlgorithm) (n : ℕ) → take (4 * n) (list_of xs) ≡ list_of (take n xs)
 unfolding entries
-front_told [] zero = refl
-front_told [] (suc n) = rw (four_more n) refl
-front_told (x ∷ xs) zero = refl
-front_told (x ∷ xs) (suc n) = rw (four_more n) (ap (λ (bytes : List ℕ). entry (number_by x) ++ bytes) (front_told xs n))
+head_decoded [] zero = refl
+head_decoded [] (suc n) = rw (four_more n) refl
+head_decoded (x ∷ xs) zero = refl
+head_decoded (x ∷ xs) (suc n) = rw (four_more n) (ap (λ (bytes : List ℕ). entry (number_by x) ++ bytes) (head_decoded xs n))
 
--- what is told of three
-pub three_told : (xs : List IntegrityAlgorithm) (d : IntegrityAlgorithm) → length xs ≡ 3
+-- The value that lists three algorithms.
+pub three_decoded : (xs : List IntegrityAlgorithm) (d : IntegrityAlgorithm) → length xs ≡ 3
     → entry (number_by (get_or xs 0 d)) ++ (entry (number_by (get_or xs 1 d)) ++ entry (number_by (get_or xs 2 d))) ≡ list_of xs
 unfolding entries
-three_told (x ∷ y ∷ z ∷ []) d h = refl
-three_told [] d h = absurd (omega arith)
-three_told (x ∷ []) d h = absurd (omega arith)
-three_told (x ∷ y ∷ []) d h = absurd (omega arith)
-three_told (x ∷ y ∷ z ∷ w ∷ xs) d h = absurd (omega arith)
+three_decoded (x ∷ y ∷ z ∷ []) d h = refl
+three_decoded [] d h = absurd (omega arith)
+three_decoded (x ∷ []) d h = absurd (omega arith)
+three_decoded (x ∷ y ∷ []) d h = absurd (omega arith)
+three_decoded (x ∷ y ∷ z ∷ w ∷ xs) d h = absurd (omega arith)

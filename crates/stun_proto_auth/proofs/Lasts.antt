@@ -1,4 +1,4 @@
--- The last attribute of a type, one attribute after another.
+-- The last attribute of a type, searched one attribute after another.
 use Rattle.std.proofs.Common.{◌≡◌, refl}
 use Rattle.std.specs.Prelude.{Option, Some, None}
 use Rattle.std.specs.Option.{option_or}
@@ -9,5 +9,5 @@ pub last_step : (later own last : Option Attr) → option_or (option_or later ow
 last_step None own last = refl
 last_step (Some a) own last = refl
 
--- one attribute more
+-- One step of the search.
 pub ruleset steps = (map_numbered, last_step)

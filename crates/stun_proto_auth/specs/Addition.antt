@@ -1,5 +1,5 @@
--- What is added to a message, the calls that add it, and why it is not added (RFC 8489, sections 9.1,
--- 9.2 and 14).
+-- What signing adds to a message, the calls that add it, and why it is refused (RFC 8489, sections 9.1, 9.2
+-- and 14).
 use Rattle.std.specs.Prelude.{ℕ, ◌*◌, List, [], ◌∷◌, ◌++◌, map, Option, Some, None}
 use Rattle.std.specs.Option.{option_or}
 use Rattle.stun_types_wire.specs.declared.error.StunWriteError.{StunWriteError}
@@ -17,43 +17,43 @@ use Rattle.stun_types_add.specs.Calls.{Add, Ordinary, Integrity, after_calls}
 
 -- ---- what is added
 
--- one attribute that is to be added: its type, how many bytes its value has at most, and the value
+-- An attribute to be added: its type, the maximum length of its value in bytes, and the value.
 pub record PartOf : Type 0 where
   pub kind : ℕ
   pub most : ℕ
   pub value : List ℕ
 
--- what is added to a message: parts, and then, where there is a key, the integrity attribute
+-- What is added to a message: the parts and then, if there is a key, the integrity attribute.
 pub record Addition : Type 0 where
   pub parts : List PartOf
   pub signer : Option Key
 
--- nothing is added
+-- The empty addition.
 abbrev pub no_addition : Addition
 no_addition = record { parts = []; signer = None }
 
--- how many bytes tell one password algorithm: its number, and how long its parameters are (RFC 8489,
--- sections 14.11 and 14.12)
+-- The size in bytes of one password algorithm's entry: its number and the length of its parameters (RFC 8489,
+-- sections 14.11 and 14.12).
 abbrev pub password_entry_length : ℕ
 password_entry_length = 4
 
--- USERNAME (RFC 8489, section 14.3)
+-- USERNAME (RFC 8489, section 14.3).
 abbrev pub username_of : List ℕ → PartOf
 username_of name = record { kind = username_kind; most = longest_username; value = name }
 
--- USERHASH (RFC 8489, section 14.4)
+-- USERHASH (RFC 8489, section 14.4).
 abbrev pub hash_of : List ℕ → PartOf
 hash_of hash = record { kind = userhash_kind; most = userhash_length; value = hash }
 
--- REALM (RFC 8489, section 14.9)
+-- REALM (RFC 8489, section 14.9).
 abbrev pub realm_of : List ℕ → PartOf
 realm_of realm = record { kind = realm_kind; most = longest_text; value = realm }
 
--- NONCE (RFC 8489, section 14.10)
+-- NONCE (RFC 8489, section 14.10).
 abbrev pub nonce_of : List ℕ → PartOf
 nonce_of nonce = record { kind = nonce_kind; most = longest_text; value = nonce }
 
--- PASSWORD-ALGORITHMS (RFC 8489, section 14.11)
+-- PASSWORD-ALGORITHMS (RFC 8489, section 14.11).
 abbrev pub algorithms_of : List ℕ → PartOf
 algorithms_of entries = record {
   kind = password_algorithms_kind;
@@ -61,53 +61,53 @@ algorithms_of entries = record {
   value = entries;
 }
 
--- PASSWORD-ALGORITHM (RFC 8489, section 14.12)
+-- PASSWORD-ALGORITHM (RFC 8489, section 14.12).
 abbrev pub algorithm_of : List ℕ → PartOf
 algorithm_of entry = record { kind = password_algorithm_kind; most = password_entry_length; value = entry }
 
 -- ---- the calls that add it
 
--- the attribute of a part
+-- The attribute of a part.
 abbrev pub attr_of_part : PartOf → Attr
 attr_of_part p = attr_of p.kind p.value
 
 abbrev pub attrs : List PartOf → List Attr
 attrs parts = map attr_of_part parts
 
--- each part as an attribute of its own, in their order
+-- The calls that add the parts: each as an attribute of its own, in order.
 abbrev pub calls_of_parts : List PartOf → List Add
 calls_of_parts parts = map (λ (a : Attr). Ordinary a) (attrs parts)
 
--- the integrity attribute under a key, where there is one
+-- The call that adds the integrity attribute under a key, if there is one.
 abbrev pub calls_of_signer : Option Key → List Add
 calls_of_signer None = []
 calls_of_signer (Some key) = Integrity key.algorithm key.bytes ∷ []
 
--- the parts, and then the integrity attribute
+-- The calls that add the parts and then the integrity attribute.
 abbrev pub calls_of : Addition → List Add
 calls_of a = calls_of_parts a.parts ++ calls_of_signer a.signer
 
 -- ---- why it is not added
 
--- how many bytes the attribute of a part takes
+-- The size in bytes of a part's attribute.
 abbrev pub size_of_part : PartOf → ℕ
 size_of_part p = attr_size (attr_of_part p)
 
--- why a part is not added: its own length comes before the message's
+-- Why a part is refused. The limit of its own value is checked before the limits of the message.
 abbrev pub one_refusal : Draft → PartOf → Option StunWriteError
 one_refusal draft p = option_or (text_refusal p.most p.value) (add_refusal draft (size_of_part p))
 
--- why parts are not added: the first cause, one part after another
+-- Why the parts are refused: the first error, checking one part after another.
 unfoldable pub parts_refusal : Draft → List PartOf → Option StunWriteError
 parts_refusal draft [] = None
 parts_refusal draft (p ∷ rest) = option_or (one_refusal draft p) (parts_refusal (added (attr_of_part p) draft) rest)
 
--- why a message is not signed under a key, where there is one
+-- Why signing under the key, if there is one, is refused.
 abbrev pub signer_refusal : Draft → Option Key → Option StunWriteError
 signer_refusal draft None = None
 signer_refusal draft (Some key) = signing_refusal draft key.algorithm key.algorithm
 
--- why an addition is not made: a part is not added, or then the integrity attribute is not
+-- Why an addition is refused: first for a part, then for the integrity attribute.
 abbrev pub addition_refusal : Addition → Draft → Option StunWriteError
 addition_refusal a draft =
     option_or (parts_refusal draft a.parts) (signer_refusal (after_calls (calls_of_parts a.parts) draft) a.signer)

@@ -1,6 +1,6 @@
 pub mod SupportedAlgorithms
 pub mod Nonce
-pub mod KeptAlgorithms
+pub mod StoredAlgorithms
 pub mod Claims
 pub mod Offers
 pub mod Addition

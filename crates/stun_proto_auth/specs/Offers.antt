@@ -2,9 +2,10 @@
 use Rattle.std.specs.Prelude.{ℕ, ◌==◌, Bool, List}
 use Rattle.std.specs.List.{list_any}
 use Rattle.stun_types_wire.specs.declared.algorithm.IntegrityAlgorithm.{IntegrityAlgorithm}
-use Rattle.stun_types_auth_attributes.specs.Entries.{numbers_told}
+use Rattle.stun_types_auth_attributes.specs.Entries.{numbers_decoded}
 use Rattle.stun_proto_auth.specs.SupportedAlgorithms.{number_by}
 
--- the algorithm by which the keys of an integrity algorithm are made is among those of a list's value
+-- Whether a PASSWORD-ALGORITHMS value lists the password algorithm that derives the keys of an integrity
+-- algorithm.
 abbrev pub offers : List ℕ → IntegrityAlgorithm → Bool
-offers value algorithm = list_any (λ number. number == number_by algorithm) (numbers_told value)
+offers value algorithm = list_any (λ number. number == number_by algorithm) (numbers_decoded value)

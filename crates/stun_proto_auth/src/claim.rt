@@ -1,9 +1,9 @@
-//! What a message claims.
+//! What a message claims about its sender.
 
 ghost use Rattle.std.specs.Prelude.{◌≡◌, Some, None};
 ghost use Rattle.std.specs.Option.{option_copied, option_map};
 ghost use Rattle.stun_types_auth_attributes.specs.PasswordAlgorithmNumbers.{number_of};
-ghost use Rattle.stun_proto_auth.specs.Claims.{algorithm_told, algorithms_told, claimed, code_shown, code_told, hash_told, text_told};
+ghost use Rattle.stun_proto_auth.specs.Claims.{algorithm_decoded, algorithms_decoded, claimed, code_visible, code_decoded, hash_decoded, text_decoded};
 
 use crate::last::last_attribute;
 use std::convert::TryFrom;
@@ -22,9 +22,10 @@ use stun_types_wire::registry;
 use stun_types_write::attribute::AttributeStaticType;
 use stun_types_write::reading::{text_of, value_of};
 
-/// What a message shows of who sent it. Of each kind of attribute the last one decides, and a
-/// malformed one is as if there were none; but an integrity attribute of unlawful length is there,
-/// and wrong. Contracts see the record `Claimed` of `specs/Claims.antt`.
+/// The authentication attributes that are visible in a message. Of several attributes of one type,
+/// the last one counts, and a malformed one counts as absent. The exception: an integrity attribute
+/// of invalid length counts as present, and its digest as wrong. Contracts see the record `Claimed`
+/// of `specs/Claims.antt`.
 #[derive(Debug, Drop)]
 pub struct Claim<'a> {
     integrity: Option<IntegrityAlgorithm>,
@@ -39,23 +40,23 @@ pub struct Claim<'a> {
 impl<'a> Model for Claim<'a> {
     ghost use Rattle.stun_types_wire.specs.Registry.{longest_text, longest_username};
     ghost use Rattle.stun_types_wire.specs.Registry.{nonce_kind, realm_kind, username_kind};
-    ghost use Rattle.stun_proto_auth.specs.Claims.{Claimed, algorithm_told, algorithms_told, hash_told, text_told};
+    ghost use Rattle.stun_proto_auth.specs.Claims.{Claimed, algorithm_decoded, algorithms_decoded, hash_decoded, text_decoded};
 
     ghost Value = { Claimed };
 
     ghost view = { λ c. record {
       integrity = c.integrity;
-      username = text_told username_kind longest_username c.username;
-      user_hash = hash_told c.user_hash;
-      realm = text_told realm_kind longest_text c.realm;
-      nonce = text_told nonce_kind longest_text c.nonce;
-      algorithms = algorithms_told c.algorithms;
-      algorithm = algorithm_told c.algorithm;
+      username = text_decoded username_kind longest_username c.username;
+      user_hash = hash_decoded c.user_hash;
+      realm = text_decoded realm_kind longest_text c.realm;
+      nonce = text_decoded nonce_kind longest_text c.nonce;
+      algorithms = algorithms_decoded c.algorithms;
+      algorithm = algorithm_decoded c.algorithm;
     } };
 }
 
 impl<'a> Claim<'a> {
-    /// What a message claims. It costs one walk over the message for each kind.
+    /// Reads the claim of a message. It scans the message once for each type of attribute.
     pub fn of(message: &Message<'a>) -> Claim<'a>
         ensures { result ≡ claimed message.now }
     {
@@ -70,75 +71,76 @@ impl<'a> Claim<'a> {
         }
     }
 
-    /// The algorithm of the last integrity attribute.
+    /// Returns the algorithm of the last integrity attribute.
     pub fn integrity(&self) -> Option<IntegrityAlgorithm>
         ensures { result ≡ self.now.integrity }
     {
         self.integrity
     }
 
-    /// The name of the user (RFC 8489, section 14.3).
+    /// Returns the user's name (RFC 8489, section 14.3).
     pub fn username(&self) -> Option<&str>
         ensures { option_copied result ≡ self.now.username }
     {
-        text_told(&self.username, Username::TYPE, Username::MAX_LEN)
+        text_decoded(&self.username, Username::TYPE, Username::MAX_LEN)
     }
 
-    /// The hash of the user's name and the realm (RFC 8489, section 14.4).
+    /// Returns the hash of the user's name and the realm (RFC 8489, section 14.4).
     pub fn user_hash(&self) -> Option<&[u8]>
         ensures { option_copied result ≡ self.now.user_hash }
     {
-        hash_told(&self.user_hash)
+        hash_decoded(&self.user_hash)
     }
 
-    /// The realm (RFC 8489, section 14.9).
+    /// Returns the realm (RFC 8489, section 14.9).
     pub fn realm(&self) -> Option<&str>
         ensures { option_copied result ≡ self.now.realm }
     {
-        text_told(&self.realm, Realm::TYPE, Realm::MAX_LEN)
+        text_decoded(&self.realm, Realm::TYPE, Realm::MAX_LEN)
     }
 
-    /// The nonce (RFC 8489, section 14.10).
+    /// Returns the nonce (RFC 8489, section 14.10).
     pub fn nonce(&self) -> Option<&str>
         ensures { option_copied result ≡ self.now.nonce }
     {
-        text_told(&self.nonce, Nonce::TYPE, Nonce::MAX_LEN)
+        text_decoded(&self.nonce, Nonce::TYPE, Nonce::MAX_LEN)
     }
 
-    /// The value of the list of password algorithms (RFC 8489, section 14.11): four bytes for each.
+    /// Returns the value of the PASSWORD-ALGORITHMS (RFC 8489, section 14.11): four bytes for each
+    /// algorithm.
     pub fn algorithms(&self) -> Option<&[u8]>
         ensures { option_copied result ≡ self.now.algorithms }
     {
-        algorithms_told(&self.algorithms)
+        algorithms_decoded(&self.algorithms)
     }
 
-    /// The password algorithm that was chosen (RFC 8489, section 14.12). Contracts see its number.
+    /// Returns the chosen password algorithm (RFC 8489, section 14.12). Contracts see its number.
     pub fn algorithm(&self) -> Option<PasswordAlgorithmValue>
         ensures { option_map number_of result ≡ self.now.algorithm }
     {
-        algorithm_told(&self.algorithm)
+        algorithm_decoded(&self.algorithm)
     }
 }
 
-/// The code of the last ERROR-CODE that a message shows (RFC 8489, section 14.8): `None` where it
-/// shows none, or a malformed one.
+/// Returns the code of the last ERROR-CODE that is visible in a message (RFC 8489, section 14.8).
+/// It is `None` if there is none, or if the last one is malformed.
 pub fn error_code_of(message: &Message<'_>) -> Option<u16>
-    ensures { result ≡ code_shown message.now }
+    ensures { result ≡ code_visible message.now }
 {
-    code_told(&last_attribute(message, ErrorCode::TYPE))
+    code_decoded(&last_attribute(message, ErrorCode::TYPE))
 }
 
-/// The text of an attribute of this type and at most so many bytes, where it is there and well
-/// formed.
-#[tactic(auto, unfolding(crate::specs::Claims::text_told))]
-fn text_told<'raw>(
-    shown: &'raw Option<RawAttribute<'_>>,
+/// Returns the text of an attribute of this type, if it is present, well formed and at most `most`
+/// bytes long.
+#[tactic(auto, unfolding(crate::specs::Claims::text_decoded))]
+fn text_decoded<'raw>(
+    visible: &'raw Option<RawAttribute<'_>>,
     atype: AttributeType,
     most: usize,
 ) -> Option<&'raw str>
-    ensures { option_copied result ≡ text_told atype.0 most shown.now }
+    ensures { option_copied result ≡ text_decoded atype.0 most visible.now }
 {
-    match shown {
+    match visible {
         Some(raw) => match text_of(raw, atype, most) {
             Ok(text) => Some(text),
             Err(_) => None,
@@ -147,12 +149,12 @@ fn text_told<'raw>(
     }
 }
 
-/// The hash in a USERHASH, where it is there and well formed.
-#[tactic(auto, unfolding(crate::specs::Claims::hash_told))]
-fn hash_told<'raw>(shown: &'raw Option<RawAttribute<'_>>) -> Option<&'raw [u8]>
-    ensures { option_copied result ≡ hash_told shown.now }
+/// Returns the hash in a USERHASH, if it is present and well formed.
+#[tactic(auto, unfolding(crate::specs::Claims::hash_decoded))]
+fn hash_decoded<'raw>(visible: &'raw Option<RawAttribute<'_>>) -> Option<&'raw [u8]>
+    ensures { option_copied result ≡ hash_decoded visible.now }
 {
-    match shown {
+    match visible {
         Some(raw) => match value_of(
             raw,
             registry::USERHASH,
@@ -166,12 +168,12 @@ fn hash_told<'raw>(shown: &'raw Option<RawAttribute<'_>>) -> Option<&'raw [u8]>
     }
 }
 
-/// The value of a PASSWORD-ALGORITHMS, where it is there and well formed.
-#[tactic(auto, unfolding(crate::specs::Claims::algorithms_told))]
-fn algorithms_told<'raw>(shown: &'raw Option<RawAttribute<'_>>) -> Option<&'raw [u8]>
-    ensures { option_copied result ≡ algorithms_told shown.now }
+/// Returns the value of a PASSWORD-ALGORITHMS, if it is present and well formed.
+#[tactic(auto, unfolding(crate::specs::Claims::algorithms_decoded))]
+fn algorithms_decoded<'raw>(visible: &'raw Option<RawAttribute<'_>>) -> Option<&'raw [u8]>
+    ensures { option_copied result ≡ algorithms_decoded visible.now }
 {
-    match shown {
+    match visible {
         Some(raw) => match PasswordAlgorithms::entries_of(raw) {
             Ok(value) => Some(value),
             Err(_) => None,
@@ -180,12 +182,12 @@ fn algorithms_told<'raw>(shown: &'raw Option<RawAttribute<'_>>) -> Option<&'raw 
     }
 }
 
-/// The algorithm of a PASSWORD-ALGORITHM, where it is there and well formed.
-#[tactic(auto, unfolding(crate::specs::Claims::algorithm_told))]
-fn algorithm_told(shown: &Option<RawAttribute<'_>>) -> Option<PasswordAlgorithmValue>
-    ensures { option_map number_of result ≡ algorithm_told shown.now }
+/// Returns the algorithm of a PASSWORD-ALGORITHM, if it is present and well formed.
+#[tactic(auto, unfolding(crate::specs::Claims::algorithm_decoded))]
+fn algorithm_decoded(visible: &Option<RawAttribute<'_>>) -> Option<PasswordAlgorithmValue>
+    ensures { option_map number_of result ≡ algorithm_decoded visible.now }
 {
-    match shown {
+    match visible {
         Some(raw) => match PasswordAlgorithm::try_from(raw) {
             Ok(chosen) => Some(chosen.algorithm()),
             Err(_) => None,
@@ -194,12 +196,12 @@ fn algorithm_told(shown: &Option<RawAttribute<'_>>) -> Option<PasswordAlgorithmV
     }
 }
 
-/// The code of an ERROR-CODE, where it is there and well formed.
-#[tactic(auto, unfolding(crate::specs::Claims::code_told))]
-fn code_told(shown: &Option<RawAttribute<'_>>) -> Option<u16>
-    ensures { result ≡ code_told shown.now }
+/// Returns the code of an ERROR-CODE, if it is present and well formed.
+#[tactic(auto, unfolding(crate::specs::Claims::code_decoded))]
+fn code_decoded(visible: &Option<RawAttribute<'_>>) -> Option<u16>
+    ensures { result ≡ code_decoded visible.now }
 {
-    match shown {
+    match visible {
         Some(raw) => match ErrorCode::code_of(raw) {
             Ok(code) => Some(code),
             Err(_) => None,

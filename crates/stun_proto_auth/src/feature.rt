@@ -1,12 +1,12 @@
-//! Whether a side asks for a feature.
+//! The setting of an optional feature.
 
-/// What a side does about a feature of the protocol.
+/// How one side treats an optional feature of the protocol.
 #[derive(Clone, Copy, Debug, PartialEq, Eq)]
 pub enum Feature {
-    /// It is used where the other side has it.
+    /// The feature is used if the other side supports it.
     Auto,
-    /// It is asked for: a side without it is refused.
+    /// The feature is required: the other side is refused if it does not support it.
     Required,
-    /// It is not used.
+    /// The feature is not used.
     Disabled,
 }

@@ -1,6 +1,6 @@
-//! What both sides of long-term authentication share (RFC 8489, section 9.2): the nonce's text and
-//! features, supported algorithms, what a message claims of its sender, and what is added to a message
-//! that goes out.
+//! What clients and servers share in long-term authentication (RFC 8489, section 9.2): the nonce's
+//! text and features, the supported algorithms, what a message claims about its sender, and the
+//! signing of a message that is sent.
 #![tactic(auto)]
 
 pub mod algorithms;

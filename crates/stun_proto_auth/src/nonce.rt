@@ -1,9 +1,9 @@
-//! The text of a server's nonce, which tells the client of security features (RFC 8489, section
-//! 9.2).
+//! The text of a server's nonce, which tells the client which security features the server has (RFC
+//! 8489, section 9.2).
 
 ghost use Rattle.std.specs.Prelude.{◌≡◌, ◌<◌, ◌≤◌, IfOk, ℕ, List, length};
 ghost use Rattle.stun_types_wire.specs.Registry.{longest_text};
-ghost use Rattle.stun_proto_auth.specs.Nonce.{nonce_character, nonce_text, features_told};
+ghost use Rattle.stun_proto_auth.specs.Nonce.{nonce_character, nonce_text, features_in};
 ghost use Rattle.stun_proto_auth.specs.declared.nonce.NonceFeatures.{NonceFeatures};
 
 use crate::feature::Feature;
@@ -14,21 +14,21 @@ use std::marker::Model;
 use stun_types_base::memory::NoMemory;
 use stun_types_wire::algorithm::IntegrityAlgorithm;
 
-/// What the nonce of a server begins with, where the server tells of its security features.
+/// The nonce cookie: a nonce begins with it if it announces the server's security features.
 pub const LONG_TERM_RFC8489_NONCE_COOKIE: &str = "obMatJos2";
 
-/// How many random words a nonce is made of.
+/// The number of random words from which a nonce is made.
 pub const NONCE_WORDS: usize = 16;
 
-/// The characters that follow the features in a nonce: A to Z, a to z, 0 to 9.
+/// The characters that may follow the features in a nonce: A to Z, a to z, 0 to 9.
 const ALPHABET: &[u8; 62] = b"ABCDEFGHIJKLMNOPQRSTUVWXYZabcdefghijklmnopqrstuvwxyz0123456789";
 
-/// The security features that a nonce tells of (RFC 8489, section 18.1).
+/// The security features that a nonce announces (RFC 8489, section 18.1).
 #[derive(Clone, Copy, Debug, PartialEq, Eq)]
 pub struct NonceFeatures {
     /// The server offers a list of password algorithms.
     pub password_algorithms: bool,
-    /// The server takes a hash of the user's name in place of the name.
+    /// The server accepts a hash of the user's name in place of the name.
     pub anonymous_username: bool,
 }
 
@@ -37,8 +37,8 @@ impl NonceFeatures {
     ghost use Rattle.base64.specs.GeneralPurpose.{decode_of};
     ghost use Rattle.base64.specs.Engines.{standard};
 
-    /// The features of a server: password algorithms where it supports anything but Sha1 alone,
-    /// and anonymous names unless they are disabled.
+    /// Returns the features of a server. It has password algorithms unless it supports only `Sha1`,
+    /// and anonymous user names unless they are disabled.
     pub fn offered(supported: SupportedIntegrity, anonymous_username: Feature) -> Self
         ensures { result ≡ features_offered supported anonymous_username }
     {
@@ -50,11 +50,13 @@ impl NonceFeatures {
         }
     }
 
-    /// The features that a nonce tells a client of. A nonce tells of none where it doesn't begin
-    /// with the cookie, or where the next four characters are missing or don't decode to three
-    /// bytes in base64's standard alphabet.
-    pub fn told_by(nonce: &str) -> Self
-        ensures { result ≡ features_told nonce.now }
+    /// Returns the features that a nonce announces to a client. It announces none in these cases:
+    ///
+    /// - It does not begin with the nonce cookie.
+    /// - The four characters after the cookie are missing, or do not decode to three bytes in
+    ///   base64's standard alphabet.
+    pub fn decoded_by(nonce: &str) -> Self
+        ensures { result ≡ features_in nonce.now }
     {
         let cookie = LONG_TERM_RFC8489_NONCE_COOKIE.as_bytes();
         let Some(after_cookie) = nonce.as_bytes().strip_prefix(cookie) else {
@@ -63,7 +65,8 @@ impl NonceFeatures {
         NonceFeatures::of_characters(&after_cookie[..after_cookie.len().min(4)])
     }
 
-    /// The features of the bytes that characters decode to: of none, where those aren't three.
+    /// Returns the features in the three bytes to which the characters decode; none if they do not
+    /// decode to three bytes.
     fn of_characters(characters: &[u8]) -> Self
         requires { length characters.now ≤ 4 }
         ensures { result ≡ features_decoded (decode_of standard characters.now) }
@@ -85,7 +88,7 @@ impl NonceFeatures {
         anonymous_username: false,
     };
 
-    /// The features whose bits are set in the first byte of the three.
+    /// Returns the features whose bits are set in the first of the three bytes.
     fn of_byte(byte: u8) -> Self
         ensures { result ≡ features_of_byte byte }
     {
@@ -95,7 +98,7 @@ impl NonceFeatures {
         }
     }
 
-    /// The three bytes of the features.
+    /// Returns the three bytes that encode the features.
     fn bytes(self) -> [u8; 3]
         ensures { result ≡ feature_bytes self }
     {
@@ -105,7 +108,7 @@ impl NonceFeatures {
     }
 }
 
-/// The text of a server's nonce, which a NONCE has room for: it has at most 763 bytes (RFC 8489,
+/// The text of a server's nonce. It is at most 763 bytes long, so it fits a NONCE (RFC 8489,
 /// section 14.10). Contracts see the bytes of the text.
 #[derive(Debug, Drop)]
 pub struct ServerNonce {
@@ -125,7 +128,7 @@ impl Model for ServerNonce {
 }
 
 impl ServerNonce {
-    /// The text.
+    /// Returns the text.
     pub fn as_str(&self) -> &str
         ensures value { result.now ≡ self.now }
         ensures short { length result.now ≤ longest_text }
@@ -134,7 +137,7 @@ impl ServerNonce {
     }
 }
 
-/// The character of a word in a nonce.
+/// Returns the character of a nonce for a random word.
 fn character(word: u32) -> char
     ensures value { result ≡ nonce_character word }
     ensures ascii { result < 128 }
@@ -142,8 +145,13 @@ fn character(word: u32) -> char
     char::from(ALPHABET[(word % 62) as usize])
 }
 
-/// The nonce of some words: the cookie, the features in four base64 characters, and for each word
-/// the character at its remainder by 62 in A to Z, a to z, 0 to 9. Refused where memory is.
+/// Makes a nonce from random words: the cookie, the features as four base64 characters, and one
+/// character for each word. The character of a word is the one at index word modulo 62 in A to Z, a
+/// to z, 0 to 9.
+///
+/// # Errors
+///
+/// - `NoMemory`: an allocation failed.
 pub fn write_nonce(
     alloc: Global,
     features: NonceFeatures,
@@ -159,8 +167,8 @@ pub fn write_nonce(
     Ok(ServerNonce { text })
 }
 
-/// The law of reading: a nonce tells a client of the features that it was written with.
-pub fn nonce_tells_its_features()
+/// A client reads from a nonce exactly the features with which the nonce was written.
+pub fn nonce_decodes_its_features()
     ensures { (features : NonceFeatures) (words : List ℕ)
-        → features_told (nonce_text features words) ≡ features }
+        → features_in (nonce_text features words) ≡ features }
 {}

@@ -1,4 +1,4 @@
-//! The numbers by which algorithms are told.
+//! The numbers of password algorithms.
 
 ghost use Rattle.std.specs.Prelude.{◌≡◌};
 ghost use Rattle.stun_proto_auth.specs.SupportedAlgorithms.{number_by};
@@ -6,8 +6,9 @@ ghost use Rattle.stun_proto_auth.specs.SupportedAlgorithms.{number_by};
 use stun_types_wire::algorithm::IntegrityAlgorithm;
 use stun_types_wire::registry::{MD5_NUMBER, SHA256_NUMBER, SHA512_NUMBER};
 
-/// The number of the password algorithm by which the keys of an integrity algorithm are made (RFC
-/// 8489, section 18.5.1). That of `Sha512` is this project's: no RFC has it.
+/// Returns the number of the password algorithm that derives the keys of an integrity algorithm
+/// (RFC 8489, section 18.5.1). The number for `Sha512` is specific to this project: no RFC assigns
+/// one.
 pub fn number_by(algorithm: IntegrityAlgorithm) -> u16
     ensures { result ≡ number_by algorithm }
 {

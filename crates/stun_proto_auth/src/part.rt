@@ -1,9 +1,9 @@
-//! One attribute that is to be added in front of the integrity attribute.
+//! An attribute that is added before the integrity attribute.
 
 ghost use Rattle.std.specs.Prelude.{◌≡◌, ◌≤◌, length, None, OnOk};
 ghost use Rattle.stun_types_base.specs.Refusals.{RefusesFor};
 ghost use Rattle.stun_types_wire.specs.Registry.{longest_text, userhash_length};
-ghost use Rattle.stun_types_write.specs.Adding.{IsBegun};
+ghost use Rattle.stun_types_write.specs.Adding.{IsStarted};
 ghost use Rattle.stun_types_write.specs.Outcomes.{TakesNoMemory, IsAdded};
 ghost use Rattle.stun_types_wire.specs.Shape.{rank};
 ghost use Rattle.stun_proto_auth.specs.Addition.{algorithm_of, algorithms_of, attr_of_part, hash_of, nonce_of, one_refusal, realm_of, username_of};
@@ -22,13 +22,14 @@ use stun_types_wire::registry::{MAX_PASSWORD_ALGORITHMS, USERHASH_LENGTH};
 use stun_types_write::attribute::AttributeStaticType;
 use stun_types_write::writer::MessageWrite;
 
-/// How many bytes tell one password algorithm in PASSWORD-ALGORITHM and PASSWORD-ALGORITHMS: two
-/// for its number, and two for the length of its parameters (RFC 8489, sections 14.11 and 14.12).
+/// The size of one entry in PASSWORD-ALGORITHM and PASSWORD-ALGORITHMS: two bytes for the
+/// algorithm's number and two for the length of its parameters (RFC 8489, sections 14.11 and
+/// 14.12).
 pub const PASSWORD_ENTRY_LENGTH: usize = 4;
 
-/// One attribute that is to be added to a message: its type, how many bytes its value has at most,
-/// and the value, which is borrowed. To make one takes no memory, and no value is refused: one that
-/// is over its limit is refused where it is added. Contracts see the record `PartOf`.
+/// An attribute to be added to a message: its type, the maximum length of its value, and the value,
+/// which is borrowed. Creating one allocates nothing and accepts every value; a value over its
+/// limit is refused when the attribute is added. Contracts see the record `PartOf`.
 #[derive(Debug, Drop)]
 pub struct Part<'a> {
     atype: AttributeType,
@@ -50,7 +51,7 @@ impl<'a> Model for Part<'a> {
 }
 
 impl<'a> Part<'a> {
-    /// The USERNAME of a user, of at most 513 bytes (RFC 8489, section 14.3).
+    /// Creates a USERNAME of at most 513 bytes (RFC 8489, section 14.3).
     pub fn username(name: &'a str) -> Part<'a>
         ensures { result ≡ username_of name.now }
     {
@@ -61,7 +62,7 @@ impl<'a> Part<'a> {
         }
     }
 
-    /// The USERHASH of a hash, which tells a user without the name (RFC 8489, section 14.4).
+    /// Creates a USERHASH, which identifies a user without the name (RFC 8489, section 14.4).
     pub fn userhash(hash: &'a [u8; 32]) -> Part<'a>
         ensures { result ≡ hash_of hash.now }
     {
@@ -72,7 +73,7 @@ impl<'a> Part<'a> {
         }
     }
 
-    /// The REALM of a text, of at most 763 bytes (RFC 8489, section 14.9).
+    /// Creates a REALM of at most 763 bytes (RFC 8489, section 14.9).
     pub fn realm(realm: &'a str) -> Part<'a>
         ensures { result ≡ realm_of realm.now }
     {
@@ -83,7 +84,7 @@ impl<'a> Part<'a> {
         }
     }
 
-    /// The NONCE of a text, of at most 763 bytes (RFC 8489, section 14.10).
+    /// Creates a NONCE of at most 763 bytes (RFC 8489, section 14.10).
     pub fn nonce(nonce: &'a str) -> Part<'a>
         ensures { result ≡ nonce_of nonce.now }
     {
@@ -94,9 +95,9 @@ impl<'a> Part<'a> {
         }
     }
 
-    /// The PASSWORD-ALGORITHMS of a value as it stands, of at most 32 bytes (RFC 8489, section
-    /// 14.11): a server lists what it supports, and a client echoes what the server listed. Whether
-    /// the value is made of entries is not looked at.
+    /// Creates a PASSWORD-ALGORITHMS with this value, of at most 32 bytes (RFC 8489, section
+    /// 14.11). A server lists what it supports, and a client echoes the server's list. Whether the
+    /// value consists of entries is not checked.
     pub fn algorithms(entries: &'a [u8]) -> Part<'a>
         ensures { result ≡ algorithms_of entries.now }
     {
@@ -107,9 +108,9 @@ impl<'a> Part<'a> {
         }
     }
 
-    /// The PASSWORD-ALGORITHM of a value as it stands, of at most 4 bytes (RFC 8489, section
-    /// 14.12): the number of the algorithm that a client chose, and the length of its parameters.
-    /// Whether the value is one entry is not looked at.
+    /// Creates a PASSWORD-ALGORITHM with this value, of at most 4 bytes (RFC 8489, section 14.12):
+    /// the number of the algorithm that a client chose, and the length of its parameters. Whether
+    /// the value is one entry is not checked.
     pub fn algorithm(entry: &'a [u8]) -> Part<'a>
         ensures { result ≡ algorithm_of entry.now }
     {
@@ -120,7 +121,8 @@ impl<'a> Part<'a> {
         }
     }
 
-    /// How many bytes the value has at most. A part ends no message.
+    /// Returns the maximum length of the value, in bytes. The attribute is never one that ends a
+    /// message.
     pub(crate) fn most(&self) -> usize
         ensures value { result ≡ self.now.most }
         ensures short { result ≤ longest_text }
@@ -129,16 +131,16 @@ impl<'a> Part<'a> {
         self.most
     }
 
-    /// How many bytes the value has.
+    /// Returns the length of the value in bytes.
     pub(crate) fn len(&self) -> usize
         ensures { result ≡ length self.now.value }
     {
         self.value.len()
     }
 
-    /// Adds the attribute, which fits. Refused for want of memory alone.
+    /// Adds the attribute, which is known to fit. Fails only with `NoMemory`.
     pub(crate) fn add_to<W: MessageWrite>(&self, writer: &mut W) -> Result<(), StunWriteError>
-        requires begun { IsBegun (W.draft writer.old).bytes }
+        requires started { IsStarted (W.draft writer.old).bytes }
         requires accepted { one_refusal (W.draft writer.old) self.now ≡ None }
         ensures ok { OnOk result (IsAdded (attr_of_part self.now)
             (W.draft writer.old) (W.draft writer.new)) }

@@ -1,10 +1,10 @@
-//! Whether what is to be added may be, and fits: looked at before anything is added.
+//! Checks, made before anything is added, that all attributes may be added and fit.
 
 ghost use Rattle.std.specs.Prelude.{◌≡◌, ◌≤◌, length, MatchResult, None};
-ghost use Rattle.stun_types_write.specs.Adding.{IsBegun};
+ghost use Rattle.stun_types_write.specs.Adding.{IsStarted};
 ghost use Rattle.stun_types_wire.specs.Registry.{greatest_size};
 ghost use Rattle.stun_proto_auth.specs.Addition.{parts_refusal};
-ghost use Rattle.stun_proto_auth.specs.AdditionStages.{FitsBehind, IsNamed, PartsFit, refusal_behind, signing_refusal_behind};
+ghost use Rattle.stun_proto_auth.specs.AdditionStages.{FitsAfter, IsNamed, PartsFit, refusal_after, signing_refusal_after};
 
 use crate::part::Part;
 use stun_types_add::room::{end_of_add, may_sign};
@@ -14,18 +14,23 @@ use stun_types_wire::attribute::pad_attribute_len;
 use stun_types_wire::error::StunWriteError;
 use stun_types_write::writer::MessageWrite;
 
-/// How many bytes are added with a part, where so many are before it. Refused with `TooLarge` where
-/// its value is too long, and then as `add_attribute` is.
+/// Checks that a part can be added after `before` further bytes, and returns `before` plus the size
+/// of its attribute.
+///
+/// # Errors
+///
+/// 1. `TooLarge`: the part's value is over its limit.
+/// 2. The errors of `add_attribute`.
 #[tactic(auto, unfolding(stun_types_write::specs::Adding::add_refusal))]
-fn fits_behind<W: MessageWrite>(
+fn fits_after<W: MessageWrite>(
     writer: &W,
     before: usize,
     part: &Part<'_>,
 ) -> Result<usize, StunWriteError>
     requires size { length (W.draft writer.now).bytes ≤ greatest_size }
     requires before { before ≤ greatest_size }
-    ensures { MatchResult result (FitsBehind (W.draft writer.now) before part.now)
-        (IsNamed (refusal_behind (W.draft writer.now) before part.now)) }
+    ensures { MatchResult result (FitsAfter (W.draft writer.now) before part.now)
+        (IsNamed (refusal_after (W.draft writer.now) before part.now)) }
 {
     if part.len() > part.most() {
         return Err(StunWriteError::TooLarge {
@@ -45,24 +50,25 @@ fn fits_behind<W: MessageWrite>(
     Ok(after)
 }
 
-/// How many bytes some parts take. Refused for the first cause, one part after another.
+/// Checks that the parts can be added one after another, and returns how many bytes they take.
+/// Fails with the error of the first part that can't be added.
 pub(crate) fn parts_fit<W: MessageWrite>(
     writer: &W,
     parts: &[Part<'_>],
 ) -> Result<usize, StunWriteError>
-    requires { IsBegun (W.draft writer.now).bytes }
+    requires { IsStarted (W.draft writer.now).bytes }
     ensures { MatchResult result (PartsFit (W.draft writer.now) parts.now)
         (IsNamed (parts_refusal (W.draft writer.now) parts.now)) }
 {
     let mut size = 0;
     for part in parts {
-        size = fits_behind(writer, size, part)?;
+        size = fits_after(writer, size, part)?;
     }
     Ok(size)
 }
 
-/// Whether the integrity attribute of an algorithm can be added behind so many bytes more. Refused
-/// as `add_message_integrity` is.
+/// Checks that the integrity attribute of an algorithm can be added after `before` further bytes.
+/// Fails as `add_message_integrity` does.
 pub(crate) fn signature_fits<W: MessageWrite>(
     writer: &W,
     before: usize,
@@ -71,8 +77,8 @@ pub(crate) fn signature_fits<W: MessageWrite>(
     requires size { length (W.draft writer.now).bytes ≤ greatest_size }
     requires before { before ≤ greatest_size }
     ensures { MatchResult result
-        (λ _. signing_refusal_behind (W.draft writer.now) before algorithm ≡ None)
-        (IsNamed (signing_refusal_behind (W.draft writer.now) before algorithm)) }
+        (λ _. signing_refusal_after (W.draft writer.now) before algorithm ≡ None)
+        (IsNamed (signing_refusal_after (W.draft writer.now) before algorithm)) }
 {
     may_sign(writer.ended(), algorithm)?;
     end_of_add(writer, before + (4 + hmac_length(algorithm)))?;

@@ -1,9 +1,9 @@
-//! What goes out is signed.
+//! Signing of a message that is sent.
 
 ghost use Rattle.std.specs.Prelude.{◌≡◌, IfOk, None, OnOk, Some};
 ghost use Rattle.std.specs.Option.{option_copied};
 ghost use Rattle.stun_types_base.specs.Refusals.{RefusesFor};
-ghost use Rattle.stun_types_write.specs.Adding.{IsBegun};
+ghost use Rattle.stun_types_write.specs.Adding.{IsStarted};
 ghost use Rattle.stun_types_write.specs.Outcomes.{TakesNoMemory};
 ghost use Rattle.stun_proto_auth.specs.Addition.{addition_refusal, parts_refusal};
 ghost use Rattle.stun_proto_auth.specs.AdditionStages.{AreAdded, IsMade};
@@ -15,21 +15,24 @@ use stun_types_integrity::key::IntegrityKey;
 use stun_types_wire::error::StunWriteError;
 use stun_types_write::writer::MessageWrite;
 
-/// Adds to a message what the other side knows this one by, and gives the writer back (RFC 8489,
-/// sections 9.1 and 9.2). Each of the parts is an attribute of its own, in their order. Where there
-/// is a key, the integrity attribute of its algorithm follows, alone and written in full.
+/// Adds authentication attributes to a message and returns the writer (RFC 8489, sections 9.1 and
+/// 9.2). Each part is added as an attribute of its own, in the given order. If there is a key, the
+/// integrity attribute of the key's algorithm follows: that one only, and with the full digest.
 ///
-/// The attributes count one after another, and the first cause to refuse one is told. Of a part
-/// that is `TooLarge` where its value has more bytes than it may, and then the causes of
-/// `add_attribute`. Of the integrity attribute those of `add_message_integrity`. Where there is no
-/// such cause, and memory is refused, `NoMemory`: all other causes are looked for before anything is
-/// added. A writer with a greatest size never answers `NoMemory`. A refusal drops the writer.
+/// # Errors
+///
+/// The attributes are checked in order before any of them is added, and the first error is
+/// returned. A refusal drops the writer.
+///
+/// 1. For each part: `TooLarge` if its value is over its limit, then the errors of `add_attribute`.
+/// 2. For the integrity attribute: the errors of `add_message_integrity`.
+/// 3. `NoMemory`: an allocation failed. It never occurs with a writer that has a size limit.
 pub fn sign<W: MessageWrite + Drop>(
     writer: W,
     parts: &[Part<'_>],
     signer: Option<&IntegrityKey<'_>>,
 ) -> Result<W, StunWriteError>
-    requires { IsBegun (W.draft writer).bytes }
+    requires { IsStarted (W.draft writer).bytes }
     ensures ok { IfOk result (λ signed. IsMade
         (record { parts = parts.now; signer = option_copied signer.entry })
         (W.draft writer) (W.draft signed)) }
@@ -46,13 +49,13 @@ pub fn sign<W: MessageWrite + Drop>(
     Ok(writer)
 }
 
-/// Adds parts, and then the integrity attribute under a key. Refused as `sign` is.
+/// Adds the parts and then the integrity attribute under a key. Fails as `sign` does.
 fn add_signed<W: MessageWrite>(
     writer: &mut W,
     parts: &[Part<'_>],
     key: &IntegrityKey<'_>,
 ) -> Result<(), StunWriteError>
-    requires { IsBegun (W.draft writer.old).bytes }
+    requires { IsStarted (W.draft writer.old).bytes }
     ensures ok { OnOk result (IsMade
         (record { parts = parts.now; signer = Some key.now })
         (W.draft writer.old) (W.draft writer.new)) }
@@ -67,9 +70,9 @@ fn add_signed<W: MessageWrite>(
     Ok(())
 }
 
-/// Adds parts alone. Refused as `sign` is.
+/// Adds only the parts. Fails as `sign` does.
 fn add_unsigned<W: MessageWrite>(writer: &mut W, parts: &[Part<'_>]) -> Result<(), StunWriteError>
-    requires { IsBegun (W.draft writer.old).bytes }
+    requires { IsStarted (W.draft writer.old).bytes }
     ensures ok { OnOk result (IsMade
         (record { parts = parts.now; signer = None })
         (W.draft writer.old) (W.draft writer.new)) }
@@ -82,9 +85,9 @@ fn add_unsigned<W: MessageWrite>(writer: &mut W, parts: &[Part<'_>]) -> Result<(
     Ok(())
 }
 
-/// Adds parts, which fit, in their order. Refused for want of memory alone.
+/// Adds parts that are known to fit, in order. Fails only with `NoMemory`.
 fn add_parts<W: MessageWrite>(writer: &mut W, parts: &[Part<'_>]) -> Result<(), StunWriteError>
-    requires begun { IsBegun (W.draft writer.old).bytes }
+    requires started { IsStarted (W.draft writer.old).bytes }
     requires accepted { parts_refusal (W.draft writer.old) parts.now ≡ None }
     ensures ok { OnOk result (AreAdded parts.now (W.draft writer.old) (W.draft writer.new)) }
     ensures memory { RefusesFor StunWriteError.NoMemory None result }

@@ -1,4 +1,4 @@
-//! How many bytes a signing adds.
+//! The number of bytes that signing adds.
 
 ghost use Rattle.std.specs.Prelude.{◌≡◌, ◌≤◌, length, min};
 ghost use Rattle.stun_types_wire.specs.RawBytes.{greatest_len};
@@ -11,9 +11,9 @@ use stun_types_integrity::algorithm::hmac_length;
 use stun_types_wire::algorithm::IntegrityAlgorithm;
 use stun_types_wire::attribute::pad_attribute_len;
 
-/// How many bytes `sign` adds to a message with these parts, and a key of this algorithm where one
-/// is given. It is 0 where a part is over its limit, since then nothing is added, and the greatest
-/// `usize` where that is less.
+/// Returns how many bytes `sign` adds to a message with these parts and, if an algorithm is given,
+/// a key of that algorithm. The result is 0 if a part is over its limit, since nothing is added
+/// then. It saturates at the greatest `usize`.
 pub fn signature_bytes(parts: &[Part<'_>], algorithm: Option<IntegrityAlgorithm>) -> usize
     ensures { result ≡ min (size_of_addition parts.now algorithm) greatest_len }
 {
@@ -27,7 +27,7 @@ pub fn signature_bytes(parts: &[Part<'_>], algorithm: Option<IntegrityAlgorithm>
     total
 }
 
-/// How many bytes the integrity attribute of an algorithm takes, where there is one.
+/// Returns the size in bytes of the integrity attribute of an algorithm; 0 without an algorithm.
 fn integrity_bytes(algorithm: Option<IntegrityAlgorithm>) -> usize
     ensures value { result ≡ size_of_signature algorithm }
     ensures short { result ≤ greatest_len }
@@ -38,7 +38,8 @@ fn integrity_bytes(algorithm: Option<IntegrityAlgorithm>) -> usize
     }
 }
 
-/// How many bytes the attribute of a part takes that is within its limit, with header and padding.
+/// Returns the size in bytes of a part's attribute, with header and padding. The part has to be
+/// within its limit.
 fn part_bytes(part: &Part<'_>) -> usize
     requires { length part.now.value ≤ longest_text }
     ensures { result ≡ size_of_part part.now }

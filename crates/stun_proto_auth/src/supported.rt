@@ -9,15 +9,15 @@ use std::fmt;
 use std::marker::Model;
 use stun_types_wire::algorithm::IntegrityAlgorithm;
 
-/// The integrity algorithms that a side supports, in order: at least one, and none twice.
-/// Contracts see the list of them.
+/// The integrity algorithms that a side supports, in order: at least one, and none twice. Contracts
+/// see the list of them.
 #[derive(Clone, Copy)]
 pub struct SupportedIntegrity {
-    // The supported ones in order, and behind them `Sha1` in each place that is left.
+    // The supported algorithms in order, then `Sha1` in each unused position.
     algorithms: [IntegrityAlgorithm; 3],
-    // What PASSWORD-ALGORITHMS tells of all three.
+    // The PASSWORD-ALGORITHMS entries of all three positions.
     entries: [u8; 12],
-    // How many are supported.
+    // The number of supported algorithms.
     count: u8,
 }
 
@@ -27,20 +27,20 @@ impl Model for SupportedIntegrity {
 
     ghost Value = { List IntegrityAlgorithm };
 
-    ghost use Rattle.stun_proto_auth.specs.KeptAlgorithms.{AreKept, kept_as, kept_as-take};
+    ghost use Rattle.stun_proto_auth.specs.StoredAlgorithms.{AreStored, stored_as, stored_as-take};
 
     ghost view = { λ s. take s.count s.algorithms };
 
-    ghost invariant = { λ s. AreKept s.algorithms s.entries s.count };
+    ghost invariant = { λ s. AreStored s.algorithms s.entries s.count };
 
-    ghost inverse = { λ algorithms. kept_as algorithms };
+    ghost inverse = { λ algorithms. stored_as algorithms };
 
-    ghost inverse_ok = { λ s kept. kept_as-take s kept };
+    ghost inverse_ok = { λ s stored. stored_as-take s stored };
 }
 
 impl SupportedIntegrity {
-    /// This algorithm alone.
-    #[tactic(auto, using(crate::proofs::Keeping::one_kept))]
+    /// Creates a list of this algorithm only.
+    #[tactic(auto, using(crate::proofs::Keeping::one_stored))]
     pub fn only(algorithm: IntegrityAlgorithm) -> Self
         ensures { result ≡ algorithm ∷ [] }
     {
@@ -56,7 +56,7 @@ impl SupportedIntegrity {
         }
     }
 
-    /// These algorithms, and another one last; one that is there already changes nothing.
+    /// Appends an algorithm to the list. If the list has it already, nothing changes.
     #[tactic(auto, using(crate::proofs::Keeping::adding))]
     pub fn with(self, algorithm: IntegrityAlgorithm) -> Self
         ensures { result ≡ with_algorithm self algorithm }
@@ -73,7 +73,7 @@ impl SupportedIntegrity {
         }
     }
 
-    /// The algorithms in order.
+    /// Returns the algorithms in order.
     pub fn as_slice(&self) -> &[IntegrityAlgorithm]
         ensures value { result.now ≡ self.now }
         ensures never_empty { result.now ≢ [] }
@@ -82,16 +82,17 @@ impl SupportedIntegrity {
         &self.algorithms[..usize::from(self.count)]
     }
 
-    /// Whether an algorithm is among them.
+    /// Returns whether an algorithm is in the list.
     pub fn supports(&self, algorithm: IntegrityAlgorithm) -> bool
         ensures { result ≡ list_any (is_same_algorithm algorithm) self.now }
     {
         self.as_slice().contains(&algorithm)
     }
 
-    /// The value of the PASSWORD-ALGORITHMS that lists them in their order (RFC 8489, section
-    /// 14.11): of each the number, two bytes, and a length of its parameters of 0, two bytes.
-    #[tactic(auto, using(crate::proofs::Keeping::front_told))]
+    /// Returns the PASSWORD-ALGORITHMS value that lists the algorithms in order (RFC 8489, section
+    /// 14.11). Each entry has the algorithm's number in two bytes, and a parameter length of 0 in
+    /// two bytes.
+    #[tactic(auto, using(crate::proofs::Keeping::head_decoded))]
     pub fn entries(&self) -> &[u8]
         ensures { result.now ≡ list_of self.now }
     {
@@ -99,8 +100,8 @@ impl SupportedIntegrity {
     }
 }
 
-/// The value of the PASSWORD-ALGORITHMS that lists three algorithms.
-#[tactic(auto, using(crate::proofs::Keeping::three_told))]
+/// Returns the PASSWORD-ALGORITHMS value that lists three algorithms.
+#[tactic(auto, using(crate::proofs::Keeping::three_decoded))]
 fn entries_of(algorithms: &[IntegrityAlgorithm; 3]) -> [u8; 12]
     ensures { result ≡ list_of algorithms.now }
 {
@@ -111,7 +112,7 @@ fn entries_of(algorithms: &[IntegrityAlgorithm; 3]) -> [u8; 12]
     [a, b, 0, 0, c, d, 0, 0, e, f, 0, 0]
 }
 
-/// Equal where the same algorithms are supported in the same order.
+/// Two lists are equal if they have the same algorithms in the same order.
 impl PartialEq for SupportedIntegrity {
     ghost use Rattle.std.specs.Cmp.{nat_eq_equiv, on_equiv, partial_equiv_from_equiv};
     ghost use Rattle.std.specs.Cmp.Lexicographic.{lists_equiv, pointwise};
@@ -136,7 +137,7 @@ impl Eq for SupportedIntegrity {
 }
 
 impl fmt::Debug for SupportedIntegrity {
-    /// Shows the list.
+    /// Prints the list.
     fn fmt<W: fmt::Write>(&self, f: &mut fmt::Formatter<W>) -> fmt::Result {
         self.as_slice().fmt(f)
     }

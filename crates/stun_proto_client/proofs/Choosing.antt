@@ -1,11 +1,11 @@
--- Which algorithm is the strongest of those in common.
+-- Which common algorithm is the strongest.
 use Rattle.std.proofs.Common.{◌≡◌, ℕ, true, false, List, Option, refl}
 use Rattle.stun_types_wire.specs.declared.algorithm.IntegrityAlgorithm.{IntegrityAlgorithm}
 use Rattle.stun_types_wire.specs.declared.algorithm.IntegrityAlgorithm.TheVariants.{Sha1, Sha256, Sha512}
 use Rattle.stun_types_wire.specs.Strength.{is_stronger}
 use Rattle.stun_proto_client.specs.Choice.{HasNoneCommon, IsStrongest, is_common}
 
--- nothing is stronger than SHA-512
+-- No algorithm is stronger than `Sha512`.
 over_sha512 : (other : IntegrityAlgorithm) → is_stronger other Sha512 ≡ false
 over_sha512 Sha1 = refl
 over_sha512 Sha256 = refl
@@ -35,5 +35,5 @@ none_is_common own offered sha512 sha256 sha1 Sha1 = sha1
 none_is_common own offered sha512 sha256 sha1 Sha256 = sha256
 none_is_common own offered sha512 sha256 sha1 Sha512 = sha512
 
--- the choice, case by case
+-- The cases of the choice.
 pub ruleset choices = (sha512_is_strongest, sha256_is_strongest, sha1_is_strongest, none_is_common)

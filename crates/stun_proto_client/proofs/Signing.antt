@@ -1,4 +1,4 @@
--- What a client signs is right under its key.
+-- What a client signs validates under its key.
 use Rattle.std.proofs.Common.{◌≡◌, ℕ, ◌<◌, ◌≤◌, ◌^◌, Bool, true, false, ltb, List, [], ◌∷◌, ◌++◌, length, Option, Some, None, refl, sym, ap, ◌∙◌, subst, append_assoc, arith, inl, inr}
 use Rattle.std.specs.List.{AllByRecursion}
 use Rattle.std.specs.Option.{option_or}
@@ -57,7 +57,7 @@ plain_by anonymous (Some s) Indication = tt
 plain_by anonymous (Some s) Success = tt
 plain_by anonymous (Some s) Error = tt
 
--- ---- and so they are lawful calls
+-- ---- and so they are valid calls
 
 or_none : (a b : Option StunWriteError) → option_or a b ≡ None → (a ≡ None) × (b ≡ None)
 or_none None b h = (refl, h)

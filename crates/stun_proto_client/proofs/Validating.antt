@@ -1,18 +1,18 @@
--- Which messages are right under a key.
+-- Which messages validate under a key.
 use Rattle.std.proofs.Common.{◌≡◌, ◌≢◌, ℕ, List, Some, None}
 use Rattle.stun_types_wire.specs.declared.algorithm.IntegrityAlgorithm.{IntegrityAlgorithm}
 use Rattle.stun_types_integrity.specs.Credentials.{Key}
-use Rattle.stun_types_wire.specs.Grammar.{shown}
+use Rattle.stun_types_wire.specs.Grammar.{visible}
 use Rattle.stun_types_integrity.specs.Integrity.{IsSigned}
 use Rattle.stun_types_message.specs.MessageValidation.{last_algorithm}
 use Rattle.stun_types_message.proofs.Validating.{none_validates, signed_validates, validates_last}
 use Rattle.stun_proto_client.specs.Digests.{IsRight, IsWrong}
 
--- a message that shows no integrity attribute, or whose last one is of another algorithm
-pub none_last : (bytes : List ℕ) (key : Key) → last_algorithm (shown bytes) ≡ None → IsWrong bytes key
+-- A message without an integrity attribute, or whose last one is of another algorithm, does not validate.
+pub none_last : (bytes : List ℕ) (key : Key) → last_algorithm (visible bytes) ≡ None → IsWrong bytes key
 none_last bytes key is = record { wrong = λ text v. none_validates bytes key.bytes key.algorithm text is v }
 
-pub other_last : (bytes : List ℕ) (key : Key) (last : IntegrityAlgorithm) → last_algorithm (shown bytes) ≡ Some last → last ≢ key.algorithm → IsWrong bytes key
+pub other_last : (bytes : List ℕ) (key : Key) (last : IntegrityAlgorithm) → last_algorithm (visible bytes) ≡ Some last → last ≢ key.algorithm → IsWrong bytes key
 other_last bytes key last is other = record {
   wrong = λ text v.
       let own = validates_last bytes key.bytes key.algorithm text v in
@@ -20,6 +20,6 @@ other_last bytes key last is other = record {
       other same;
 }
 
--- one that is signed by its last integrity attribute
-pub by_last : (bytes : List ℕ) (key : Key) → last_algorithm (shown bytes) ≡ Some key.algorithm → (text : List ℕ) × IsSigned bytes key.bytes key.algorithm text → IsRight bytes key
+-- A message that is signed by its last integrity attribute validates.
+pub by_last : (bytes : List ℕ) (key : Key) → last_algorithm (visible bytes) ≡ Some key.algorithm → (text : List ℕ) × IsSigned bytes key.bytes key.algorithm text → IsRight bytes key
 by_last bytes key is s = record { text = s.0; validates = signed_validates bytes key.bytes key.algorithm s.0 is s.1 }

@@ -1,4 +1,4 @@
--- What is told of an error.
+-- What a validation error reports.
 use Rattle.std.specs.Prelude.{Option, Some, None}
 use Rattle.stun_types_wire.specs.declared.algorithm.IntegrityAlgorithm.{IntegrityAlgorithm}
 use Rattle.stun_proto_client.specs.declared.error.LongTermClientAuthError.{LongTermClientAuthError}
@@ -6,14 +6,14 @@ use Rattle.stun_proto_client.specs.declared.error.LongTermClientAuthError.TheVar
 use Rattle.stun_proto_client.specs.declared.error.LongTermClientAuthErrorReason.{LongTermClientAuthErrorReason}
 use Rattle.stun_proto_client.specs.declared.error.LongTermClientAuthErrorReason.TheVariants as reason
 
--- the reason alone
+-- The kind of an error.
 abbrev pub reason_of : LongTermClientAuthError → LongTermClientAuthErrorReason
 reason_of Unauthorized = reason.Unauthorized
 reason_of (IntegrityFailed algorithm) = reason.IntegrityFailed
 reason_of UnsupportedFeature = reason.UnsupportedFeature
 reason_of NoMemory = reason.NoMemory
 
--- the algorithm of the last integrity attribute, where the digest is wrong
+-- The algorithm of the last integrity attribute if the error is a wrong digest, otherwise `None`.
 abbrev pub integrity_of : LongTermClientAuthError → Option IntegrityAlgorithm
 integrity_of Unauthorized = None
 integrity_of (IntegrityFailed algorithm) = Some algorithm

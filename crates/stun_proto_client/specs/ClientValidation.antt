@@ -1,9 +1,9 @@
--- What a client answers to a message, and how it is afterwards (RFC 8489, sections 9.2.4 and 9.2.5). The cases exclude
--- each other, and each says when it comes.
+-- The result of validating a message at the client, and the client afterwards (RFC 8489, sections 9.2.4 and
+-- 9.2.5). The cases exclude each other, and each states its premises.
 use Rattle.std.specs.Prelude.{◌≡◌, ◌⊎◌, ℕ, true, false, List, Option, Some, None}
 use Rattle.stun_types_wire.specs.declared.algorithm.IntegrityAlgorithm.{IntegrityAlgorithm}
 use Rattle.stun_proto_auth.specs.Claims.{claimed}
-use Rattle.stun_proto_client.specs.Challenges.{Told, challenge_shown, is_anonymous_enough}
+use Rattle.stun_proto_client.specs.Challenges.{ChallengeFields, challenge_visible, is_anonymous_enough}
 use Rattle.stun_proto_client.specs.Choice.{HasNoneCommon, IsStrongest}
 use Rattle.stun_proto_client.specs.Client.{Client, Standing, standing_key, standing_of}
 use Rattle.stun_proto_client.specs.Digests.{IsRight, IsWrong}
@@ -12,89 +12,92 @@ use Rattle.stun_proto_client.specs.declared.error.LongTermClientAuthError.TheVar
 use Rattle.stun_proto_client.specs.declared.validation.LongTermClientValidation.{LongTermClientValidation}
 use Rattle.stun_proto_client.specs.declared.validation.LongTermClientValidation.TheVariants.{ResendRequest, Validated}
 
--- a challenge that a client can answer by an algorithm: the strongest common one, and it hides the name where that is
--- required
-pub record IsAnswerable (client : Client) (told : Told) (choice : IntegrityAlgorithm) : Type 0 where
-  pub strongest : IsStrongest client.algorithms told.offered choice
-  pub anonymous : is_anonymous_enough client.anonymous_username told.nonce ≡ true
+-- The client can answer a challenge with this algorithm: it is the strongest common one, and if anonymity is
+-- required, the nonce announces it.
+pub record IsAnswerable (client : Client) (reported : ChallengeFields) (choice : IntegrityAlgorithm) : Type 0 where
+  pub strongest : IsStrongest client.algorithms reported.offered choice
+  pub anonymous : is_anonymous_enough client.anonymous_username reported.nonce ≡ true
 
--- a client that keeps a challenge, with its choice
-abbrev pub keeping : Client → Told → IntegrityAlgorithm → Client
-keeping client told choice = record client {
+-- The client with a challenge and the chosen algorithm stored.
+abbrev pub keeping : Client → ChallengeFields → IntegrityAlgorithm → Client
+keeping client reported choice = record client {
   challenge = Some
-      (record { realm = told.realm; nonce = told.nonce; offered = told.offered; choice = choice });
+      (record { realm = reported.realm; nonce = reported.nonce; offered = reported.offered; choice = choice });
   integrity = Some choice;
 }
 
--- a client whose last validation went by an algorithm, or by none
+-- The client with this algorithm recorded for its last validation, or with none.
 abbrev pub going_by : Client → Option IntegrityAlgorithm → Client
 going_by client algorithm = record client { integrity = algorithm }
 
 -- ---- a challenge
 
--- it is kept, with its choice, and the request is to be sent again
+-- The challenge is stored with the chosen algorithm, and the request is to be sent again.
 pub record IsResent (old : Client) (bytes : List ℕ) (choice : IntegrityAlgorithm) (new : Client) : Type 0 where
-  pub told : Told
-  pub shown : challenge_shown bytes ≡ Some told
-  pub answerable : IsAnswerable old told choice
-  pub kept : new ≡ keeping old told choice
+  pub reported : ChallengeFields
+  pub visible : challenge_visible bytes ≡ Some reported
+  pub answerable : IsAnswerable old reported choice
+  pub stored : new ≡ keeping old reported choice
 
--- why a challenge is not answered: no algorithm is common, or the name is not hidden
-abbrev pub IsUnanswerable : Client → Told → Type 0
-IsUnanswerable client told =
-    HasNoneCommon client.algorithms told.offered ⊎ (is_anonymous_enough client.anonymous_username told.nonce ≡ false)
+-- Why a challenge can't be answered: there is no common algorithm, or anonymity is required and not
+-- announced.
+abbrev pub IsUnanswerable : Client → ChallengeFields → Type 0
+IsUnanswerable client reported =
+    HasNoneCommon client.algorithms reported.offered ⊎ (is_anonymous_enough client.anonymous_username reported.nonce ≡ false)
 
--- it is not answered, and nothing changes
+-- The challenge can't be answered, and nothing changes.
 pub record IsUnsupported (old : Client) (bytes : List ℕ) (new : Client) : Type 0 where
-  pub told : Told
-  pub shown : challenge_shown bytes ≡ Some told
-  pub unanswerable : IsUnanswerable old told
+  pub reported : ChallengeFields
+  pub visible : challenge_visible bytes ≡ Some reported
+  pub unanswerable : IsUnanswerable old reported
   pub unchanged : new ≡ old
 
--- it can be answered, but memory is refused to keep it, and nothing changes
+-- The challenge can be answered, but an allocation to store it fails, and nothing changes.
 pub record WantsMemory (old : Client) (bytes : List ℕ) (new : Client) : Type 0 where
-  pub told : Told
-  pub shown : challenge_shown bytes ≡ Some told
+  pub reported : ChallengeFields
+  pub visible : challenge_visible bytes ≡ Some reported
   pub choice : IntegrityAlgorithm
-  pub answerable : IsAnswerable old told choice
+  pub answerable : IsAnswerable old reported choice
   pub unchanged : new ≡ old
 
 -- ---- any other message
 
--- it validates under the client's key, by the chosen algorithm, with this covered text
+-- The message is not a challenge, and validates under the client's key with the chosen algorithm.
 pub record IsValidated (old : Client) (bytes : List ℕ) (algorithm : IntegrityAlgorithm) (new : Client) : Type 0 where
-  pub no_challenge : challenge_shown bytes ≡ None
+  pub no_challenge : challenge_visible bytes ≡ None
   pub standing : Standing
-  pub stands : standing_of old ≡ Some standing
+  pub occurs : standing_of old ≡ Some standing
   pub chosen : algorithm ≡ standing.challenge.choice
   pub right : IsRight bytes (standing_key standing)
-  pub kept : new ≡ going_by old (Some algorithm)
+  pub stored : new ≡ going_by old (Some algorithm)
 
--- it shows no integrity attribute, or no challenge is kept
+-- The message is not a challenge. It has no integrity attribute, or the client has no credentials or no
+-- stored challenge.
 pub record IsUnauthorized (old : Client) (bytes : List ℕ) (new : Client) : Type 0 where
-  pub no_challenge : challenge_shown bytes ≡ None
+  pub no_challenge : challenge_visible bytes ≡ None
   pub cause : ((claimed bytes).integrity ≡ None) ⊎ (standing_of old ≡ None)
-  pub kept : new ≡ going_by old None
+  pub stored : new ≡ going_by old None
 
--- its last integrity attribute, of this algorithm, is not of the chosen one, or is wrong
+-- The message is not a challenge. Its last integrity attribute, of this algorithm, is not of the chosen
+-- algorithm or is wrong.
 pub record IsForged (old : Client) (bytes : List ℕ) (algorithm : IntegrityAlgorithm) (new : Client) : Type 0 where
-  pub no_challenge : challenge_shown bytes ≡ None
+  pub no_challenge : challenge_visible bytes ≡ None
   pub last : (claimed bytes).integrity ≡ Some algorithm
   pub standing : Standing
-  pub stands : standing_of old ≡ Some standing
+  pub occurs : standing_of old ≡ Some standing
   pub wrong : IsWrong bytes (standing_key standing)
-  pub kept : new ≡ going_by old (Some standing.challenge.choice)
+  pub stored : new ≡ going_by old (Some standing.challenge.choice)
 
--- ---- what is answered
+-- ---- the result
 
--- a message that is taken
+-- The client accepts a message.
 abbrev pub IsTaken : Client → List ℕ → LongTermClientValidation → Client → Type 0
 IsTaken old bytes (ResendRequest choice) new = IsResent old bytes choice new
 IsTaken old bytes (Validated algorithm) new = IsValidated old bytes algorithm new
 
--- a message that is refused
-abbrev pub IsTurnedDown : Client → List ℕ → LongTermClientAuthError → Client → Type 0
-IsTurnedDown old bytes Unauthorized new = IsUnauthorized old bytes new
-IsTurnedDown old bytes (IntegrityFailed algorithm) new = IsForged old bytes algorithm new
-IsTurnedDown old bytes UnsupportedFeature new = IsUnsupported old bytes new
-IsTurnedDown old bytes NoMemory new = WantsMemory old bytes new
+-- The client refuses a message.
+abbrev pub IsRejected : Client → List ℕ → LongTermClientAuthError → Client → Type 0
+IsRejected old bytes Unauthorized new = IsUnauthorized old bytes new
+IsRejected old bytes (IntegrityFailed algorithm) new = IsForged old bytes algorithm new
+IsRejected old bytes UnsupportedFeature new = IsUnsupported old bytes new
+IsRejected old bytes NoMemory new = WantsMemory old bytes new

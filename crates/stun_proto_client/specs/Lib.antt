@@ -7,6 +7,6 @@ pub mod ClientSteps
 pub mod ClientValidation
 pub mod Digests
 pub mod ShortTerm
--- What stands above this crate has these through it.
+-- Re-exported for the crates that depend on this one.
 pub use Rattle.stun_types_integrity.specs as StunTypesIntegrity
 pub use Rattle.stun_types_message.specs as StunTypesMessage

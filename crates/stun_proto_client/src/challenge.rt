@@ -1,9 +1,9 @@
-//! What a challenge tells.
+//! Reading of a server's challenge.
 
 ghost use Rattle.std.specs.Prelude.{◌≡◌, ◌↔◌};
 ghost use Rattle.std.specs.Option.{option_copied};
 ghost use Rattle.stun_proto_auth.specs.Claims.{claimed};
-ghost use Rattle.stun_proto_client.specs.Challenges.{asks_again, challenge_shown, is_anonymous_enough, list_by, told_of};
+ghost use Rattle.stun_proto_client.specs.Challenges.{asks_again, challenge_visible, is_anonymous_enough, list_by, reported_of};
 
 use std::marker::Model;
 use stun_proto_auth::claim::{Claim, error_code_of};
@@ -13,20 +13,21 @@ use stun_types_message::parsed::Message;
 use stun_types_wire::class::MessageClass;
 use stun_types_wire::registry::{STALE_NONCE, UNAUTHORIZED};
 
-/// What a challenge tells: a realm, a nonce, and the value of the list of password algorithms, where
-/// the nonce tells of one and it is there. Contracts see the record `Told`.
+/// A challenge as read from a message: its realm, its nonce and, if the nonce announces password
+/// algorithms and the list is present, the PASSWORD-ALGORITHMS value. Contracts see the record
+/// `ChallengeFields`.
 #[derive(Debug, Drop)]
-pub(crate) struct Told<'a> {
+pub(crate) struct ChallengeFields<'a> {
     realm: &'a str,
     nonce: &'a str,
     offered: Option<&'a [u8]>,
 }
 
-impl<'a> Model for Told<'a> {
+impl<'a> Model for ChallengeFields<'a> {
     ghost use Rattle.std.specs.Option.{option_copied};
-    ghost use Rattle.stun_proto_client.specs.Challenges.{Told as ToldValue};
+    ghost use Rattle.stun_proto_client.specs.Challenges.{ChallengeFields as DecodedValue};
 
-    ghost Value = { ToldValue };
+    ghost Value = { DecodedValue };
 
     ghost view = { λ t. record {
       realm = t.realm.now;
@@ -35,49 +36,50 @@ impl<'a> Model for Told<'a> {
     } };
 }
 
-impl<'a> Told<'a> {
-    /// The challenge that a message is, by what it claims: an error response with 401 or 438, a
-    /// realm and a nonce, whatever else it shows (RFC 8489, section 9.2.5).
-    pub(crate) fn by(message: &Message<'_>, claim: &'a Claim<'_>) -> Option<Told<'a>>
+impl<'a> ChallengeFields<'a> {
+    /// Reads the challenge in a message from its claim. A challenge is an error response with 401
+    /// or 438, a realm and a nonce, whatever else it has (RFC 8489, section 9.2.5). Returns `None`
+    /// for any other message.
+    pub(crate) fn by(message: &Message<'_>, claim: &'a Claim<'_>) -> Option<ChallengeFields<'a>>
         requires { claim.now ≡ claimed message.now }
-        ensures { result ≡ challenge_shown message.now }
+        ensures { result ≡ challenge_visible message.now }
     {
         if asks_again(message) {
-            Told::of_claim(claim)
+            ChallengeFields::of_claim(claim)
         } else {
             None
         }
     }
 
-    /// The challenge of a claim that names a realm and a nonce.
-    fn of_claim(claim: &'a Claim<'_>) -> Option<Told<'a>>
-        ensures { result ≡ told_of claim.now }
+    /// Returns the challenge in a claim, or `None` if it has no realm or no nonce.
+    fn of_claim(claim: &'a Claim<'_>) -> Option<ChallengeFields<'a>>
+        ensures { result ≡ reported_of claim.now }
     {
         let realm = claim.realm()?;
         let nonce = claim.nonce()?;
         let offered = list_by(nonce, claim.algorithms());
-        Some(Told {
+        Some(ChallengeFields {
             realm,
             nonce,
             offered,
         })
     }
 
-    /// The realm.
+    /// Returns the realm.
     pub(crate) fn realm(&self) -> &'a str
         ensures { result.now ≡ self.now.realm }
     {
         self.realm
     }
 
-    /// The nonce.
+    /// Returns the nonce.
     pub(crate) fn nonce(&self) -> &'a str
         ensures { result.now ≡ self.now.nonce }
     {
         self.nonce
     }
 
-    /// The value of the list of password algorithms that counts.
+    /// Returns the PASSWORD-ALGORITHMS value to choose from, if there is one.
     pub(crate) fn offered(&self) -> Option<&'a [u8]>
         ensures { option_copied result ≡ self.now.offered }
     {
@@ -85,7 +87,7 @@ impl<'a> Told<'a> {
     }
 }
 
-/// Whether a message is an error response with 401 or 438.
+/// Returns whether a message is an error response with 401 or 438.
 fn asks_again(message: &Message<'_>) -> bool
     ensures { result ≡ asks_again message.now }
 {
@@ -98,21 +100,21 @@ fn asks_again(message: &Message<'_>) -> bool
     }
 }
 
-/// The list that counts beside a nonce: none, where the nonce doesn't tell of password algorithms.
+/// Returns the list if the nonce announces password algorithms, otherwise `None`.
 fn list_by<'a>(nonce: &str, algorithms: Option<&'a [u8]>) -> Option<&'a [u8]>
     ensures { option_copied result ≡ list_by nonce.now (option_copied algorithms.entry) }
 {
-    if NonceFeatures::told_by(nonce).password_algorithms {
+    if NonceFeatures::decoded_by(nonce).password_algorithms {
         algorithms
     } else {
         None
     }
 }
 
-/// Whether the anonymity that a client asks for is there: where it is required, the nonce tells of
-/// it.
-pub(crate) fn is_anonymous_enough(asked: Feature, nonce: &str) -> bool
-    ensures { result ≡ is_anonymous_enough asked nonce.now }
+/// Returns whether a nonce satisfies the client's setting for anonymity: if it is required, the
+/// nonce has to announce it.
+pub(crate) fn is_anonymous_enough(requested: Feature, nonce: &str) -> bool
+    ensures { result ≡ is_anonymous_enough requested nonce.now }
 {
-    asked != Feature::Required || NonceFeatures::told_by(nonce).anonymous_username
+    requested != Feature::Required || NonceFeatures::decoded_by(nonce).anonymous_username
 }

@@ -1,4 +1,4 @@
-//! Why a client does not take a message.
+//! The errors of a client's validation.
 
 ghost use Rattle.std.specs.Prelude.{◌≡◌};
 ghost use Rattle.stun_proto_client.specs.ClientErrors.{integrity_of, reason_of};
@@ -7,39 +7,43 @@ use stun_types_base::memory::NoMemory;
 use stun_types_wire::algorithm::IntegrityAlgorithm;
 use thiserror::Error;
 
-/// Why a message is not validated, without what goes with it.
+/// Why a message is not validated: the kind of error, without its data.
 #[derive(Clone, Copy, Debug, PartialEq, Eq)]
 pub enum LongTermClientAuthErrorReason {
-    /// The message shows no integrity attribute, or no challenge is kept.
+    /// The message has no visible integrity attribute, or the client has no credentials or no
+    /// stored challenge.
     Unauthorized,
     /// The digest is not that of the message under the client's key.
     IntegrityFailed,
-    /// A challenge has no algorithm in common with the client, or not the feature that it requires.
+    /// The challenge has no algorithm in common with the client, or lacks the feature that the
+    /// client requires.
     UnsupportedFeature,
-    /// Memory was refused.
+    /// An allocation failed.
     NoMemory,
 }
 
 /// Why a message is not validated.
 #[derive(Clone, Copy, Debug, PartialEq, Eq, Error)]
 pub enum LongTermClientAuthError {
-    /// The message shows no integrity attribute, or no challenge is kept.
+    /// The message has no visible integrity attribute, or the client has no credentials or no
+    /// stored challenge.
     #[error("unauthorized")]
     Unauthorized,
-    /// The last integrity attribute, which is of this algorithm, is not that of the message under
-    /// the client's key by the chosen algorithm.
+    /// The last integrity attribute, which is of this algorithm, is not the one of the message
+    /// under the client's key and the chosen algorithm.
     #[error("the integrity of the message does not hold")]
     IntegrityFailed(IntegrityAlgorithm),
-    /// A challenge has no algorithm in common with the client, or not the feature that it requires.
+    /// The challenge has no algorithm in common with the client, or lacks the feature that the
+    /// client requires.
     #[error("unsupported feature")]
     UnsupportedFeature,
-    /// Memory was refused.
+    /// An allocation failed.
     #[error("no memory")]
     NoMemory,
 }
 
 impl LongTermClientAuthError {
-    /// The reason alone.
+    /// Returns the kind of the error.
     pub fn reason(&self) -> LongTermClientAuthErrorReason
         ensures { result ≡ reason_of self.now }
     {
@@ -55,8 +59,8 @@ impl LongTermClientAuthError {
         }
     }
 
-    /// The algorithm of the last integrity attribute that the message shows, where the digest is
-    /// wrong, else `None`.
+    /// Returns the algorithm of the message's last visible integrity attribute if the error is a
+    /// wrong digest, otherwise `None`.
     pub fn integrity(&self) -> Option<IntegrityAlgorithm>
         ensures { result ≡ integrity_of self.now }
     {

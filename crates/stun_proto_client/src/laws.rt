@@ -1,5 +1,5 @@
-//! What the definitions of the contracts mean for a layer above. The functions do nothing; each
-//! contract is a law.
+//! Theorems on authentication for the layers above. The functions do nothing; each contract states
+//! theorems.
 
 ghost use Rattle.std.specs.Prelude.{◌≡◌, ◌<◌, ◌^◌, ◌++◌, ℕ, List, Some, None, Result, MatchResult};
 ghost use Rattle.std.specs.List.{AllByRecursion};
@@ -12,30 +12,33 @@ ghost use Rattle.stun_types_integrity.specs.Credentials.{Key};
 ghost use Rattle.stun_types_wire.specs.declared.class.MessageClass.{MessageClass as Class};
 ghost use Rattle.stun_proto_client.specs.declared.error.LongTermClientAuthError.{LongTermClientAuthError};
 ghost use Rattle.stun_proto_client.specs.declared.validation.LongTermClientValidation.{LongTermClientValidation};
-ghost use Rattle.stun_proto_client.specs.Challenges.{challenge_shown};
+ghost use Rattle.stun_proto_client.specs.Challenges.{challenge_visible};
 ghost use Rattle.stun_proto_client.specs.Client.{Client, Standing, standing_key, standing_of};
 ghost use Rattle.stun_proto_client.specs.ClientSigning.{addition_for};
 ghost use Rattle.stun_proto_client.specs.ClientSteps.{AuthStep, IsKeyOf, accepted_by};
-ghost use Rattle.stun_proto_client.specs.ClientValidation.{IsTaken, IsTurnedDown};
+ghost use Rattle.stun_proto_client.specs.ClientValidation.{IsTaken, IsRejected};
 ghost use Rattle.stun_proto_client.specs.Digests.{IsRight};
 
-/// What any validation keeps, and what it accepts (RFC 8489, section 9.2). A message that is accepted
-/// validates under a key of the client's own credentials, whatever realm a challenge named; a
-/// challenge, or a message that is refused, accepts nothing. A message that is no challenge, and is
-/// right under the key of the challenge that counts, is always accepted. What is signed is signed
-/// under a key of the client's.
+/// States what every validation preserves, and what it accepts (RFC 8489, section 9.2):
+///
+/// - `step`: a validation keeps credentials and settings. An accepted message validates under a key
+///   of the client's own credentials, in whatever realm a challenge named. A challenge is not an
+///   accepted message, nor is a refused one.
+/// - `right`: a message that is not a challenge, and that validates under the key of the valid
+///   challenge, is always accepted.
+/// - `signs`: the key under which the client signs is a key of its own credentials.
 #[tactic(auto, using(crate::proofs::Stepping::step_of, crate::proofs::Stepping::signs_own))]
 pub fn client_laws()
     ensures step { (old new : Client) (bytes : List ℕ)
         (result : Result LongTermClientValidation LongTermClientAuthError)
         → MatchResult result (λ answer. IsTaken old bytes answer new)
-        (λ error. IsTurnedDown old bytes error new)
+        (λ error. IsRejected old bytes error new)
         → AuthStep old bytes (accepted_by result) new }
     ensures right { (old new : Client) (bytes : List ℕ) (standing : Standing)
         (result : Result LongTermClientValidation LongTermClientAuthError)
         → MatchResult result (λ answer. IsTaken old bytes answer new)
-        (λ error. IsTurnedDown old bytes error new)
-        → challenge_shown bytes ≡ None
+        (λ error. IsRejected old bytes error new)
+        → challenge_visible bytes ≡ None
         → standing_of old ≡ Some standing
         → IsRight bytes (standing_key standing)
         → accepted_by result ≡ Some standing.challenge.choice }
@@ -44,9 +47,12 @@ pub fn client_laws()
         → IsKeyOf client key }
 {}
 
-/// What a client's signing leaves of a message that was begun and took calls, each accepted: it is
-/// read as a message that shows just what these and the client added, and where the client signs it
-/// validates under the client's key (RFC 8489, sections 9.2.3 and 14.5).
+/// States what the client's signing makes of a message that was started and to which attributes
+/// were added, each accepted (RFC 8489, sections 9.2.3 and 14.5):
+///
+/// - `right`: if the client signs it, the result validates under the client's key.
+/// - `read`: the result parses as a message whose visible attributes are exactly those that were
+///   added before and those that the client added.
 
 pub fn client_signs()
     ensures right { (client : Client) (class : Class) (key : Key) (mtype number : ℕ)

@@ -1,4 +1,4 @@
-//! The client's side of long-term credentials (RFC 8489, section 9.2): what it keeps, and how it is set.
+//! The client's side of long-term credentials (RFC 8489, section 9.2): its state and its settings.
 
 ghost use Rattle.std.specs.Prelude.{◌≡◌, ◌≢◌, [], ◌∷◌, Some, None};
 ghost use Rattle.std.specs.List.{IsDistinct};
@@ -8,7 +8,7 @@ ghost use Rattle.stun_proto_auth.specs.SupportedAlgorithms.{is_same_algorithm, w
 ghost use Rattle.stun_proto_auth.specs.declared.feature.Feature.TheVariants.{Auto};
 ghost use Rattle.stun_proto_client.specs.Client.{Standing, standing_key, standing_of};
 
-use crate::kept::{KeptChallenge, key_of_both};
+use crate::stored::{StoredChallenge, key_of_both};
 use std::alloc::Global;
 use std::marker::Model;
 use stun_proto_auth::feature::Feature;
@@ -17,16 +17,17 @@ use stun_types_integrity::credentials::LongTermCredentials;
 use stun_types_integrity::key::IntegrityKey;
 use stun_types_wire::algorithm::IntegrityAlgorithm;
 
-/// The client's side of long-term authentication: its credentials, what it supports, and the last
-/// challenge that it took. Without credentials it acts as if no challenge were kept. It keeps the key
-/// that the two make. Contracts see the record `Client` of `specs/Client.antt`.
+/// The client's side of long-term authentication: its credentials, the features that it supports,
+/// and the last challenge that it accepted. Without credentials it behaves as if it had no
+/// challenge. It stores the key derived from both. Contracts see the record `Client` of
+/// `specs/Client.antt`.
 #[derive(Debug, Drop)]
 pub struct LongTermClientAuth {
     pub(crate) alloc: Global,
     pub(crate) account: Option<LongTermCredentials>,
     pub(crate) supported: SupportedIntegrity,
     pub(crate) anonymous_username: Feature,
-    pub(crate) challenge: Option<KeptChallenge>,
+    pub(crate) challenge: Option<StoredChallenge>,
     pub(crate) integrity: Option<IntegrityAlgorithm>,
     pub(crate) key: Option<IntegrityKey<'static>>,
 }
@@ -49,8 +50,9 @@ impl Model for LongTermClientAuth {
 }
 
 impl LongTermClientAuth {
-    /// A client without credentials, which keeps no challenge. It supports Sha1 alone, and hides its
-    /// name where the server can. It keeps the allocator, and holds no memory of its own yet.
+    /// Creates a client without credentials and without a challenge. It supports only `Sha1`, and
+    /// hides its name if the server supports that. It stores the allocator, and has allocated
+    /// nothing yet.
     pub fn new(alloc: Global) -> Self
         ensures { result ≡ record {
           account = None;
@@ -71,7 +73,7 @@ impl LongTermClientAuth {
         }
     }
 
-    /// Sets the credentials, in place of others. A challenge that is kept goes on to count.
+    /// Sets the credentials, replacing any others. A stored challenge stays valid.
     pub fn set_credentials(&mut self, credentials: LongTermCredentials)
         ensures { self.new ≡ record self.old { account = Some credentials } }
     {
@@ -79,38 +81,38 @@ impl LongTermClientAuth {
         self.key = key_of_both(&self.account, &self.challenge);
     }
 
-    /// The credentials, where they are set.
+    /// Returns the credentials, if they are set.
     pub fn credentials(&self) -> Option<&LongTermCredentials>
         ensures { option_copied result ≡ self.now.account }
     {
         self.account.as_ref()
     }
 
-    /// The realm of the challenge that counts: of the last one that was taken, where credentials are
-    /// set.
+    /// Returns the realm of the last challenge that was accepted. It is `None` if there was none,
+    /// or if no credentials are set.
     pub fn realm(&self) -> Option<&str>
         ensures { option_copied result
             ≡ option_map (λ (s : Standing). s.challenge.realm) (standing_of self.now) }
     {
         match self.standing() {
-            Some((_, kept)) => Some(kept.realm()),
+            Some((_, stored)) => Some(stored.realm()),
             None => None,
         }
     }
 
-    /// The nonce of the challenge that counts, as for `realm`.
+    /// Returns the nonce of the last challenge that was accepted; `None` as for `realm`.
     pub fn nonce(&self) -> Option<&str>
         ensures { option_copied result
             ≡ option_map (λ (s : Standing). s.challenge.nonce) (standing_of self.now) }
     {
         match self.standing() {
-            Some((_, kept)) => Some(kept.nonce()),
+            Some((_, stored)) => Some(stored.nonce()),
             None => None,
         }
     }
 
-    /// The integrity algorithms that are supported, in the order in which they were added: at
-    /// least one, and none twice.
+    /// Returns the supported integrity algorithms in the order in which they were added: at least
+    /// one, and none twice.
     pub fn supported_integrity(&self) -> &[IntegrityAlgorithm]
         ensures value { result.now ≡ self.now.algorithms }
         ensures never_empty { result.now ≢ [] }
@@ -119,8 +121,8 @@ impl LongTermClientAuth {
         self.supported.as_slice()
     }
 
-    /// Supports another algorithm, which goes last; one that is there already changes nothing. The
-    /// choice for a challenge that is kept stays.
+    /// Adds a supported algorithm, as the last one. If it is supported already, nothing changes.
+    /// The algorithm chosen for a stored challenge stays.
     pub fn add_supported_integrity(&mut self, algorithm: IntegrityAlgorithm)
         ensures { self.new ≡ record self.old {
           algorithms = with_algorithm self.old.algorithms algorithm;
@@ -129,50 +131,56 @@ impl LongTermClientAuth {
         self.supported = self.supported.with(algorithm);
     }
 
-    /// Supports this algorithm alone. The choice for a challenge that is kept stays.
+    /// Sets this algorithm as the only supported one. The algorithm chosen for a stored challenge
+    /// stays.
     pub fn set_supported_integrity(&mut self, algorithm: IntegrityAlgorithm)
         ensures { self.new ≡ record self.old { algorithms = algorithm ∷ [] } }
     {
         self.supported = SupportedIntegrity::only(algorithm);
     }
 
-    /// Whether the name is hidden behind a hash (RFC 8489, section 9.2.5).
+    /// Returns the setting for replacing the user's name by its hash (RFC 8489, section 9.2.5).
     pub fn anonymous_username(&self) -> Feature
         ensures { result ≡ self.now.anonymous_username }
     {
         self.anonymous_username
     }
 
-    /// Sets whether the name is hidden behind a hash: where the server can, or always, so that the
-    /// challenge of a server that can't is refused, or never.
+    /// Sets whether the user's name is replaced by its hash:
+    ///
+    /// - `Auto`: if the nonce announces that the server supports it.
+    /// - `Required`: likewise, and a challenge whose nonce does not announce it is refused. A
+    ///   challenge that is stored already stays valid.
+    /// - `Disabled`: never.
     pub fn set_anonymous_username(&mut self, anonymous_username: Feature)
         ensures { self.new ≡ record self.old { anonymous_username = anonymous_username } }
     {
         self.anonymous_username = anonymous_username;
     }
 
-    /// The algorithm chosen for the kept challenge, as the last validation left it: it is `None`
-    /// before any validation, and after one that was refused as `Unauthorized`.
+    /// Returns the algorithm chosen for the stored challenge, as the last validation left it. It is
+    /// `None` before any validation, and after one that failed with `Unauthorized`.
     pub fn integrity(&self) -> Option<IntegrityAlgorithm>
         ensures { result ≡ self.now.integrity }
     {
         self.integrity
     }
 
-    /// The key that the credentials make in the realm of the challenge, where there are both.
+    /// Returns the key of the credentials in the challenge's realm, if both exist.
     pub(crate) fn key(&self) -> Option<&IntegrityKey<'static>>
         ensures { option_copied result ≡ option_map standing_key (standing_of self.now) }
     {
         self.key.as_ref()
     }
 
-    /// The credentials and the challenge that is kept, where there are both.
-    pub(crate) fn standing(&self) -> Option<(&LongTermCredentials, &KeptChallenge)>
-        ensures { option_map (λ pair. record { account = pair.0.now; challenge = pair.1.now }) result
+    /// Returns the credentials and the stored challenge, if both exist.
+    pub(crate) fn standing(&self) -> Option<(&LongTermCredentials, &StoredChallenge)>
+        ensures { option_map (λ pair. record { account = pair.0.now; challenge = pair.1.now })
+            result
             ≡ standing_of self.now }
     {
         match (&self.account, &self.challenge) {
-            (Some(account), Some(kept)) => Some((account, kept)),
+            (Some(account), Some(stored)) => Some((account, stored)),
             _ => None,
         }
     }

@@ -1,4 +1,4 @@
-//! The signing of what goes out.
+//! Signing of messages that are sent.
 
 ghost use Rattle.std.specs.Prelude.{◌≡◌, [], ◌∷◌, None, IsSome, IfOk, min};
 ghost use Rattle.std.specs.Result.{IsOk};
@@ -7,7 +7,7 @@ ghost use Rattle.stun_types_wire.specs.RawBytes.{greatest_len};
 ghost use Rattle.stun_types_wire.specs.Attributes.{kind_at};
 ghost use Rattle.stun_types_wire.specs.Types.{class_of};
 ghost use Rattle.stun_types_wire.specs.declared.class.MessageClass.TheVariants.{Request};
-ghost use Rattle.stun_types_write.specs.Adding.{IsBegun};
+ghost use Rattle.stun_types_write.specs.Adding.{IsStarted};
 ghost use Rattle.stun_types_write.specs.Outcomes.{TakesNoMemory};
 ghost use Rattle.stun_types_auth_attributes.specs.Entries.{entry};
 ghost use Rattle.stun_proto_auth.specs.SupportedAlgorithms.{number_by};
@@ -17,8 +17,8 @@ ghost use Rattle.stun_proto_auth.specs.Sizes.{size_of};
 ghost use Rattle.stun_proto_client.specs.Client.{standing_key};
 ghost use Rattle.stun_proto_client.specs.ClientSigning.{addition_for, hides_name, name_part, standing_addition};
 
-use crate::kept::KeptChallenge;
 use crate::long_term::LongTermClientAuth;
+use crate::stored::StoredChallenge;
 use stun_proto_auth::feature::Feature;
 use stun_proto_auth::nonce::NonceFeatures;
 use stun_proto_auth::number::number_by;
@@ -36,23 +36,33 @@ use stun_types_wire::error::StunWriteError;
 use stun_types_write::writer::MessageWrite;
 
 impl LongTermClientAuth {
-    /// Signs a message, and gives the writer back (RFC 8489, sections 9.2.3 and 9.2.5). Where
-    /// credentials are set and a challenge is kept, a request gets USERNAME, or USERHASH where the
-    /// nonce tells that the server takes it and it isn't disabled; REALM and NONCE; where the choice
-    /// came from a list, PASSWORD-ALGORITHMS as the server gave it and PASSWORD-ALGORITHM; and the
-    /// integrity attribute of the chosen algorithm. A response gets that attribute alone. Else, and to
-    /// an indication, nothing is added. The integrity attribute stands alone, and is written in full.
+    /// Signs a message and returns the writer (RFC 8489, sections 9.2.3 and 9.2.5). If credentials
+    /// are set and a challenge is stored, it adds the following attributes, in this order:
     ///
-    /// The attributes are taken one after another, and the first cause counts: of a part `TooLarge`,
-    /// for more than 513 bytes of a name or 763 of a realm or a nonce, and then the causes of
-    /// `add_attribute`; of the integrity attribute those of `add_message_integrity`. Where memory is
-    /// refused, and nothing else is, `NoMemory`, which a writer with a greatest size never answers. A
-    /// refusal drops the writer. The client is as it was in each case.
+    /// - To a request: USERNAME, or USERHASH if the nonce announces that the server accepts it and
+    ///   it is not disabled; REALM; NONCE; if the algorithm was chosen from a list,
+    ///   PASSWORD-ALGORITHMS as the server sent it and PASSWORD-ALGORITHM; the integrity attribute
+    ///   of the chosen algorithm.
+    /// - To a response: the integrity attribute only.
+    /// - To an indication: nothing.
+    ///
+    /// Without credentials or without a challenge, nothing is added. One integrity attribute is
+    /// added at most, with the full digest.
+    ///
+    /// # Errors
+    ///
+    /// The attributes are checked in order, and the first error is returned. A refusal drops the
+    /// writer, and the client is unchanged.
+    ///
+    /// 1. For each attribute before the integrity attribute: `TooLarge` for a name over 513 bytes
+    ///    or a realm or nonce over 763 bytes, then the errors of `add_attribute`.
+    /// 2. For the integrity attribute: the errors of `add_message_integrity`.
+    /// 3. `NoMemory`: an allocation failed. It never occurs with a writer that has a size limit.
     pub fn sign_outgoing_message<W: MessageWrite + Drop>(
         &self,
         writer: W,
     ) -> Result<W, StunWriteError>
-        requires { IsBegun (W.draft writer).bytes }
+        requires { IsStarted (W.draft writer).bytes }
         ensures ok { IfOk result (λ signed. IsMade
             (addition_for self.now (class_of (kind_at (W.draft writer).bytes)))
             (W.draft writer) (W.draft signed)) }
@@ -62,21 +72,25 @@ impl LongTermClientAuth {
         ensures lent { TakesNoMemory (W.draft writer) result }
     {
         match (self.standing(), self.key()) {
-            (Some((account, kept)), Some(key)) => {
-                let hidden = hides_name(self.anonymous_username, kept.nonce());
-                sign_standing(writer, hidden, account, kept, key)
+            (Some((account, stored)), Some(key)) => {
+                let hidden = hides_name(self.anonymous_username, stored.nonce());
+                sign_standing(writer, hidden, account, stored, key)
             }
             _ => sign(writer, &[], None),
         }
     }
 
-    /// The same, where `sign_outgoing_message` has nothing to refuse but for memory. Where memory is
-    /// refused, `NoMemory`, and the writer is dropped. The client is as it was.
+    /// Signs a message as `sign_outgoing_message` does. The caller has to know that nothing but a
+    /// failed allocation can prevent it. The client is unchanged.
+    ///
+    /// # Errors
+    ///
+    /// - `NoMemory`: an allocation failed. The writer is dropped.
     pub fn sign_outgoing_message_unchecked<W: MessageWrite + Drop>(
         &self,
         writer: W,
     ) -> Result<W, NoMemory>
-        requires begun { IsBegun (W.draft writer).bytes }
+        requires started { IsStarted (W.draft writer).bytes }
         requires accepted { addition_refusal
             (addition_for self.now (class_of (kind_at (W.draft writer).bytes)))
             (W.draft writer) ≡ None }
@@ -88,20 +102,20 @@ impl LongTermClientAuth {
         match self.sign_outgoing_message(writer) {
             Ok(signed) => Ok(signed),
             Err(StunWriteError::NoMemory) => Err(NoMemory),
-            // What is required leaves no other cause.
+            // The precondition rules out every other error.
             Err(_) => unreachable!(),
         }
     }
 
-    /// How many bytes `sign_outgoing_message` adds to a request. It is 0 where nothing is added, and
-    /// where a text that would be is over its limit.
+    /// Returns how many bytes `sign_outgoing_message` adds to a request. It is 0 if nothing is
+    /// added, and if a text to be added is over its limit.
     pub fn message_signature_bytes(&self) -> usize
         ensures { result ≡ min (size_of (addition_for self.now Request)) greatest_len }
     {
         match self.standing() {
-            Some((account, kept)) => {
-                let hidden = hides_name(self.anonymous_username, kept.nonce());
-                request_bytes(hidden, account, kept)
+            Some((account, stored)) => {
+                let hidden = hides_name(self.anonymous_username, stored.nonce());
+                request_bytes(hidden, account, stored)
             }
             None => signature_bytes(&[], None),
         }
@@ -113,22 +127,22 @@ fn sign_standing<W: MessageWrite + Drop>(
     writer: W,
     hidden: bool,
     account: &LongTermCredentials,
-    kept: &KeptChallenge,
+    stored: &StoredChallenge,
     key: &IntegrityKey<'_>,
 ) -> Result<W, StunWriteError>
-    requires begun { IsBegun (W.draft writer).bytes }
+    requires started { IsStarted (W.draft writer).bytes }
     requires key { key.now
-        ≡ standing_key (record { account = account.now; challenge = kept.now }) }
+        ≡ standing_key (record { account = account.now; challenge = stored.now }) }
     ensures ok { IfOk result (λ signed. IsMade
-        (standing_addition hidden (record { account = account.now; challenge = kept.now })
+        (standing_addition hidden (record { account = account.now; challenge = stored.now })
         (class_of (kind_at (W.draft writer).bytes))) (W.draft writer) (W.draft signed)) }
     ensures cause { RefusesFor StunWriteError.NoMemory (addition_refusal
-        (standing_addition hidden (record { account = account.now; challenge = kept.now })
+        (standing_addition hidden (record { account = account.now; challenge = stored.now })
         (class_of (kind_at (W.draft writer).bytes))) (W.draft writer)) result }
     ensures lent { TakesNoMemory (W.draft writer) result }
 {
     match writer.class() {
-        MessageClass::Request => sign_request(writer, hidden, account, kept, key),
+        MessageClass::Request => sign_request(writer, hidden, account, stored, key),
         MessageClass::Indication => sign(writer, &[], None),
         MessageClass::Success | MessageClass::Error => sign(writer, &[], Some(key)),
     }
@@ -139,92 +153,97 @@ fn sign_request<W: MessageWrite + Drop>(
     writer: W,
     hidden: bool,
     account: &LongTermCredentials,
-    kept: &KeptChallenge,
+    stored: &StoredChallenge,
     key: &IntegrityKey<'_>,
 ) -> Result<W, StunWriteError>
-    requires begun { IsBegun (W.draft writer).bytes }
+    requires started { IsStarted (W.draft writer).bytes }
     requires key { key.now
-        ≡ standing_key (record { account = account.now; challenge = kept.now }) }
+        ≡ standing_key (record { account = account.now; challenge = stored.now }) }
     ensures ok { IfOk result (λ signed. IsMade
-        (standing_addition hidden (record { account = account.now; challenge = kept.now }) Request)
+        (standing_addition hidden (record { account = account.now; challenge = stored.now })
+        Request)
         (W.draft writer) (W.draft signed)) }
     ensures cause { RefusesFor StunWriteError.NoMemory (addition_refusal
-        (standing_addition hidden (record { account = account.now; challenge = kept.now }) Request)
+        (standing_addition hidden (record { account = account.now; challenge = stored.now })
+        Request)
         (W.draft writer)) result }
     ensures lent { TakesNoMemory (W.draft writer) result }
 {
-    let hash = Userhash::compute(account.username(), kept.realm());
-    let entry = entry_of(kept.choice());
-    match kept.offered() {
+    let hash = Userhash::compute(account.username(), stored.realm());
+    let entry = entry_of(stored.choice());
+    match stored.offered() {
         Some(offered) => {
-            let parts = parts_with_list(hidden, account, kept, &hash, offered, &entry);
+            let parts = parts_with_list(hidden, account, stored, &hash, offered, &entry);
             sign(writer, &parts, Some(key))
         }
         None => sign(
             writer,
-            &parts_alone(hidden, account, kept, &hash),
+            &parts_alone(hidden, account, stored, &hash),
             Some(key),
         ),
     }
 }
 
-/// How many bytes a request gets under credentials and a challenge.
-fn request_bytes(hidden: bool, account: &LongTermCredentials, kept: &KeptChallenge) -> usize
+/// Returns how many bytes signing adds to a request under credentials and a challenge.
+fn request_bytes(hidden: bool, account: &LongTermCredentials, stored: &StoredChallenge) -> usize
     ensures { result ≡ min (size_of
-        (standing_addition hidden (record { account = account.now; challenge = kept.now }) Request))
+        (standing_addition hidden (record { account = account.now; challenge = stored.now })
+        Request))
         greatest_len }
 {
-    let hash = Userhash::compute(account.username(), kept.realm());
-    let entry = entry_of(kept.choice());
-    let algorithm = Some(kept.choice());
-    match kept.offered() {
+    let hash = Userhash::compute(account.username(), stored.realm());
+    let entry = entry_of(stored.choice());
+    let algorithm = Some(stored.choice());
+    match stored.offered() {
         Some(offered) => {
-            let parts = parts_with_list(hidden, account, kept, &hash, offered, &entry);
+            let parts = parts_with_list(hidden, account, stored, &hash, offered, &entry);
             signature_bytes(&parts, algorithm)
         }
-        None => signature_bytes(&parts_alone(hidden, account, kept, &hash), algorithm),
+        None => signature_bytes(&parts_alone(hidden, account, stored, &hash), algorithm),
     }
 }
 
-/// What a request gets before its integrity attribute, where the choice came from a list.
+/// Returns what is added to a request before its integrity attribute if the algorithm was chosen
+/// from a list.
 fn parts_with_list<'a>(
     hidden: bool,
     account: &'a LongTermCredentials,
-    kept: &'a KeptChallenge,
+    stored: &'a StoredChallenge,
     hash: &'a [u8; 32],
     offered: &'a [u8],
     entry: &'a [u8; 4],
 ) -> [Part<'a>; 5]
-    ensures { result ≡ name_part hidden account.now.username hash.now ∷ realm_of kept.now.realm
-        ∷ nonce_of kept.now.nonce ∷ algorithms_of offered.now ∷ algorithm_of entry.now ∷ [] }
+    ensures { result ≡ name_part hidden account.now.username hash.now ∷ realm_of stored.now.realm
+        ∷ nonce_of stored.now.nonce ∷ algorithms_of offered.now ∷ algorithm_of entry.now ∷ [] }
 {
     [
         name_part(hidden, account.username(), hash),
-        Part::realm(kept.realm()),
-        Part::nonce(kept.nonce()),
+        Part::realm(stored.realm()),
+        Part::nonce(stored.nonce()),
         Part::algorithms(offered),
         Part::algorithm(entry),
     ]
 }
 
-/// What a request gets before its integrity attribute, where there was no list.
+/// Returns what is added to a request before its integrity attribute if there was no list.
 fn parts_alone<'a>(
     hidden: bool,
     account: &'a LongTermCredentials,
-    kept: &'a KeptChallenge,
+    stored: &'a StoredChallenge,
     hash: &'a [u8; 32],
 ) -> [Part<'a>; 3]
-    ensures { result ≡ name_part hidden account.now.username hash.now ∷ realm_of kept.now.realm
-        ∷ nonce_of kept.now.nonce ∷ [] }
+    ensures { result ≡ name_part hidden account.now.username hash.now ∷ realm_of stored.now.realm
+        ∷ nonce_of stored.now.nonce ∷ [] }
 {
     [
         name_part(hidden, account.username(), hash),
-        Part::realm(kept.realm()),
-        Part::nonce(kept.nonce()),
+        Part::realm(stored.realm()),
+        Part::nonce(stored.nonce()),
     ]
 }
 
-/// The name, or in its place the hash of it.
+/// Returns the attribute that identifies the user: USERHASH if the name is hidden, otherwise
+/// USERNAME.
 fn name_part<'a>(hidden: bool, name: &'a str, hash: &'a [u8; 32]) -> Part<'a>
     ensures { result ≡ name_part hidden name.now hash.now }
 {
@@ -235,7 +254,7 @@ fn name_part<'a>(hidden: bool, name: &'a str, hash: &'a [u8; 32]) -> Part<'a>
     }
 }
 
-/// The value of the PASSWORD-ALGORITHM that tells an algorithm (RFC 8489, section 14.12).
+/// Returns the value of the PASSWORD-ALGORITHM for an algorithm (RFC 8489, section 14.12).
 fn entry_of(choice: IntegrityAlgorithm) -> [u8; 4]
     ensures { result ≡ entry (number_by choice) }
 {
@@ -243,10 +262,10 @@ fn entry_of(choice: IntegrityAlgorithm) -> [u8; 4]
     [high, low, 0, 0]
 }
 
-/// Whether the name is hidden behind a hash: the nonce tells that the server takes it, and the client
-/// doesn't forbid it.
-fn hides_name(asked: Feature, nonce: &str) -> bool
-    ensures { result ≡ hides_name asked nonce.now }
+/// Returns whether the name is replaced by its hash: the nonce announces that the server accepts
+/// it, and the client has not disabled it.
+fn hides_name(requested: Feature, nonce: &str) -> bool
+    ensures { result ≡ hides_name requested nonce.now }
 {
-    asked != Feature::Disabled && NonceFeatures::told_by(nonce).anonymous_username
+    requested != Feature::Disabled && NonceFeatures::decoded_by(nonce).anonymous_username
 }

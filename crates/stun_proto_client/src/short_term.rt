@@ -3,7 +3,7 @@
 ghost use Rattle.std.specs.Prelude.{◌≡◌, Some, None, IfOk, IsSome, MatchResult};
 ghost use Rattle.std.specs.Result.{IsOk};
 ghost use Rattle.stun_types_base.specs.Refusals.{RefusesFor};
-ghost use Rattle.stun_types_write.specs.Adding.{IsBegun};
+ghost use Rattle.stun_types_write.specs.Adding.{IsStarted};
 ghost use Rattle.stun_types_write.specs.Outcomes.{TakesNoMemory};
 ghost use Rattle.stun_proto_auth.specs.Addition.{addition_refusal};
 ghost use Rattle.stun_proto_auth.specs.AdditionStages.{IsMade};
@@ -26,8 +26,9 @@ use stun_types_wire::algorithm::IntegrityAlgorithm;
 use stun_types_wire::error::{StunWriteError, ValidateError};
 use stun_types_write::writer::MessageWrite;
 
-/// Authentication by a password that counts in one session, which both sides know. It keeps what the
-/// HMACs under its key begin with. Contracts see the record `ShortTerm` of `specs/ShortTerm.antt`.
+/// Authentication with a password that both sides know and that is valid for one session. It stores
+/// the initial HMAC states under its key. Contracts see the record `ShortTerm` of
+/// `specs/ShortTerm.antt`.
 #[derive(Debug, Drop)]
 pub struct ShortTermAuth {
     account: Option<ShortTermKeyCredentials>,
@@ -46,14 +47,14 @@ impl Model for ShortTermAuth {
 }
 
 impl ShortTermAuth {
-    /// Without credentials.
+    /// Creates an authenticator without credentials.
     pub fn new() -> ShortTermAuth
         ensures { result ≡ record { account = None } }
     {
         ShortTermAuth { account: None }
     }
 
-    /// Sets the credentials and the algorithm by which they are used, in place of others.
+    /// Sets the credentials and the algorithm to use them with, replacing any others.
     pub fn set_credentials(
         &mut self,
         credentials: ShortTermCredentials,
@@ -66,7 +67,7 @@ impl ShortTermAuth {
         self.account = Some(ShortTermKeyCredentials::new(credentials, algorithm));
     }
 
-    /// The credentials and their algorithm, where they are set.
+    /// Returns the credentials and their algorithm, if they are set.
     pub fn credentials(&self) -> Option<(&ShortTermCredentials, IntegrityAlgorithm)>
         ensures { option_map (λ pair. record { secret = pair.0.now; algorithm = pair.1 }) result
             ≡ self.now.account }
@@ -77,8 +78,8 @@ impl ShortTermAuth {
         }
     }
 
-    /// The key under which messages are signed and validated, where credentials are set: it borrows
-    /// the password.
+    /// Returns the key under which messages are signed and validated, if credentials are set. It
+    /// borrows the password.
     pub fn integrity_key(&self) -> Option<IntegrityKey<'_>>
         ensures { result ≡ option_map short_key self.now.account }
     {
@@ -88,7 +89,7 @@ impl ShortTermAuth {
         }
     }
 
-    /// How many bytes `sign_outgoing_message` adds: 0 without credentials.
+    /// Returns how many bytes `sign_outgoing_message` adds: 0 without credentials.
     pub fn message_signature_bytes(&self) -> usize
         ensures { result ≡ size_of (short_addition self.now.account) }
     {
@@ -98,15 +99,20 @@ impl ShortTermAuth {
         }
     }
 
-    /// Signs a message, and gives the writer back. With credentials the integrity attribute of their
-    /// algorithm is added, which stands alone and is written in full; without them nothing is.
-    /// Refused as `add_message_integrity` is; where memory is refused, and nothing else is,
-    /// `NoMemory`, which a writer with a greatest size never answers. A refusal drops the writer.
+    /// Signs a message and returns the writer. With credentials, it adds one integrity attribute of
+    /// their algorithm, with the full digest. Without credentials, it adds nothing.
+    ///
+    /// # Errors
+    ///
+    /// A refusal drops the writer.
+    ///
+    /// 1. The errors of `add_message_integrity`.
+    /// 2. `NoMemory`: an allocation failed. It never occurs with a writer that has a size limit.
     pub fn sign_outgoing_message<W: MessageWrite + Drop>(
         &self,
         writer: W,
     ) -> Result<W, StunWriteError>
-        requires { IsBegun (W.draft writer).bytes }
+        requires { IsStarted (W.draft writer).bytes }
         ensures ok { IfOk result (λ signed. IsMade (short_addition self.now.account)
             (W.draft writer) (W.draft signed)) }
         ensures cause { RefusesFor StunWriteError.NoMemory
@@ -119,13 +125,17 @@ impl ShortTermAuth {
         }
     }
 
-    /// The same, where `sign_outgoing_message` has nothing to refuse but for memory. Where memory is
-    /// refused, `NoMemory`, and the writer is dropped.
+    /// Signs a message as `sign_outgoing_message` does. The caller has to know that nothing but a
+    /// failed allocation can prevent it.
+    ///
+    /// # Errors
+    ///
+    /// - `NoMemory`: an allocation failed. The writer is dropped.
     pub fn sign_outgoing_message_unchecked<W: MessageWrite + Drop>(
         &self,
         writer: W,
     ) -> Result<W, NoMemory>
-        requires begun { IsBegun (W.draft writer).bytes }
+        requires started { IsStarted (W.draft writer).bytes }
         requires accepted { addition_refusal (short_addition self.now.account) (W.draft writer)
             ≡ None }
         ensures ok { IfOk result (λ signed. IsMade (short_addition self.now.account)
@@ -135,14 +145,18 @@ impl ShortTermAuth {
         match self.sign_outgoing_message(writer) {
             Ok(signed) => Ok(signed),
             Err(StunWriteError::NoMemory) => Err(NoMemory),
-            // What is required leaves no other cause.
+            // The precondition rules out every other error.
             Err(_) => unreachable!(),
         }
     }
 
-    /// Validates a message. Without credentials the answer is `None`. With them it is their
-    /// algorithm, where the last integrity attribute that the message shows is of that algorithm and
-    /// right under the key. Refused with `IntegrityFailed` in every other case.
+    /// Validates a message, and returns the algorithm of the credentials. Without credentials the
+    /// result is `None`.
+    ///
+    /// # Errors
+    ///
+    /// - `IntegrityFailed`: credentials are set, and the message's last visible integrity attribute
+    ///   is missing, is of another algorithm, or does not validate under the key.
     pub fn validate_incoming_message(
         &self,
         message: &Message<'_>,
@@ -154,7 +168,7 @@ impl ShortTermAuth {
         let Some(key) = self.integrity_key() else {
             return Ok(None);
         };
-        if is_shown_right(message, &key) {
+        if is_visible_right(message, &key) {
             Ok(Some(key.algorithm()))
         } else {
             Err(ValidateError::IntegrityFailed)
@@ -162,10 +176,10 @@ impl ShortTermAuth {
     }
 }
 
-/// Whether the last integrity attribute that a message shows is of a key's algorithm, and right
-/// under it.
+/// Returns whether a message's last visible integrity attribute is of the key's algorithm and
+/// validates under the key.
 #[tactic(auto, using(crate::proofs::Validating::none_last))]
-fn is_shown_right(message: &Message<'_>, key: &IntegrityKey<'_>) -> bool
+fn is_visible_right(message: &Message<'_>, key: &IntegrityKey<'_>) -> bool
     ensures { MatchBool result (IsRight message.now key.now) (IsWrong message.now key.now) }
 {
     match message.last_integrity() {

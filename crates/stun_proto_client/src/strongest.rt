@@ -1,4 +1,4 @@
-//! The algorithm that both sides have.
+//! The choice of an algorithm that both sides support.
 
 ghost use Rattle.std.specs.Prelude.{◌≡◌, MatchOption};
 ghost use Rattle.std.specs.Option.{option_copied};
@@ -8,8 +8,9 @@ use stun_proto_auth::algorithms::offers;
 use stun_proto_auth::supported::SupportedIntegrity;
 use stun_types_wire::algorithm::IntegrityAlgorithm;
 
-/// The strongest algorithm that a client supports and a server takes, where they have one in common:
-/// the server takes those that its PASSWORD-ALGORITHMS lists, or without such a list `Sha1` alone.
+/// Returns the strongest algorithm that the client supports and the server accepts, or `None` if
+/// they have none in common. The server accepts the algorithms that its PASSWORD-ALGORITHMS lists;
+/// without a list, only `Sha1`.
 #[tactic(auto, using(crate::proofs::Choosing::choices))]
 pub(crate) fn strongest(
     own: SupportedIntegrity,
@@ -29,14 +30,15 @@ pub(crate) fn strongest(
     }
 }
 
-/// Whether both sides have an algorithm.
+/// Returns whether the client supports an algorithm and the server accepts it.
 fn is_common(own: SupportedIntegrity, offered: Option<&[u8]>, algorithm: IntegrityAlgorithm) -> bool
     ensures { result ≡ is_common own (option_copied offered.entry) algorithm }
 {
     own.supports(algorithm) && takes(offered, algorithm)
 }
 
-/// Whether a server takes an algorithm: it lists it, or lists none and the algorithm is `Sha1`.
+/// Returns whether the server accepts an algorithm: its list has it, or there is no list and the
+/// algorithm is `Sha1`.
 fn takes(offered: Option<&[u8]>, algorithm: IntegrityAlgorithm) -> bool
     ensures { result ≡ takes (option_copied offered.entry) algorithm }
 {

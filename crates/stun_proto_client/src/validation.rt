@@ -1,103 +1,117 @@
-//! The validation of what comes in, and what is kept of it.
+//! Validation of received messages, and the state that it leaves.
 
 ghost use Rattle.std.specs.Prelude.{◌≡◌, MatchResult, MatchOption, Some, None};
 ghost use Rattle.stun_proto_auth.specs.Claims.{claimed};
 ghost use Rattle.std.specs.Bool.{MatchBool};
-ghost use Rattle.stun_proto_client.specs.Challenges.{challenge_shown};
-ghost use Rattle.stun_proto_client.specs.ClientValidation.{IsAnswerable, IsTaken, IsTurnedDown, IsUnanswerable};
+ghost use Rattle.stun_proto_client.specs.Challenges.{challenge_visible};
+ghost use Rattle.stun_proto_client.specs.ClientValidation.{IsAnswerable, IsTaken, IsRejected, IsUnanswerable};
 ghost use Rattle.stun_proto_client.specs.Digests.{IsRight, IsWrong};
 
-use crate::challenge::{Told, is_anonymous_enough};
+use crate::challenge::{ChallengeFields, is_anonymous_enough};
 use crate::error::LongTermClientAuthError;
-use crate::kept::{KeptChallenge, key_of_both};
 use crate::long_term::LongTermClientAuth;
+use crate::stored::{StoredChallenge, key_of_both};
 use crate::strongest::strongest;
 use stun_proto_auth::claim::Claim;
 use stun_types_integrity::key::IntegrityKey;
 use stun_types_message::parsed::Message;
 use stun_types_wire::algorithm::IntegrityAlgorithm;
 
-/// What a client answers to a message that it takes.
+/// The result for a message that a client accepts.
 #[derive(Clone, Copy, Debug, PartialEq, Eq)]
 pub enum LongTermClientValidation {
-    /// The message is a challenge, which is kept: the request is to be signed anew, by this
-    /// algorithm, and sent again.
+    /// The message is a challenge, which is now stored. Sign the request anew, which uses this
+    /// algorithm, and send it again.
     ResendRequest(IntegrityAlgorithm),
-    /// The message is one of the server's, by the integrity attribute of this algorithm.
+    /// The message is from the server, by its integrity attribute of this algorithm.
     Validated(IntegrityAlgorithm),
 }
 
 impl LongTermClientAuth {
-    /// Validates a message. An error response with 401 or 438, a realm and a nonce is a challenge,
-    /// whatever else it shows. It is kept, with the strongest algorithm that both sides have, and the
-    /// answer is `ResendRequest`; without a list of algorithms that the nonce tells of, the server
-    /// has `Sha1`. A challenge is refused with `UnsupportedFeature`, and nothing changes, where no
-    /// algorithm is common, or where anonymity is required and the nonce doesn't tell of it. Any
-    /// other message is refused with `Unauthorized` where it shows no integrity attribute or no
-    /// challenge is kept, and with `IntegrityFailed` where its last one isn't of the chosen
-    /// algorithm, or is wrong. Else it is `Validated`. Of each kind of attribute the last one shown
-    /// decides, and a malformed one is as if there were none.
+    /// Validates a received message:
     ///
-    /// Memory is asked for to keep a challenge that nothing else refuses. Where it is refused, with
-    /// `NoMemory`, nothing changes.
+    /// - An error response with 401 or 438, a realm and a nonce is a challenge, whatever else it
+    ///   has. It is stored with the strongest algorithm that both sides support, and the result is
+    ///   `ResendRequest`. If the nonce announces no list of algorithms, or the list is absent, the
+    ///   server supports `Sha1`.
+    /// - Any other message is `Validated` if its last integrity attribute is of the chosen
+    ///   algorithm and validates under the client's key.
+    ///
+    /// Of several visible attributes of one type the last one counts, and a malformed one counts as
+    /// absent.
+    ///
+    /// # Errors
+    ///
+    /// For a challenge, a refusal changes nothing:
+    ///
+    /// 1. `UnsupportedFeature`: anonymity is required and the nonce does not announce it, or there
+    ///    is no common algorithm.
+    /// 2. `NoMemory`: an allocation failed.
+    ///
+    /// For any other message, a refusal changes at most the result of `integrity`:
+    ///
+    /// 1. `Unauthorized`: the message has no integrity attribute, or the client has no credentials
+    ///    or no stored challenge.
+    /// 2. `IntegrityFailed`: the last integrity attribute is not of the chosen algorithm, or is
+    ///    wrong.
     pub fn validate_incoming_message(
         &mut self,
         message: &Message<'_>,
     ) -> Result<LongTermClientValidation, LongTermClientAuthError>
         ensures { MatchResult result
             (λ answer. IsTaken self.old message.now answer self.new)
-            (λ error. IsTurnedDown self.old message.now error self.new) }
+            (λ error. IsRejected self.old message.now error self.new) }
     {
         let claim = Claim::of(message);
-        match Told::by(message, &claim) {
-            Some(told) => self.take_challenge(message, &told),
+        match ChallengeFields::by(message, &claim) {
+            Some(decoded) => self.take_challenge(message, &decoded),
             None => self.take_message(message, claim.integrity()),
         }
     }
 
-    /// Keeps the challenge that a message is, where it can be answered.
+    /// Stores the challenge in a message, if the client can answer it.
     fn take_challenge(
         &mut self,
         message: &Message<'_>,
-        told: &Told<'_>,
+        decoded: &ChallengeFields<'_>,
     ) -> Result<LongTermClientValidation, LongTermClientAuthError>
-        requires { challenge_shown message.now ≡ Some told.now }
+        requires { challenge_visible message.now ≡ Some decoded.now }
         ensures { MatchResult result
             (λ answer. IsTaken self.old message.now answer self.new)
-            (λ error. IsTurnedDown self.old message.now error self.new) }
+            (λ error. IsRejected self.old message.now error self.new) }
     {
-        let Some(choice) = self.choice_for(told) else {
+        let Some(choice) = self.choice_for(decoded) else {
             return Err(LongTermClientAuthError::UnsupportedFeature);
         };
-        let kept = KeptChallenge::of(self.alloc, told, choice)?;
-        self.challenge = Some(kept);
+        let stored = StoredChallenge::of(self.alloc, decoded, choice)?;
+        self.challenge = Some(stored);
         self.key = key_of_both(&self.account, &self.challenge);
         self.integrity = Some(choice);
         Ok(LongTermClientValidation::ResendRequest(choice))
     }
 
-    /// The algorithm by which a challenge is answered, where it can be.
-    fn choice_for(&self, told: &Told<'_>) -> Option<IntegrityAlgorithm>
-        ensures { MatchOption result (IsUnanswerable self.now told.now)
-            (λ choice. IsAnswerable self.now told.now choice) }
+    /// Returns the algorithm to answer a challenge with, or `None` if the client can't answer it.
+    fn choice_for(&self, decoded: &ChallengeFields<'_>) -> Option<IntegrityAlgorithm>
+        ensures { MatchOption result (IsUnanswerable self.now decoded.now)
+            (λ choice. IsAnswerable self.now decoded.now choice) }
     {
-        if !is_anonymous_enough(self.anonymous_username, told.nonce()) {
+        if !is_anonymous_enough(self.anonymous_username, decoded.nonce()) {
             return None;
         }
-        strongest(self.supported, told.offered())
+        strongest(self.supported, decoded.offered())
     }
 
-    /// Validates a message that is no challenge, and keeps by which algorithm.
+    /// Validates a message that is not a challenge, and records the algorithm.
     fn take_message(
         &mut self,
         message: &Message<'_>,
         last: Option<IntegrityAlgorithm>,
     ) -> Result<LongTermClientValidation, LongTermClientAuthError>
-        requires no_challenge { challenge_shown message.now ≡ None }
+        requires no_challenge { challenge_visible message.now ≡ None }
         requires last { last ≡ (claimed message.now).integrity }
         ensures { MatchResult result
             (λ answer. IsTaken self.old message.now answer self.new)
-            (λ error. IsTurnedDown self.old message.now error self.new) }
+            (λ error. IsRejected self.old message.now error self.new) }
     {
         let (Some(last), Some(key)) = (last, self.key()) else {
             self.integrity = None;
@@ -114,7 +128,8 @@ impl LongTermClientAuth {
     }
 }
 
-/// Whether a message whose last integrity attribute is of a key's algorithm validates under it.
+/// Returns whether a message validates under a key. Its last integrity attribute has to be of the
+/// key's algorithm.
 #[tactic(auto, using(crate::proofs::Validating::by_last))]
 pub(crate) fn is_valid(message: &Message<'_>, key: &IntegrityKey<'_>) -> bool
     requires { (claimed message.now).integrity ≡ Some key.now.algorithm }
@@ -126,8 +141,8 @@ pub(crate) fn is_valid(message: &Message<'_>, key: &IntegrityKey<'_>) -> bool
     }
 }
 
-/// Whether a message whose last integrity attribute is of an algorithm validates under a key, by the
-/// key's algorithm.
+/// Returns whether a message validates under a key, by the key's algorithm. `last` is the algorithm
+/// of its last integrity attribute.
 #[tactic(auto, using(crate::proofs::Validating::other_last))]
 pub(crate) fn is_right(
     message: &Message<'_>,

@@ -1,4 +1,4 @@
--- A change for one address is not seen by another.
+-- A change for one address is not visible to another.
 use Rattle.std.proofs.Common.{◌≡◌, ◌≢◌, ℕ, true, false, Option, Some, None, refl, ap, ◌∙◌, cond}
 use Rattle.std.specs.FinMap as map
 use Rattle.std.specs.Ordering.{is_eq, eq_by_cmp}
@@ -10,13 +10,13 @@ use Rattle.stun_proto_verify.specs.Knowledge.{Outcome}
 use Rattle.stun_proto_server.specs.Server.{Client, Server, set_outcome, with_new_nonce, with_outcome, SameFor}
 use Rattle.stun_types_base.specs.SocketAddrs.{socket_addr_cmp, socket_addr_cmp_total, socket_addr_cmp-IsAntisymmetric}
 
--- a comparison that ties answers equal
+-- A comparison that tests as equal is `Equal`.
 pub tie : (answer : Ordering) → is_eq answer ≡ true → answer ≡ Equal
 tie Less is = absurd (Prim.cc is)
 tie Equal is = refl
 tie Greater is = absurd (Prim.cc is)
 
--- different addresses don't tie
+-- Different addresses do not compare as equal.
 pub apart : (other client : SocketAddr) → other ≢ client → eq_by_cmp socket_addr_cmp other client ≡ false
 apart other client different =
     elim (eq_by_cmp socket_addr_cmp other client) as (λ b. eq_by_cmp socket_addr_cmp other client ≡ b → b ≡ false) [
@@ -24,19 +24,19 @@ apart other client different =
       | false ↦ λ is. refl
     ] refl
 
--- what is kept for another address stays where something is kept for this one
-pub get-insert-other : (m : map.FinMap socket_addr_cmp Client) (client other : SocketAddr) (kept : Client) → other ≢ client
-    → map.get (map.insert m client kept) other ≡ map.get m other
-get-insert-other m client other kept different =
-    map.get-insert socket_addr_cmp_total m client kept other ∙ ap (λ b. cond b (Some kept) (map.get m other)) (apart other client different)
+-- Storing for one address leaves what is stored for another.
+pub get-insert-other : (m : map.FinMap socket_addr_cmp Client) (client other : SocketAddr) (stored : Client) → other ≢ client
+    → map.get (map.insert m client stored) other ≡ map.get m other
+get-insert-other m client other stored different =
+    map.get-insert socket_addr_cmp_total m client stored other ∙ ap (λ b. cond b (Some stored) (map.get m other)) (apart other client different)
 
--- what is kept for another address stays where this one is forgotten
+-- Removing what is stored for one address leaves what is stored for another.
 pub get-remove-other : (m : map.FinMap socket_addr_cmp Client) (client other : SocketAddr) → other ≢ client
     → map.get (map.remove m client) other ≡ map.get m other
 get-remove-other m client other different =
     map.get-remove socket_addr_cmp_total m client other ∙ ap (λ b. cond b None (map.get m other)) (apart other client different)
 
--- no address tells a server from itself
+-- No address can distinguish equal servers.
 pub same_for-refl : (client : SocketAddr) (old new : Server) → new ≡ old → SameFor client old new
 same_for-refl client old new same = record {
   realm = ap (λ s. s.realm) same;
@@ -44,10 +44,11 @@ same_for-refl client old new same = record {
   nonce_expiry = ap (λ s. s.nonce_expiry) same;
   algorithms = ap (λ s. s.algorithms) same;
   anonymous_username = ap (λ s. s.anonymous_username) same;
-  kept = ap (λ s. map.get s.clients client) same;
+  stored = ap (λ s. map.get s.clients client) same;
 }
 
--- what no address but one can see, none but that one can see where it is the server that is
+-- If an address can't distinguish `old` from `middle`, it can't distinguish `old` from a server equal to
+-- `middle`.
 pub same_for-is : (client : SocketAddr) (old middle new : Server) → new ≡ middle → SameFor client old middle → SameFor client old new
 same_for-is client old middle new is same = record {
   realm = ap (λ s. s.realm) is ∙ same.realm;
@@ -55,10 +56,10 @@ same_for-is client old middle new is same = record {
   nonce_expiry = ap (λ s. s.nonce_expiry) is ∙ same.nonce_expiry;
   algorithms = ap (λ s. s.algorithms) is ∙ same.algorithms;
   anonymous_username = ap (λ s. s.anonymous_username) is ∙ same.anonymous_username;
-  kept = ap (λ s. map.get s.clients client) is ∙ same.kept;
+  stored = ap (λ s. map.get s.clients client) is ∙ same.stored;
 }
 
--- other addresses don't see that one is forgotten
+-- Removing an address is not visible to other addresses.
 pub removed_others : (old new : Server) (client other : SocketAddr) → new ≡ record old { clients = map.remove old.clients client } → other ≢ client → SameFor other old new
 removed_others old new client other is different = same_for-is other old (record old { clients = map.remove old.clients client }) new is (record {
   realm = refl;
@@ -66,21 +67,21 @@ removed_others old new client other is different = same_for-is other old (record
   nonce_expiry = refl;
   algorithms = refl;
   anonymous_username = refl;
-  kept = get-remove-other old.clients client other different;
+  stored = get-remove-other old.clients client other different;
 })
 
--- other addresses don't see that a nonce is drawn for one
-pub drawn_others : (old new : Server) (from other : SocketAddr) (now : ℕ) (stream : Stream) → new ≡ with_new_nonce old from now stream → other ≢ from → SameFor other old new
-drawn_others old new from other now stream is different = same_for-is other old (with_new_nonce old from now stream) new is (record {
+-- Generating a nonce for an address is not visible to other addresses.
+pub generated_others : (old new : Server) (from other : SocketAddr) (now : ℕ) (stream : Stream) → new ≡ with_new_nonce old from now stream → other ≢ from → SameFor other old new
+generated_others old new from other now stream is different = same_for-is other old (with_new_nonce old from now stream) new is (record {
   realm = refl;
   users = refl;
   nonce_expiry = refl;
   algorithms = refl;
   anonymous_username = refl;
-  kept = get-insert-other old.clients from other _ different;
+  stored = get-insert-other old.clients from other _ different;
 })
 
--- an address that can't tell one server from the next, and that from another, can't tell the first from the last
+-- Indistinguishability for an address is transitive.
 pub same_for-then : (client : SocketAddr) (old middle new : Server) → SameFor client old middle → SameFor client middle new → SameFor client old new
 same_for-then client old middle new first second = record {
   realm = second.realm ∙ first.realm;
@@ -88,15 +89,15 @@ same_for-then client old middle new first second = record {
   nonce_expiry = second.nonce_expiry ∙ first.nonce_expiry;
   algorithms = second.algorithms ∙ first.algorithms;
   anonymous_username = second.anonymous_username ∙ first.anonymous_username;
-  kept = second.kept ∙ first.kept;
+  stored = second.stored ∙ first.stored;
 }
 
--- what is kept for another address stays where this one gets an outcome
+-- Storing an outcome for one address leaves what is stored for another.
 get-outcome-other : (m : map.FinMap socket_addr_cmp Client) (client other : SocketAddr) (outcome : Option Outcome) (found : Option Client) → other ≢ client → map.get (set_outcome m client outcome found) other ≡ map.get m other
 get-outcome-other m client other outcome None different = refl
-get-outcome-other m client other outcome (Some kept) different = get-insert-other m client other _ different
+get-outcome-other m client other outcome (Some stored) different = get-insert-other m client other _ different
 
--- other addresses don't see the outcome of one
+-- Storing an outcome for an address is not visible to other addresses.
 pub outcome_others : (old new : Server) (from other : SocketAddr) (outcome : Option Outcome) → new ≡ with_outcome old from outcome → other ≢ from → SameFor other old new
 outcome_others old new from other outcome is different = same_for-is other old (with_outcome old from outcome) new is (record {
   realm = refl;
@@ -104,5 +105,5 @@ outcome_others old new from other outcome is different = same_for-is other old (
   nonce_expiry = refl;
   algorithms = refl;
   anonymous_username = refl;
-  kept = get-outcome-other old.clients from other outcome (map.get old.clients from) different;
+  stored = get-outcome-other old.clients from other outcome (map.get old.clients from) different;
 })

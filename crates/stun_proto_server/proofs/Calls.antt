@@ -1,4 +1,4 @@
--- One call of an authenticator: what it is to an address that can't tell two servers apart.
+-- One call of an authenticator on two servers that an address can't distinguish.
 use Rattle.std.proofs.Common.{◌≡◌, ◌≢◌, ℕ, List, [], ◌∷◌, Bool, true, false, Option, Some, None, refl, sym, ap, ◌∙◌, subst}
 use Rattle.std.specs.Prelude.{if◌then◌else◌}
 use Rattle.std.specs.FinMap as map
@@ -19,19 +19,19 @@ use Rattle.stun_proto_server.specs.declared.validation.LongTermServerValidation.
 use Rattle.stun_proto_server.specs.AuthCalls.{AuthAnswer, AuthCall, IsCalled, IsJudged, IsSignedBy}
 use Rattle.stun_proto_server.specs.AuthCalls as call
 use Rattle.stun_proto_server.specs.AuthRuns.{concerns, is_same_address}
-use Rattle.stun_proto_server.specs.Server.{SameFor, Server, refreshed, with_outcome, words_drawn}
-use Rattle.stun_proto_server.specs.ServerSigning.{addition_for, class_asked, size_for}
+use Rattle.stun_proto_server.specs.Server.{SameFor, Server, refreshed, with_outcome, words_generated}
+use Rattle.stun_proto_server.specs.ServerSigning.{addition_for, class_requested, size_for}
 use Rattle.stun_proto_server.specs.ServerValidation.{after_refusal, words_of_validation}
 use Rattle.stun_proto_server.proofs.Apart.{same_for-refl, same_for-then, tie}
 use Rattle.stun_proto_server.proofs.Isolated.{answers_alike, leaves_alike, leaves_alone, sets_alike, same_itself}
 
 -- ---- addresses
 
--- addresses that the test holds for are one
+-- Addresses that pass the test for equality are equal.
 pub same_address_is : (a b : SocketAddr) → is_same_address a b ≡ true → a ≡ b
 same_address_is a b is = socket_addr_cmp-IsAntisymmetric a b (tie (socket_addr_cmp a b) is)
 
--- addresses that it doesn't hold for are two
+-- Addresses that fail the test for equality differ.
 pub other_address_is : (a b : SocketAddr) → is_same_address a b ≡ false → a ≢ b
 other_address_is a b is same =
     let itself : is_same_address a b ≡ true = subst (λ (x : SocketAddr). is_same_address a x ≡ true) same (same_itself a) in
@@ -39,13 +39,15 @@ other_address_is a b is same =
 
 -- ---- a call that concerns the address
 
--- another server answers the same, and the address can't tell apart what is left
+-- On another server the call returns the same result, and the address can't distinguish the servers that are
+-- left.
 pub record IsCalledAlike (address : SocketAddr) (one : AuthCall) (answer : AuthAnswer) (b new : Server) : Type 0 where
   pub left : Server
   pub called : IsCalled one answer b left
   pub alike : SameFor address new left
 
--- what is left is known
+-- If the server that is left equals one that the address can't distinguish from another, it can't distinguish
+-- that one either.
 left_so : (address : SocketAddr) (a new after other : Server) → new ≡ after → SameFor address after other → SameFor address new other
 left_so address a new after other is same = subst (λ (s : Server). SameFor address s other) (sym is) same
 
@@ -66,12 +68,12 @@ module _ (from : SocketAddr) (a b : Server) (same : SameFor from a b) where
         | false ↦ outcome_so now stream None
       ]
 
-  drawn_so : (now : ℕ) → words_drawn a from now ≡ words_drawn b from now
-  drawn_so now = sym ((answers_alike from a b same).drawn now)
+  generated_so : (now : ℕ) → words_generated a from now ≡ words_generated b from now
+  generated_so now = sym ((answers_alike from a b same).generated now)
 
   left_of_validation : (bytes : List ℕ) (now : ℕ) (stream left : Stream)
       → left ≡ stream_after (words_of_validation a from bytes now) stream → left ≡ stream_after (words_of_validation b from bytes now) stream
-  left_of_validation bytes now stream left is = is ∙ ap (λ (n : ℕ). stream_after (if is_response bytes then 0 else n) stream) (drawn_so now)
+  left_of_validation bytes now stream left is = is ∙ ap (λ (n : ℕ). stream_after (if is_response bytes then 0 else n) stream) (generated_so now)
 
   judged_alike : (bytes : List ℕ) (now : ℕ) (stream : Stream) (answer : AuthAnswer) (new : Server)
       → IsJudged answer a bytes from now stream new → IsCalledAlike from (call.Validate bytes from now stream) answer b new
@@ -83,12 +85,12 @@ module _ (from : SocketAddr) (a b : Server) (same : SameFor from a b) where
           record {
             name = is.0.name;
             accepts = ((answers_alike from (refreshed a from now stream) (refreshed b from now stream) (refreshed_so now stream)).accepts bytes algorithm is.0.name).0 is.0.accepts;
-            kept = refl;
+            stored = refl;
           },
           left_of_validation bytes now stream left is.1,
         );
         alike = left_so from a new (with_outcome (refreshed a from now stream) from outcome) (with_outcome (refreshed b from now stream) from outcome)
-            is.0.kept (outcome_so now stream outcome);
+            is.0.stored (outcome_so now stream outcome);
       }
   judged_alike bytes now stream (call.Refused error left) new is = record {
     left = after_refusal b from bytes now stream;
@@ -112,10 +114,10 @@ module _ (from : SocketAddr) (a b : Server) (same : SameFor from a b) where
     alike = left_so from a new a b is.2 same;
   }
 
-  -- what is told of a server leaves it as it is
-  told_alike : (one : AuthCall) (answer here there : AuthAnswer) (new : Server) → here ≡ there → (answer ≡ here) × (new ≡ a)
+  -- A getter leaves the server unchanged.
+  decoded_alike : (one : AuthCall) (answer here there : AuthAnswer) (new : Server) → here ≡ there → (answer ≡ here) × (new ≡ a)
       → ((answer ≡ there) × (b ≡ b) → IsCalled one answer b b) → IsCalledAlike from one answer b new
-  told_alike one answer here there new equal is gives = record {
+  decoded_alike one answer here there new equal is gives = record {
     left = b;
     called = gives (is.0 ∙ equal, refl);
     alike = left_so from a new a b is.1 same;
@@ -124,7 +126,7 @@ module _ (from : SocketAddr) (a b : Server) (same : SameFor from a b) where
   refreshed_alike : (now : ℕ) (stream : Stream) (answer : AuthAnswer) (new : Server) → IsCalled (call.Refresh from now stream) answer a new → IsCalledAlike from (call.Refresh from now stream) answer b new
   refreshed_alike now stream answer new is = record {
     left = refreshed b from now stream;
-    called = (is.0 ∙ ap (λ (n : ℕ). call.Refreshed (stream_after n stream)) (drawn_so now), refl);
+    called = (is.0 ∙ ap (λ (n : ℕ). call.Refreshed (stream_after n stream)) (generated_so now), refl);
     alike = left_so from a new (refreshed a from now stream) (refreshed b from now stream) is.1 (refreshed_so now stream);
   }
 
@@ -136,14 +138,15 @@ module _ (from : SocketAddr) (a b : Server) (same : SameFor from a b) where
         is.1 (leaves_alike from a b same).forgets;
   }
 
--- the address of a call is the one that it concerns
+-- The address for which a call is made is the one that it concerns.
 at_address : (address from : SocketAddr) (a b new : Server) (one : AuthCall) (answer : AuthAnswer) → is_same_address address from ≡ true → SameFor address a b
     → (SameFor from a b → IsCalledAlike from one answer b new) → IsCalledAlike address one answer b new
 at_address address from a b new one answer is same gives =
     let e : address ≡ from = same_address_is address from is in
     subst (λ (x : SocketAddr). IsCalledAlike x one answer b new) (sym e) (gives (subst (λ (x : SocketAddr). SameFor x a b) e same))
 
--- a call that concerns an address is answered the same, and leaves the same for it
+-- A call that concerns an address returns the same result on both servers, and leaves servers that the
+-- address can't distinguish.
 pub called_alike : (address : SocketAddr) (a b new : Server) (one : AuthCall) (answer : AuthAnswer) → SameFor address a b → concerns address one ≡ true
     → IsCalled one answer a new → IsCalledAlike address one answer b new
 called_alike address a b new (call.Validate bytes from now stream) answer same is called =
@@ -151,28 +154,28 @@ called_alike address a b new (call.Validate bytes from now stream) answer same i
     (λ own. judged_alike from a b own bytes now stream answer new called)
 called_alike address a b new (call.Sign draft to) answer same is called =
     at_address address to a b new (call.Sign draft to) answer is same (λ own. signed_alike to a b own draft answer new called)
-called_alike address a b new (call.SizeAsked to is_request) answer same is called =
-    at_address address to a b new (call.SizeAsked to is_request) answer is same
-    (λ own. told_alike to a b own (call.SizeAsked to is_request) answer _ _ new
-    (ap (λ (made : Option Addition). call.Size (size_for made)) (sym ((answers_alike to a b own).adds (class_asked is_request)))) called (λ x. x))
-called_alike address a b new (call.NonceAsked client) answer same is called =
-    at_address address client a b new (call.NonceAsked client) answer is same
-    (λ own. told_alike client a b own (call.NonceAsked client) answer _ _ new
+called_alike address a b new (call.SizeRequested to is_request) answer same is called =
+    at_address address to a b new (call.SizeRequested to is_request) answer is same
+    (λ own. decoded_alike to a b own (call.SizeRequested to is_request) answer _ _ new
+    (ap (λ (made : Option Addition). call.Size (size_for made)) (sym ((answers_alike to a b own).adds (class_requested is_request)))) called (λ x. x))
+called_alike address a b new (call.NonceRequested client) answer same is called =
+    at_address address client a b new (call.NonceRequested client) answer is same
+    (λ own. decoded_alike client a b own (call.NonceRequested client) answer _ _ new
     (ap (λ (n : Option (List ℕ)). call.Nonce n) (sym (answers_alike client a b own).nonce)) called (λ x. x))
-called_alike address a b new (call.UserAsked client) answer same is called =
-    at_address address client a b new (call.UserAsked client) answer is same
-    (λ own. told_alike client a b own (call.UserAsked client) answer _ _ new
+called_alike address a b new (call.UserRequested client) answer same is called =
+    at_address address client a b new (call.UserRequested client) answer is same
+    (λ own. decoded_alike client a b own (call.UserRequested client) answer _ _ new
     (ap (λ (u : Option Outcome). call.User u) (sym (answers_alike client a b own).outcome)) called (λ x. x))
 called_alike address a b new (call.Refresh from now stream) answer same is called =
     at_address address from a b new (call.Refresh from now stream) answer is same (λ own. refreshed_alike from a b own now stream answer new called)
 called_alike address a b new (call.RemoveClient client) answer same is called =
     at_address address client a b new (call.RemoveClient client) answer is same (λ own. removed_alike client a b own answer new called)
-called_alike address a b new call.RealmAsked answer same is called =
-    told_alike address a b same call.RealmAsked answer _ _ new (ap (λ (r : List ℕ). call.Realm r) (sym same.realm)) called (λ x. x)
-called_alike address a b new call.AlgorithmsAsked answer same is called =
-    told_alike address a b same call.AlgorithmsAsked answer _ _ new (ap (λ (l : List IntegrityAlgorithm). call.Algorithms l) (sym same.algorithms)) called (λ x. x)
-called_alike address a b new call.AnonymityAsked answer same is called =
-    told_alike address a b same call.AnonymityAsked answer _ _ new (ap (λ (f : Feature). call.Anonymity f) (sym same.anonymous_username)) called (λ x. x)
+called_alike address a b new call.RealmRequested answer same is called =
+    decoded_alike address a b same call.RealmRequested answer _ _ new (ap (λ (r : List ℕ). call.Realm r) (sym same.realm)) called (λ x. x)
+called_alike address a b new call.AlgorithmsRequested answer same is called =
+    decoded_alike address a b same call.AlgorithmsRequested answer _ _ new (ap (λ (l : List IntegrityAlgorithm). call.Algorithms l) (sym same.algorithms)) called (λ x. x)
+called_alike address a b new call.AnonymityRequested answer same is called =
+    decoded_alike address a b same call.AnonymityRequested answer _ _ new (ap (λ (f : Feature). call.Anonymity f) (sym same.anonymous_username)) called (λ x. x)
 called_alike address a b new (call.AddUser name password) answer same is called = record {
   left = record b { users = map.insert b.users name password };
   called = (called.0, refl);
@@ -213,7 +216,7 @@ called_alike address a b new (call.SetExpiry expiry) answer same is called = rec
 -- ---- a call that doesn't
 
 module _ (client other : SocketAddr) (a : Server) (different : client ≢ other) where
-  -- an outcome behind a nonce that is due
+  -- An outcome stored for another address, after a nonce that was due, is not visible.
   outcome_unseen : (now : ℕ) (stream : Stream) (outcome : Option Outcome) → SameFor client a (with_outcome (refreshed a other now stream) other outcome)
   outcome_unseen now stream outcome =
       same_for-then client a (refreshed a other now stream) (with_outcome (refreshed a other now stream) other outcome)
@@ -228,18 +231,18 @@ module _ (client other : SocketAddr) (a : Server) (different : client ≢ other)
 
   judged_unseen : (bytes : List ℕ) (now : ℕ) (stream : Stream) (answer : AuthAnswer) (new : Server) → IsJudged answer a bytes other now stream new → SameFor client a new
   judged_unseen bytes now stream (call.Valid (Validated algorithm) left) new is =
-      subst (λ (s : Server). SameFor client a s) (sym is.0.kept) (outcome_unseen now stream (Some (record { name = is.0.name; algorithm = algorithm })))
+      subst (λ (s : Server). SameFor client a s) (sym is.0.stored) (outcome_unseen now stream (Some (record { name = is.0.name; algorithm = algorithm })))
   judged_unseen bytes now stream (call.Refused error left) new is = subst (λ (s : Server). SameFor client a s) (sym is.2) (refusal_unseen bytes now stream)
   judged_unseen bytes now stream _ new is = absurd is
 
--- an address doesn't see a call that doesn't concern it
+-- A call that does not concern an address is not visible to it.
 pub called_unseen : (address : SocketAddr) (a new : Server) (one : AuthCall) (answer : AuthAnswer) → concerns address one ≡ false → IsCalled one answer a new → SameFor address a new
 called_unseen address a new (call.Validate bytes from now stream) answer is called =
     judged_unseen address from a (other_address_is address from is) bytes now stream answer new called
 called_unseen address a new (call.Sign draft to) answer is called = same_for-refl address a new called.2
-called_unseen address a new (call.SizeAsked to is_request) answer is called = same_for-refl address a new called.1
-called_unseen address a new (call.NonceAsked client) answer is called = same_for-refl address a new called.1
-called_unseen address a new (call.UserAsked client) answer is called = same_for-refl address a new called.1
+called_unseen address a new (call.SizeRequested to is_request) answer is called = same_for-refl address a new called.1
+called_unseen address a new (call.NonceRequested client) answer is called = same_for-refl address a new called.1
+called_unseen address a new (call.UserRequested client) answer is called = same_for-refl address a new called.1
 called_unseen address a new (call.Refresh from now stream) answer is called =
     subst (λ (s : Server). SameFor address a s) (sym called.1) ((leaves_alone address from a (other_address_is address from is)).refreshes now stream)
 called_unseen address a new (call.RemoveClient client) answer is called =

@@ -1,4 +1,5 @@
--- What a call of an authenticator answers and leaves is one, where a message names no two users.
+-- The result of an authenticator's call and the server that it leaves are unique, if a message does not name
+-- two users.
 use Rattle.std.proofs.Common.{◌≡◌, ℕ, List, Bool, true, false, Option, Some, None, MatchOption, refl, sym, ap, ◌∙◌, subst}
 use Rattle.std.specs.Prelude.{if◌then◌else◌, IsSomeAnd}
 use Rattle.std.specs.Option.{option_or}
@@ -29,7 +30,7 @@ use Rattle.stun_proto_server.proofs.Validated.{names_one_still}
 
 -- ---- one cause of a refusal
 
--- the user that is found is one
+-- The user that is found is unique.
 found_same : (server : Server) (claim : Claimed) (found other : Option Named) → NamesOne server claim → IsFound server claim found → IsFound server claim other → found ≡ other
 found_same server claim None None one a b = refl
 found_same server claim None (Some user) one a b = absurd (a user b)
@@ -42,7 +43,7 @@ cause_same known bytes None error other a b =
     a.is ∙ ap (λ (algorithm : IntegrityAlgorithm). IntegrityFailed algorithm) (inside (sym a.last ∙ b.last)) ∙ sym b.is
 cause_same known bytes (Some cause) error other a b = a ∙ sym b
 
--- a response is refused for being one, whatever is known
+-- A response is rejected for being one, whatever the server knows.
 judged_response : (known : Knowledge) (bytes : List ℕ) → is_response bytes ≡ true → judgement known bytes ≡ Some BadRequest
 unfolding judgement
 judged_response known bytes response = ap (λ (b : Bool). option_or (if b then Some BadRequest else None) (claim_refusal known (claimed bytes))) response
@@ -60,12 +61,12 @@ refused_by server from bytes false request error other one a b =
     let moved = subst (λ (user : Option Named). IsRefused (known_of server from user) bytes error) found a.refused in
     cause_same (known_of server from b.found) bytes (judgement (known_of server from b.found) bytes) error other moved b.refused
 
--- a message is refused with one error
+-- The error with which a message is rejected is unique.
 pub refused_same : (server : Server) (from : SocketAddr) (bytes : List ℕ) (error other : LongTermServerAuthError) → NamesOne server (claimed bytes)
     → Refuses server from bytes error → Refuses server from bytes other → error ≡ other
 refused_same server from bytes error other one a b = refused_by server from bytes (is_response bytes) refl error other one a b
 
--- a message is accepted as that of one user, by one algorithm
+-- The user and the algorithm with which a message is accepted are unique.
 pub accepted_same : (server : Server) (from : SocketAddr) (bytes : List ℕ) (algorithm other : IntegrityAlgorithm) (name another : List ℕ) → NamesOne server (claimed bytes)
     → Accepts server from bytes algorithm name → Accepts server from bytes other another → (name ≡ another) × (algorithm ≡ other)
 accepted_same server from bytes algorithm other name another one a b = (
@@ -73,9 +74,9 @@ accepted_same server from bytes algorithm other name another one a b = (
   inside (sym a.judged.last ∙ b.judged.last),
 )
 
--- ---- one answer
+-- ---- one result
 
--- two answers, and what each leaves, are one
+-- Two results are equal, and so are the servers that they leave.
 abbrev pub AreOne : AuthAnswer → AuthAnswer → Server → Server → Type 0
 AreOne answer again new other = (answer ≡ again) × (new ≡ other)
 
@@ -88,7 +89,7 @@ module _ (old : Server) (bytes : List ℕ) (from : SocketAddr) (now : ℕ) (stre
       let same = accepted_same (refreshed old from now stream) from bytes algorithm another a.0.name b.0.name one_still a.0.accepts b.0.accepts in
       let streams : left ≡ remains = a.1 ∙ sym b.1 in (
         (λ i. call.Valid (Validated (same.1 i)) (streams i)),
-        a.0.kept ∙ (λ i. with_outcome (refreshed old from now stream) from (Some (record { name = same.0 i; algorithm = same.1 i }))) ∙ sym b.0.kept,
+        a.0.stored ∙ (λ i. with_outcome (refreshed old from now stream) from (Some (record { name = same.0 i; algorithm = same.1 i }))) ∙ sym b.0.stored,
       )
   judged_same (call.Refused error left) (call.Refused cause remains) new other a b =
       let same : error ≡ cause = refused_same (refreshed old from now stream) from bytes error cause one_still a.1 b.1 in
@@ -115,27 +116,27 @@ signed_same addition draft (call.Signed one) _ a b = absurd b
 signed_same addition draft (call.NotSigned error) _ a b = absurd b
 signed_same addition draft _ again a b = absurd a
 
--- what is told so is one
-told_same : (answer again told : AuthAnswer) (new other after : Server) → (answer ≡ told) × (new ≡ after) → (again ≡ told) × (other ≡ after) → AreOne answer again new other
-told_same answer again told new other after a b = (a.0 ∙ sym b.0, a.1 ∙ sym b.1)
+-- Two results that equal a given one are equal.
+decoded_same : (answer again decoded : AuthAnswer) (new other after : Server) → (answer ≡ decoded) × (new ≡ after) → (again ≡ decoded) × (other ≡ after) → AreOne answer again new other
+decoded_same answer again decoded new other after a b = (a.0 ∙ sym b.0, a.1 ∙ sym b.1)
 
--- a call is answered in one way, and leaves one server
+-- A call has one result, and leaves one server.
 pub called_same : (old : Server) (one : AuthCall) (answer again : AuthAnswer) (new other : Server) → CallNamesOne old one
     → IsCalled one answer old new → IsCalled one again old other → AreOne answer again new other
 called_same old (call.Validate bytes from now stream) answer again new other names_one a b = judged_same old bytes from now stream names_one answer again new other a b
 called_same old (call.Sign draft to) answer again new other names_one a b =
     (signed_same (addition_for old to (class_of (kind_at draft.bytes))) draft answer again a.1 b.1, a.2 ∙ sym b.2)
-called_same old (call.SizeAsked to is_request) answer again new other names_one a b = told_same answer again _ new other _ a b
-called_same old (call.NonceAsked client) answer again new other names_one a b = told_same answer again _ new other _ a b
-called_same old (call.UserAsked client) answer again new other names_one a b = told_same answer again _ new other _ a b
-called_same old (call.Refresh from now stream) answer again new other names_one a b = told_same answer again _ new other _ a b
-called_same old (call.RemoveClient client) answer again new other names_one a b = told_same answer again _ new other _ a b
-called_same old call.RealmAsked answer again new other names_one a b = told_same answer again _ new other _ a b
-called_same old (call.AddUser name password) answer again new other names_one a b = told_same answer again _ new other _ a b
-called_same old (call.RemoveUser name) answer again new other names_one a b = told_same answer again _ new other _ a b
-called_same old call.AlgorithmsAsked answer again new other names_one a b = told_same answer again _ new other _ a b
-called_same old (call.AddAlgorithm algorithm) answer again new other names_one a b = told_same answer again _ new other _ a b
-called_same old (call.SetAlgorithm algorithm) answer again new other names_one a b = told_same answer again _ new other _ a b
-called_same old call.AnonymityAsked answer again new other names_one a b = told_same answer again _ new other _ a b
-called_same old (call.SetAnonymity feature) answer again new other names_one a b = told_same answer again _ new other _ a b
+called_same old (call.SizeRequested to is_request) answer again new other names_one a b = decoded_same answer again _ new other _ a b
+called_same old (call.NonceRequested client) answer again new other names_one a b = decoded_same answer again _ new other _ a b
+called_same old (call.UserRequested client) answer again new other names_one a b = decoded_same answer again _ new other _ a b
+called_same old (call.Refresh from now stream) answer again new other names_one a b = decoded_same answer again _ new other _ a b
+called_same old (call.RemoveClient client) answer again new other names_one a b = decoded_same answer again _ new other _ a b
+called_same old call.RealmRequested answer again new other names_one a b = decoded_same answer again _ new other _ a b
+called_same old (call.AddUser name password) answer again new other names_one a b = decoded_same answer again _ new other _ a b
+called_same old (call.RemoveUser name) answer again new other names_one a b = decoded_same answer again _ new other _ a b
+called_same old call.AlgorithmsRequested answer again new other names_one a b = decoded_same answer again _ new other _ a b
+called_same old (call.AddAlgorithm algorithm) answer again new other names_one a b = decoded_same answer again _ new other _ a b
+called_same old (call.SetAlgorithm algorithm) answer again new other names_one a b = decoded_same answer again _ new other _ a b
+called_same old call.AnonymityRequested answer again new other names_one a b = decoded_same answer again _ new other _ a b
+called_same old (call.SetAnonymity feature) answer again new other names_one a b = decoded_same answer again _ new other _ a b
 called_same old (call.SetExpiry expiry) answer again new other names_one a b = (a.1 ∙ sym b.1, a.2 ∙ sym b.2)

@@ -1,4 +1,4 @@
--- An address gets the same from two servers that it can't tell apart.
+-- Two servers that an address can't distinguish treat it alike.
 use Rattle.std.proofs.Common.{◌≡◌, ◌≢◌, ℕ, List, Bool, true, false, Option, Some, None, cond, refl, sym, ap, ◌∙◌, subst, inl, inr}
 use Rattle.std.specs.Prelude.{if◌then◌else◌}
 use Rattle.std.specs.Cmp.{eq_by_cmp_equiv}
@@ -22,9 +22,9 @@ use Rattle.stun_proto_server.specs.Server.{Client, SameFor, Server, has_standing
 use Rattle.stun_proto_server.specs.ServerSigning.{Party, addition, party_at, party_by_client, party_by_outcome, party_by_password}
 use Rattle.stun_proto_server.specs.ServerValidation.{Accepts, AcceptsSome, Refuses, WantsMemory, known_of}
 use Rattle.stun_proto_server.specs.Users.{IsClaimedName, IsFound, IsUser}
-use Rattle.stun_proto_server.proofs.Apart.{drawn_others, outcome_others, removed_others, same_for-refl}
+use Rattle.stun_proto_server.proofs.Apart.{generated_others, outcome_others, removed_others, same_for-refl}
 
--- an address that can't tell one server from another can't tell that from the one
+-- Indistinguishability for an address is symmetric.
 pub turned : (client : SocketAddr) (a b : Server) → SameFor client a b → SameFor client b a
 turned client a b same = record {
   realm = sym same.realm;
@@ -32,49 +32,49 @@ turned client a b same = record {
   nonce_expiry = sym same.nonce_expiry;
   algorithms = sym same.algorithms;
   anonymous_username = sym same.anonymous_username;
-  kept = sym same.kept;
+  stored = sym same.stored;
 }
 
--- an address ties with itself
+-- An address compares as equal to itself.
 pub same_itself : (client : SocketAddr) → is_eq (socket_addr_cmp client client) ≡ true
 same_itself client = (eq_by_cmp_equiv socket_addr_cmp_total).refl client
 
--- ---- what is kept for the address
+-- ---- what is stored for the address
 
--- what is kept for an address is found there
-own_inserted : (m : map.FinMap socket_addr_cmp Client) (client : SocketAddr) (kept : Client) → map.get (map.insert m client kept) client ≡ Some kept
-own_inserted m client kept =
+-- What is stored for an address is found for it.
+own_inserted : (m : map.FinMap socket_addr_cmp Client) (client : SocketAddr) (stored : Client) → map.get (map.insert m client stored) client ≡ Some stored
+own_inserted m client stored =
     let same : is_eq (socket_addr_cmp client client) ≡ true = (eq_by_cmp_equiv socket_addr_cmp_total).refl client in
-    map.get-insert socket_addr_cmp_total m client kept client ∙ ap (λ b. cond b (Some kept) (map.get m client)) same
+    map.get-insert socket_addr_cmp_total m client stored client ∙ ap (λ b. cond b (Some stored) (map.get m client)) same
 
--- what is forgotten is not
+-- After its removal nothing is found for an address.
 own_removed : (m : map.FinMap socket_addr_cmp Client) (client : SocketAddr) → map.get (map.remove m client) client ≡ None
 own_removed m client =
     let same : is_eq (socket_addr_cmp client client) ≡ true = (eq_by_cmp_equiv socket_addr_cmp_total).refl client in
     map.get-remove socket_addr_cmp_total m client client ∙ ap (λ b. cond b None (map.get m client)) same
 
--- an outcome is kept with what is there
+-- An outcome is stored with what is found for the address.
 own_outcome : (m : map.FinMap socket_addr_cmp Client) (client : SocketAddr) (outcome : Option Outcome) (found : Option Client) → map.get m client ≡ found
-    → map.get (set_outcome m client outcome found) client ≡ option_map (λ (kept : Client). record kept { outcome = outcome }) found
+    → map.get (set_outcome m client outcome found) client ≡ option_map (λ (stored : Client). record stored { outcome = outcome }) found
 own_outcome m client outcome None is = is
-own_outcome m client outcome (Some kept) is = own_inserted m client (record kept { outcome = outcome })
+own_outcome m client outcome (Some stored) is = own_inserted m client (record stored { outcome = outcome })
 
 standing_alike : (client : SocketAddr) (a b : Server) (now : ℕ) → SameFor client a b → has_standing_nonce b client now ≡ has_standing_nonce a client now
-standing_alike client a b now same = λ i. is_standing (same.nonce_expiry i) now (same.kept i)
+standing_alike client a b now same = λ i. is_standing (same.nonce_expiry i) now (same.stored i)
 
 -- ---- what its calls leave
 
-drawn_alike : (client : SocketAddr) (a b : Server) (now : ℕ) (stream : Stream) → SameFor client a b → SameFor client (with_new_nonce a client now stream) (with_new_nonce b client now stream)
-drawn_alike client a b now stream same =
+generated_alike : (client : SocketAddr) (a b : Server) (now : ℕ) (stream : Stream) → SameFor client a b → SameFor client (with_new_nonce a client now stream) (with_new_nonce b client now stream)
+generated_alike client a b now stream same =
     let new : new_client b now stream ≡ new_client a now stream =
-    (λ i. record { nonce = nonce_text (features_offered (same.algorithms i) (same.anonymous_username i)) (words_of NONCE_WORDS stream); drawn = now; outcome = None }) in
+    (λ i. record { nonce = nonce_text (features_offered (same.algorithms i) (same.anonymous_username i)) (words_of NONCE_WORDS stream); generated = now; outcome = None }) in
     record {
       realm = same.realm;
       users = same.users;
       nonce_expiry = same.nonce_expiry;
       algorithms = same.algorithms;
       anonymous_username = same.anonymous_username;
-      kept = own_inserted b.clients client (new_client b now stream) ∙ ap Some new ∙ sym (own_inserted a.clients client (new_client a now stream));
+      stored = own_inserted b.clients client (new_client b now stream) ∙ ap Some new ∙ sym (own_inserted a.clients client (new_client a now stream));
     }
 
 by_standing : (client : SocketAddr) (a b new_a new_b : Server) (x y : Bool) → y ≡ x → SameFor client a b → SameFor client new_a new_b
@@ -87,31 +87,31 @@ by_standing client a b new_a new_b false true is old new = absurd (Prim.cc is)
 refreshed_alike : (client : SocketAddr) (a b : Server) (now : ℕ) (stream : Stream) → SameFor client a b → SameFor client (refreshed a client now stream) (refreshed b client now stream)
 refreshed_alike client a b now stream same =
     by_standing client a b (with_new_nonce a client now stream) (with_new_nonce b client now stream) (has_standing_nonce a client now) (has_standing_nonce b client now)
-    (standing_alike client a b now same) same (drawn_alike client a b now stream same)
+    (standing_alike client a b now same) same (generated_alike client a b now stream same)
 
-kept_alike : (client : SocketAddr) (a b : Server) (outcome : Option Outcome) → SameFor client a b → SameFor client (with_outcome a client outcome) (with_outcome b client outcome)
-kept_alike client a b outcome same = record {
+stored_alike : (client : SocketAddr) (a b : Server) (outcome : Option Outcome) → SameFor client a b → SameFor client (with_outcome a client outcome) (with_outcome b client outcome)
+stored_alike client a b outcome same = record {
   realm = same.realm;
   users = same.users;
   nonce_expiry = same.nonce_expiry;
   algorithms = same.algorithms;
   anonymous_username = same.anonymous_username;
-  kept = own_outcome b.clients client outcome (map.get b.clients client) refl
-      ∙ ap (option_map (λ (kept : Client). record kept { outcome = outcome })) same.kept
+  stored = own_outcome b.clients client outcome (map.get b.clients client) refl
+      ∙ ap (option_map (λ (stored : Client). record stored { outcome = outcome })) same.stored
       ∙ sym (own_outcome a.clients client outcome (map.get a.clients client) refl);
 }
 
 pub leaves_alike : (client : SocketAddr) (a b : Server) → SameFor client a b → LeavesAlike client a b
 leaves_alike client a b same = record {
   refreshes = λ now stream. refreshed_alike client a b now stream same;
-  keeps = λ outcome. kept_alike client a b outcome same;
+  keeps = λ outcome. stored_alike client a b outcome same;
   forgets = record {
     realm = same.realm;
     users = same.users;
     nonce_expiry = same.nonce_expiry;
     algorithms = same.algorithms;
     anonymous_username = same.anonymous_username;
-    kept = own_removed b.clients client ∙ sym (own_removed a.clients client);
+    stored = own_removed b.clients client ∙ sym (own_removed a.clients client);
   };
 }
 
@@ -123,7 +123,7 @@ sets_alike client a b same = record {
     nonce_expiry = same.nonce_expiry;
     algorithms = same.algorithms;
     anonymous_username = same.anonymous_username;
-    kept = same.kept;
+    stored = same.stored;
   };
   user_removed = λ name. record {
     realm = same.realm;
@@ -131,7 +131,7 @@ sets_alike client a b same = record {
     nonce_expiry = same.nonce_expiry;
     algorithms = same.algorithms;
     anonymous_username = same.anonymous_username;
-    kept = same.kept;
+    stored = same.stored;
   };
   expiry_set = λ expiry. record {
     realm = same.realm;
@@ -139,7 +139,7 @@ sets_alike client a b same = record {
     nonce_expiry = refl;
     algorithms = same.algorithms;
     anonymous_username = same.anonymous_username;
-    kept = same.kept;
+    stored = same.stored;
   };
   algorithm_added = λ algorithm. record {
     realm = same.realm;
@@ -147,7 +147,7 @@ sets_alike client a b same = record {
     nonce_expiry = same.nonce_expiry;
     algorithms = ap (λ all. with_algorithm all algorithm) same.algorithms;
     anonymous_username = same.anonymous_username;
-    kept = same.kept;
+    stored = same.stored;
   };
   algorithm_set = λ algorithm. record {
     realm = same.realm;
@@ -155,7 +155,7 @@ sets_alike client a b same = record {
     nonce_expiry = same.nonce_expiry;
     algorithms = refl;
     anonymous_username = same.anonymous_username;
-    kept = same.kept;
+    stored = same.stored;
   };
   anonymity_set = λ feature. record {
     realm = same.realm;
@@ -163,17 +163,17 @@ sets_alike client a b same = record {
     nonce_expiry = same.nonce_expiry;
     algorithms = same.algorithms;
     anonymous_username = refl;
-    kept = same.kept;
+    stored = same.stored;
   };
 }
 
--- ---- what it is answered
+-- ---- its result
 
 known_alike : (client : SocketAddr) (a b : Server) (found : Option Named) → SameFor client a b → known_of a client found ≡ known_of b client found
 known_alike client a b found same = sym (λ i. record {
   realm = same.realm i;
   algorithms = same.algorithms i;
-  nonce = option_map (λ (kept : Client). kept.nonce) (same.kept i);
+  nonce = option_map (λ (stored : Client). stored.nonce) (same.stored i);
   user = found;
 })
 
@@ -236,20 +236,20 @@ by_outcome client a b nonce None same = λ i. Some (record { realm = same.realm 
 by_outcome client a b nonce (Some outcome) same =
     ap (party_by_password b nonce outcome) (ap (λ users. map.get users outcome.name) same.users) ∙ by_password client a b nonce outcome (map.get a.users outcome.name) same
 
-by_client : (client : SocketAddr) (a b : Server) (kept : Option Client) → SameFor client a b → party_by_client b kept ≡ party_by_client a kept
+by_client : (client : SocketAddr) (a b : Server) (stored : Option Client) → SameFor client a b → party_by_client b stored ≡ party_by_client a stored
 by_client client a b None same = refl
-by_client client a b (Some kept) same = by_outcome client a b kept.nonce kept.outcome same
+by_client client a b (Some stored) same = by_outcome client a b stored.nonce stored.outcome same
 
 party_alike : (client : SocketAddr) (a b : Server) → SameFor client a b → party_at b client ≡ party_at a client
-party_alike client a b same = ap (party_by_client b) same.kept ∙ by_client client a b (map.get a.clients client) same
+party_alike client a b same = ap (party_by_client b) same.stored ∙ by_client client a b (map.get a.clients client) same
 
 pub answers_alike : (client : SocketAddr) (a b : Server) → SameFor client a b → AnswersAlike client a b
 answers_alike client a b same =
     let back = turned client a b same in
     record {
-      nonce = ap (option_map (λ (kept : Client). kept.nonce)) same.kept;
-      outcome = ap (option_and_then (λ (kept : Client). kept.outcome)) same.kept;
-      drawn = λ now. ap (λ (b : Bool). if b then 0 else NONCE_WORDS) (standing_alike client a b now same);
+      nonce = ap (option_map (λ (stored : Client). stored.nonce)) same.stored;
+      outcome = ap (option_and_then (λ (stored : Client). stored.outcome)) same.stored;
+      generated = λ now. ap (λ (b : Bool). if b then 0 else NONCE_WORDS) (standing_alike client a b now same);
       accepts = λ bytes algorithm name. (accepts_alike client a b bytes algorithm name same, accepts_alike client b a bytes algorithm name back);
       refuses = λ bytes error. (refuses_alike client a b bytes error same, refuses_alike client b a bytes error back);
       wants = λ bytes now stream. (wants_alike client a b bytes now stream same, wants_alike client b a bytes now stream back);
@@ -262,7 +262,7 @@ refreshed_others : (client other : SocketAddr) (server : Server) (now : ℕ) (st
 refreshed_others client other server now stream different =
     elim (has_standing_nonce server other now) as (λ b. SameFor client server (if b then server else with_new_nonce server other now stream)) [
       | true ↦ same_for-refl client server server refl
-      | false ↦ drawn_others server (with_new_nonce server other now stream) other client now stream refl different
+      | false ↦ generated_others server (with_new_nonce server other now stream) other client now stream refl different
     ]
 
 pub leaves_alone : (client other : SocketAddr) (server : Server) → client ≢ other → LeavesAlone client other server

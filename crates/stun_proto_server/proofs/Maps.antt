@@ -1,4 +1,4 @@
--- The maps of a server, as its fields keep them and as contracts see them.
+-- The maps of a server, as its fields store them and as contracts see them.
 use Rattle.std.proofs.Common.{◌≡◌, ℕ, Bool, true, false, List, Option, Some, None, MatchOption, refl, sym, ap, ◌∙◌, cond, subst, Bor}
 use Rattle.std.specs.Prelude.{IfSome}
 use Rattle.std.specs.declared.cmp.Ordering.{Ordering}
@@ -16,7 +16,7 @@ use Rattle.std.specs.declared.net.socket_addr.SocketAddr.{SocketAddr}
 use Rattle.std.specs.declared.string.String.{String}
 use Rattle.std.proofs.lemmas.Map.Text.{btree_map_updates_text, is_eq-slice_cmp}
 use Rattle.stun_proto_verify.specs.Knowledge.{Outcome}
-use Rattle.stun_proto_server.specs.KeptKeys.{AllHaveKeys, HasKeys}
+use Rattle.stun_proto_server.specs.StoredKeys.{AllHaveKeys, HasKeys}
 use Rattle.stun_proto_server.specs.Server.{Client, Server, set_outcome, with_outcome}
 use Rattle.stun_proto_server.specs.View.{client_of, server_of}
 use Rattle.stun_proto_server.specs.declared.long_term.ClientRecord.{ClientRecord}
@@ -25,23 +25,23 @@ use Rattle.stun_types_base.proofs.MapView.{get-finite_map, insert-finite_map, re
 use Rattle.stun_types_base.specs.SocketAddrs.{socket_addr_cmp, socket_addr_cmp_total, socket_addr_cmp-IsAntisymmetric}
 use Rattle.stun_proto_server.specs.declared.users.KeyedUser.{KeyedUser}
 
--- what is found for an address
+-- Looking up an address gives the same result in both maps.
 pub get-clients : (s : Inside) (server : Server) (client : SocketAddr) (found : Option ClientRecord)
     → server_of s ≡ server → found ≡ tree.get socket_addr_cmp s.clients client → map.get server.clients client ≡ option_map client_of found
 get-clients s server client found view_is is =
     ap (λ v. map.get v.clients client) (sym view_is) ∙ get-finite_map (λ key. key) socket_addr_cmp_total client_of s.clients client
     ∙ ap (option_map client_of) (sym is)
 
--- something is kept for an address
-pub insert-clients : (s : Inside) (new : tree.BTreeMap SocketAddr ClientRecord) (server : Server) (client : SocketAddr) (kept : ClientRecord)
-    → server_of s ≡ server → tree.Updates socket_addr_cmp s.clients new client (Some kept)
-    → server_of (record s { clients = new }) ≡ record server { clients = map.insert server.clients client (client_of kept) }
-insert-clients s new server client kept view_is updates =
+-- Storing for an address in the fields stores at the server.
+pub insert-clients : (s : Inside) (new : tree.BTreeMap SocketAddr ClientRecord) (server : Server) (client : SocketAddr) (stored : ClientRecord)
+    → server_of s ≡ server → tree.Updates socket_addr_cmp s.clients new client (Some stored)
+    → server_of (record s { clients = new }) ≡ record server { clients = map.insert server.clients client (client_of stored) }
+insert-clients s new server client stored view_is updates =
     ap {A = map.FinMap socket_addr_cmp Client} {B = Server} (λ m. record (server_of s) { clients = m })
-    (insert-finite_map (λ key. key) socket_addr_cmp_total client_of socket_addr_cmp-IsAntisymmetric s.clients new client kept updates.0)
-    ∙ ap {A = Server} {B = Server} (λ v. record v { clients = map.insert v.clients client (client_of kept) }) view_is
+    (insert-finite_map (λ key. key) socket_addr_cmp_total client_of socket_addr_cmp-IsAntisymmetric s.clients new client stored updates.0)
+    ∙ ap {A = Server} {B = Server} (λ v. record v { clients = map.insert v.clients client (client_of stored) }) view_is
 
--- nothing is kept for an address any more
+-- Removing an address from the fields removes it from the server.
 pub remove-clients : (s : Inside) (new : tree.BTreeMap SocketAddr ClientRecord) (server : Server) (client : SocketAddr)
     → server_of s ≡ server → tree.Updates socket_addr_cmp s.clients new client None
     → server_of (record s { clients = new }) ≡ record server { clients = map.remove server.clients client }
@@ -50,78 +50,78 @@ remove-clients s new server client view_is updates =
     (remove-finite_map (λ key. key) socket_addr_cmp_total client_of socket_addr_cmp-IsAntisymmetric s.clients new client updates.0)
     ∙ ap {A = Server} {B = Server} (λ v. record v { clients = map.remove v.clients client }) view_is
 
--- the same entries are the same server
+-- Unchanged entries represent the same server.
 pub same-clients : (s : Inside) (new : tree.BTreeMap SocketAddr ClientRecord) (server : Server) → server_of s ≡ server → tree.IsUnchanged s.clients new → server_of (record s { clients = new }) ≡ server
 same-clients s new server view_is same =
     ap {B = Server} (λ es. record (server_of s) { clients = map.from_entries (list.map (λ e. (e.0, client_of e.1)) es) }) same ∙ view_is
 
--- an address for which something is kept gets another outcome
-pub set-outcome : (s : Inside) (new : tree.BTreeMap SocketAddr ClientRecord) (server : Server) (client : SocketAddr) (kept : ClientRecord) (outcome : Option Outcome)
-    → server_of s ≡ server → Some kept ≡ tree.get socket_addr_cmp s.clients client → tree.Updates socket_addr_cmp s.clients new client (Some (record kept { outcome = outcome }))
+-- An address for which something is stored gets a new outcome.
+pub set-outcome : (s : Inside) (new : tree.BTreeMap SocketAddr ClientRecord) (server : Server) (client : SocketAddr) (stored : ClientRecord) (outcome : Option Outcome)
+    → server_of s ≡ server → Some stored ≡ tree.get socket_addr_cmp s.clients client → tree.Updates socket_addr_cmp s.clients new client (Some (record stored { outcome = outcome }))
     → server_of (record s { clients = new }) ≡ with_outcome server client outcome
-set-outcome s new server client kept outcome view_is found updates =
-    insert-clients s new server client (record kept { outcome = outcome }) view_is updates
-    ∙ ap {A = Option Client} {B = Server} (λ r. record server { clients = set_outcome server.clients client outcome r }) (sym (get-clients s server client (Some kept) view_is found))
+set-outcome s new server client stored outcome view_is found updates =
+    insert-clients s new server client (record stored { outcome = outcome }) view_is updates
+    ∙ ap {A = Option Client} {B = Server} (λ r. record server { clients = set_outcome server.clients client outcome r }) (sym (get-clients s server client (Some stored) view_is found))
 
--- where nothing is kept for an address, no outcome is
+-- If nothing is stored for an address, no outcome is stored.
 pub no-outcome : (s : Inside) (server : Server) (client : SocketAddr) (outcome : Option Outcome) → server_of s ≡ server → None ≡ tree.get socket_addr_cmp s.clients client → server ≡ with_outcome server client outcome
 no-outcome s server client outcome view_is none =
     ap {A = Option Client} {B = Server} (λ r. record server { clients = set_outcome server.clients client outcome r }) (sym (get-clients s server client None view_is none))
 
--- what is found for an address decides whether an outcome is put
+-- What is found for an address decides whether an outcome is stored.
 outcome-found : (s : Inside) (new : tree.BTreeMap SocketAddr ClientRecord) (server : Server) (client : SocketAddr) (outcome : Option Outcome) (found : Option ClientRecord)
     → server_of s ≡ server → found ≡ tree.get socket_addr_cmp s.clients client
-    → MatchOption found (tree.IsUnchanged s.clients new) (λ kept. tree.Updates socket_addr_cmp s.clients new client (Some (record kept { outcome = outcome })))
+    → MatchOption found (tree.IsUnchanged s.clients new) (λ stored. tree.Updates socket_addr_cmp s.clients new client (Some (record stored { outcome = outcome })))
     → server_of (record s { clients = new }) ≡ with_outcome server client outcome
 outcome-found s new server client outcome None view_is found same = same-clients s new server view_is same ∙ no-outcome s server client outcome view_is found
-outcome-found s new server client outcome (Some kept) view_is found updates = set-outcome s new server client kept outcome view_is found updates
+outcome-found s new server client outcome (Some stored) view_is found updates = set-outcome s new server client stored outcome view_is found updates
 
--- an outcome is put where something is kept for an address
+-- An outcome is stored if something is stored for the address.
 pub put-outcome : (s : Inside) (new : tree.BTreeMap SocketAddr ClientRecord) (server : Server) (client : SocketAddr) (outcome : Option Outcome) → server_of s ≡ server
-    → MatchOption (tree.get socket_addr_cmp s.clients client) (tree.IsUnchanged s.clients new) (λ kept. tree.Updates socket_addr_cmp s.clients new client (Some (record kept { outcome = outcome })))
+    → MatchOption (tree.get socket_addr_cmp s.clients client) (tree.IsUnchanged s.clients new) (λ stored. tree.Updates socket_addr_cmp s.clients new client (Some (record stored { outcome = outcome })))
     → server_of (record s { clients = new }) ≡ with_outcome server client outcome
 put-outcome s new server client outcome view_is = outcome-found s new server client outcome (tree.get socket_addr_cmp s.clients client) view_is refl
 
--- the password of a user's credentials
+-- The password of a user's credentials.
 abbrev pub password_of : KeyedUser → List ℕ
 password_of user = user.credentials.password
 
--- what is found for a name
+-- Looking up a name gives the same password in both maps.
 pub get-users : (s : Inside) (server : Server) (name : List ℕ) (found : Option KeyedUser) → server_of s ≡ server → found ≡ tree.get_by_text s.users name → map.get server.users name ≡ option_map password_of found
 get-users s server name found view_is is =
     ap (λ v. map.get v.users name) (sym view_is) ∙ get-finite_map string_bytes nat_list_cmp_total password_of s.users name
     ∙ ap (option_map password_of) (sym is)
 
--- a user's new credentials, at each name
+-- The credentials found for each name after the users were updated.
 users_updates : (s : Inside) (new : tree.BTreeMap (String Global) KeyedUser) (name : List ℕ) (user : Option KeyedUser)
     → tree.UpdatesBy string_cmp (λ key. slice_cmp nat_cmp name (string_bytes key)) s.users new user
     → (q : List ℕ) → tree.get_by_text new q ≡ cond (is_eq (slice_cmp nat_cmp name q)) user (tree.get_by_text s.users q)
 users_updates s new name user updates q =
     btree_map_updates_text name s.users new user updates q ∙ ap (λ b. cond b user (tree.get_by_text s.users q)) (sym (is_eq-slice_cmp name q))
 
--- a user with its own keys comes in beside users with theirs
+-- Adding a user with its own keys to users with theirs: each name has its own keys.
 with_keys : (realm name q : List ℕ) (user : KeyedUser) (b : Bool) (old : Option KeyedUser) → (b ≡ true → name ≡ q) → HasKeys realm name user → IfSome old (HasKeys realm q) → IfSome (cond b (Some user) old) (HasKeys realm q)
 with_keys realm name q user true old same keys have = subst (λ (n : List ℕ). HasKeys realm n user) (same refl) keys
 with_keys realm name q user false old same keys have = have
 
--- a comparison that ties answers equal
+-- A comparison that tests as equal is `Equal`.
 tie : (answer : Ordering) → is_eq answer ≡ true → answer ≡ Equal
 tie Less is = absurd (Prim.cc is)
 tie Equal is = refl
 tie Greater is = absurd (Prim.cc is)
 
--- texts that tie are the same
+-- Texts that compare as equal are equal.
 pub same_name : (a b : List ℕ) → is_eq (slice_cmp nat_cmp a b) ≡ true → a ≡ b
 same_name a b is = slice_cmp-IsAntisymmetric nat_cmp-IsAntisymmetric a b (tie (slice_cmp nat_cmp a b) is)
 
--- each user has its own keys after one came in
+-- Each user has its own keys after one was added.
 pub keys_inserted : (s : Inside) (new : tree.BTreeMap (String Global) KeyedUser) (realm name : List ℕ) (user : KeyedUser) → AllHaveKeys realm s.users → HasKeys realm name user
     → tree.UpdatesBy string_cmp (λ key. slice_cmp nat_cmp name (string_bytes key)) s.users new (Some user) → AllHaveKeys realm new
 keys_inserted s new realm name user have keys updates q =
     subst (λ (o : Option KeyedUser). IfSome o (HasKeys realm q)) (sym (users_updates s new name (Some user) updates q))
     (with_keys realm name q user (is_eq (slice_cmp nat_cmp name q)) (tree.get_by_text s.users q) (same_name name q) keys (have q))
 
--- the keys that are left after a user went
+-- Each remaining user has its own keys after one was removed.
 left : (realm q : List ℕ) (b : Bool) (old : Option KeyedUser) → IfSome old (HasKeys realm q) → IfSome (cond b None old) (HasKeys realm q)
 left realm q true old have = tt
 left realm q false old have = have
@@ -132,7 +132,7 @@ keys_removed s new realm name have updates q =
     subst (λ (o : Option KeyedUser). IfSome o (HasKeys realm q)) (sym (users_updates s new name None updates q))
     (left realm q (is_eq (slice_cmp nat_cmp name q)) (tree.get_by_text s.users q) (have q))
 
--- a user that is found behind a reference
+-- The password of a user that is found through a reference.
 pub found_password : (found : Option (Bor KeyedUser)) → option_map (λ user. user.now.credentials.password) found ≡ option_map password_of (option_copied found)
 found_password None = refl
 found_password (Some user) = refl
@@ -141,13 +141,13 @@ pub found_has : (P : KeyedUser → Type 0) (found : Option (Bor KeyedUser)) → 
 found_has P None has = tt
 found_has P (Some user) has = has
 
--- the keys of a user that is found
+-- A user that is found has its own keys.
 pub keys_found : (s : Inside) (server : Server) (name : List ℕ) (found : Option KeyedUser) → server_of s ≡ server → AllHaveKeys (string_bytes s.realm) s.users → found ≡ tree.get_by_text s.users name → IfSome found (HasKeys server.realm name)
 keys_found s server name found view_is have is =
     subst (λ (realm : List ℕ). IfSome found (HasKeys realm name)) (ap (λ v. v.realm) view_is)
     (subst (λ (o : Option KeyedUser). IfSome o (HasKeys (string_bytes s.realm) name)) (sym is) (have name))
 
--- a user is kept by name
+-- Storing a user by name in the fields stores it at the server.
 pub insert-users : (s : Inside) (new : tree.BTreeMap (String Global) KeyedUser) (server : Server) (name : List ℕ) (user : KeyedUser)
     → server_of s ≡ server → tree.UpdatesBy string_cmp (λ key. slice_cmp nat_cmp name (string_bytes key)) s.users new (Some user)
     → server_of (record s { users = new }) ≡ record server { users = map.insert server.users name user.credentials.password }
@@ -156,7 +156,7 @@ insert-users s new server name user view_is updates =
     (insert-finite_map string_bytes nat_list_cmp_total password_of (slice_cmp-IsAntisymmetric nat_cmp-IsAntisymmetric) s.users new name user (users_updates s new name (Some user) updates))
     ∙ ap {A = Server} {B = Server} (λ v. record v { users = map.insert v.users name user.credentials.password }) view_is
 
--- a user is kept no more
+-- Removing a user from the fields removes it from the server.
 pub remove-users : (s : Inside) (new : tree.BTreeMap (String Global) KeyedUser) (server : Server) (name : List ℕ)
     → server_of s ≡ server → tree.UpdatesBy string_cmp (λ key. slice_cmp nat_cmp name (string_bytes key)) s.users new None
     → server_of (record s { users = new }) ≡ record server { users = map.remove server.users name }

@@ -1,4 +1,4 @@
--- Responses of either class to an address that was validated get the same.
+-- Success and error responses to a validated address get the same additions.
 use Rattle.std.proofs.Common.{◌≡◌, false, true, Option, Some, None, refl}
 use Rattle.std.specs.Prelude.{IsSome}
 use Rattle.std.specs.Option.{option_and_then}
@@ -16,6 +16,6 @@ same_for_party : (party : Option Party) → IsSome (option_and_then (λ (p : Par
 same_for_party None some = refl
 same_for_party (Some party) some = same_by party party.user some
 
--- a success response that may be signed grows by as much as an error response
+-- A success response that can be signed grows by as much as an error response.
 pub same_size : (server : Server) (to : SocketAddr) → IsSome (addition_for server to Success) → size_for (addition_for server to Error) ≡ size_for (addition_for server to Success)
 same_size server to some = same_for_party (party_at server to) some

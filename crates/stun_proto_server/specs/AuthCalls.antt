@@ -1,12 +1,12 @@
--- The calls of a server's authenticator, what they answer, and what they leave, where memory is not
--- refused (RFC 8489, section 9.2). Each definition is what the contract of the call says.
+-- The calls of a server's authenticator, their results, and the state that they leave, if no allocation fails
+-- (RFC 8489, section 9.2). Each definition states what the call's contract states.
 use Rattle.std.specs.Prelude.{◌≡◌, ◌≢◌, ◌≤◌, ◌*◌, ℕ, Bool, List, [], ◌∷◌, Option, Some, None, IsSomeAnd}
 use Rattle.std.specs.FinMap as map
 use Rattle.std.specs.declared.net.socket_addr.SocketAddr.{SocketAddr}
 use Rattle.rand_core.specs.Stream.{Stream}
 use Rattle.stun_proto_auth.specs.Addition.{Addition}
 use Rattle.stun_proto_auth.specs.AdditionStages.{IsMade}
-use Rattle.stun_types_write.specs.Adding.{IsBegun}
+use Rattle.stun_types_write.specs.Adding.{IsStarted}
 use Rattle.stun_types_wire.specs.Attributes.{kind_at}
 use Rattle.stun_types_write.specs.Drafts.{Draft}
 use Rattle.stun_types_base.specs.GeneratorWords.{stream_after}
@@ -21,49 +21,49 @@ use Rattle.stun_proto_verify.specs.declared.error.LongTermServerAuthError.TheVar
 use Rattle.stun_proto_auth.specs.declared.feature.Feature.{Feature}
 use Rattle.stun_proto_server.specs.declared.long_term.TheConstants.{MIN_NONCE_EXPIRY}
 use Rattle.stun_proto_server.specs.declared.validation.LongTermServerValidation.{LongTermServerValidation}
-use Rattle.stun_proto_server.specs.Server.{Server, nonce_at, outcome_at, refreshed, words_drawn}
-use Rattle.stun_proto_server.specs.ServerSigning.{addition_for, class_asked, signing_refusal_for, size_for}
+use Rattle.stun_proto_server.specs.Server.{Server, nonce_at, outcome_at, refreshed, words_generated}
+use Rattle.stun_proto_server.specs.ServerSigning.{addition_for, class_requested, signing_refusal_for, size_for}
 use Rattle.stun_proto_server.specs.ServerValidation.{IsValidated, Refuses, after_refusal, words_of_validation}
 
--- ---- calls and answers
+-- ---- calls and results
 
--- a call of a public function of `LongTermServerAuth`, with all that the caller hands in: of a
--- generator the stream of its words, of a writer its draft
+-- A call of a public function of `LongTermServerAuth`, with all its arguments. A generator is represented by
+-- the stream of its words, a writer by its draft.
 pub data AuthCall : Type 0 where
   -- `validate_incoming_message`
   Validate : (bytes : List ℕ) (from : SocketAddr) (now : ℕ) (stream : Stream) → AuthCall
-  -- `sign_outgoing_message`, and the same unchecked
+  -- `sign_outgoing_message` and `sign_outgoing_message_unchecked`
   Sign : (draft : Draft) (to : SocketAddr) → AuthCall
   -- `message_signature_bytes`
-  SizeAsked : (to : SocketAddr) (is_request : Bool) → AuthCall
+  SizeRequested : (to : SocketAddr) (is_request : Bool) → AuthCall
   -- `nonce_for_client`
-  NonceAsked : (client : SocketAddr) → AuthCall
+  NonceRequested : (client : SocketAddr) → AuthCall
   -- `validated_user`
-  UserAsked : (client : SocketAddr) → AuthCall
+  UserRequested : (client : SocketAddr) → AuthCall
   -- `refresh_nonce`
   Refresh : (from : SocketAddr) (now : ℕ) (stream : Stream) → AuthCall
   -- `remove_client`
   RemoveClient : (client : SocketAddr) → AuthCall
   -- `realm`
-  RealmAsked : AuthCall
+  RealmRequested : AuthCall
   -- `add_user`
   AddUser : (name password : List ℕ) → AuthCall
   -- `remove_user`
   RemoveUser : (name : List ℕ) → AuthCall
   -- `supported_integrity`
-  AlgorithmsAsked : AuthCall
+  AlgorithmsRequested : AuthCall
   -- `add_supported_integrity`
   AddAlgorithm : (algorithm : IntegrityAlgorithm) → AuthCall
   -- `set_supported_integrity`
   SetAlgorithm : (algorithm : IntegrityAlgorithm) → AuthCall
   -- `anonymous_username`
-  AnonymityAsked : AuthCall
+  AnonymityRequested : AuthCall
   -- `set_anonymous_username`
   SetAnonymity : (feature : Feature) → AuthCall
   -- `set_nonce_expiry_duration`, in nanoseconds
   SetExpiry : (expiry : ℕ) → AuthCall
 
--- an answer; where words may be drawn, with the stream that is left
+-- The result of a call. If the call can generate random words, it includes the remaining stream.
 pub data AuthAnswer : Type 0 where
   Done : AuthAnswer
   Valid : (how : LongTermServerValidation) (left : Stream) → AuthAnswer
@@ -78,10 +78,10 @@ pub data AuthAnswer : Type 0 where
   Algorithms : (algorithms : List IntegrityAlgorithm) → AuthAnswer
   Anonymity : (feature : Feature) → AuthAnswer
 
--- ---- what a call answers and leaves
+-- ---- the result of a call, and the state after it
 
--- a message was validated, or refused for another cause than memory: `valid`, `refused` and `stream`
--- of `validate_incoming_message`
+-- A message was validated, or rejected with an error other than `NoMemory`: the clauses `valid`, `refused`
+-- and `stream` of `validate_incoming_message`.
 abbrev pub IsJudged : AuthAnswer → Server → List ℕ → SocketAddr → ℕ → Stream → Server → Type 0
 IsJudged (Valid how left) old bytes from now stream new =
     IsValidated (refreshed old from now stream) from bytes how new
@@ -92,8 +92,8 @@ IsJudged (Refused error left) old bytes from now stream new =
     × (left ≡ stream_after (words_of_validation old from bytes now) stream)
 IsJudged _ old bytes from now stream new = ⊥
 
--- an addition was made to a draft, or refused for another cause than memory: `ok` and `cause` of
--- `sign_outgoing_message`
+-- An addition was made to a draft, or refused with an error other than `NoMemory`: the clauses `ok` and
+-- `cause` of `sign_outgoing_message`.
 abbrev pub IsSignedBy : AuthAnswer → Option Addition → Draft → Type 0
 IsSignedBy (Signed signed) addition draft =
     (signing_refusal_for addition draft ≡ None) × IsSomeAnd addition (λ made. IsMade made draft signed)
@@ -101,38 +101,38 @@ IsSignedBy (NotSigned error) addition draft =
     (error ≢ write.NoMemory) × (signing_refusal_for addition draft ≡ Some error)
 IsSignedBy _ addition draft = ⊥
 
--- what is told of a server, which stays as it is
-abbrev pub IsTold : AuthAnswer → AuthAnswer → Server → Server → Type 0
-IsTold answer told old new = (answer ≡ told) × (new ≡ old)
+-- A getter's result. The server is unchanged.
+abbrev pub IsReported : AuthAnswer → AuthAnswer → Server → Server → Type 0
+IsReported answer decoded old new = (answer ≡ decoded) × (new ≡ old)
 
--- a call was made, was answered so, and left this server. What the functions require is required
--- here, too; those that change users and settings say what they leave in their only clause, `add_user`
--- in `ok`
+-- A call was made, returned this result, and left this server. The preconditions of the function are
+-- included. For a call that changes users or settings, the effect is that of the only clause of its contract;
+-- for `add_user`, of the clause `ok`.
 abbrev pub IsCalled : AuthCall → AuthAnswer → Server → Server → Type 0
 IsCalled (Validate bytes from now stream) answer old new = IsJudged answer old bytes from now stream new
 IsCalled (Sign draft to) answer old new =
-    IsBegun draft.bytes × IsSignedBy answer (addition_for old to (class_of (kind_at draft.bytes))) draft × (new ≡ old)
-IsCalled (SizeAsked to is_request) answer old new =
-    IsTold answer (Size (size_for (addition_for old to (class_asked is_request)))) old new
-IsCalled (NonceAsked client) answer old new = IsTold answer (Nonce (nonce_at old client)) old new
-IsCalled (UserAsked client) answer old new = IsTold answer (User (outcome_at old client)) old new
--- the clauses `stream` and `ok`
+    IsStarted draft.bytes × IsSignedBy answer (addition_for old to (class_of (kind_at draft.bytes))) draft × (new ≡ old)
+IsCalled (SizeRequested to is_request) answer old new =
+    IsReported answer (Size (size_for (addition_for old to (class_requested is_request)))) old new
+IsCalled (NonceRequested client) answer old new = IsReported answer (Nonce (nonce_at old client)) old new
+IsCalled (UserRequested client) answer old new = IsReported answer (User (outcome_at old client)) old new
+-- The clauses `stream` and `ok`.
 IsCalled (Refresh from now stream) answer old new =
-    (answer ≡ Refreshed (stream_after (words_drawn old from now) stream)) × (new ≡ refreshed old from now stream)
--- the clause `removed`
+    (answer ≡ Refreshed (stream_after (words_generated old from now) stream)) × (new ≡ refreshed old from now stream)
+-- The clause `removed`.
 IsCalled (RemoveClient client) answer old new =
     (answer ≡ Done) × (new ≡ record old { clients = map.remove old.clients client })
-IsCalled RealmAsked answer old new = IsTold answer (Realm old.realm) old new
+IsCalled RealmRequested answer old new = IsReported answer (Realm old.realm) old new
 IsCalled (AddUser name password) answer old new =
     (answer ≡ Done) × (new ≡ record old { users = map.insert old.users name password })
 IsCalled (RemoveUser name) answer old new =
     (answer ≡ Done) × (new ≡ record old { users = map.remove old.users name })
-IsCalled AlgorithmsAsked answer old new = IsTold answer (Algorithms old.algorithms) old new
+IsCalled AlgorithmsRequested answer old new = IsReported answer (Algorithms old.algorithms) old new
 IsCalled (AddAlgorithm algorithm) answer old new =
     (answer ≡ Done) × (new ≡ record old { algorithms = with_algorithm old.algorithms algorithm })
 IsCalled (SetAlgorithm algorithm) answer old new =
     (answer ≡ Done) × (new ≡ record old { algorithms = algorithm ∷ [] })
-IsCalled AnonymityAsked answer old new = IsTold answer (Anonymity old.anonymous_username) old new
+IsCalled AnonymityRequested answer old new = IsReported answer (Anonymity old.anonymous_username) old new
 IsCalled (SetAnonymity feature) answer old new =
     (answer ≡ Done) × (new ≡ record old { anonymous_username = feature })
 IsCalled (SetExpiry expiry) answer old new =

@@ -1,4 +1,5 @@
--- What an address is answered, and what its calls leave, of two servers that it can't tell apart (RFC 8489, section 9.2).
+-- How two servers that an address can't distinguish respond to it, and what calls leave of them (RFC 8489,
+-- section 9.2).
 use Rattle.std.specs.Prelude.{◌≡◌, ◌↔◌, ℕ, List, [], ◌∷◌, Option}
 use Rattle.std.specs.FinMap as map
 use Rattle.std.specs.declared.net.socket_addr.SocketAddr.{SocketAddr}
@@ -9,17 +10,17 @@ use Rattle.stun_proto_auth.specs.SupportedAlgorithms.{with_algorithm}
 use Rattle.stun_proto_auth.specs.declared.feature.Feature.{Feature}
 use Rattle.stun_proto_verify.specs.declared.error.LongTermServerAuthError.{LongTermServerAuthError}
 use Rattle.stun_proto_verify.specs.Knowledge.{Outcome}
-use Rattle.stun_proto_server.specs.Server.{SameFor, Server, nonce_at, outcome_at, refreshed, with_outcome, words_drawn}
+use Rattle.stun_proto_server.specs.Server.{SameFor, Server, nonce_at, outcome_at, refreshed, with_outcome, words_generated}
 use Rattle.stun_proto_server.specs.ServerSigning.{addition_for}
 use Rattle.stun_proto_server.specs.ServerValidation.{Accepts, Refuses, WantsMemory}
 
--- an address gets the same from two servers: the nonce and the outcome that are kept for it, how many
--- words are drawn for it, which messages are accepted and refused, which want memory, and what is
--- added to a message that goes to it
+-- Two servers treat an address alike: they have the same nonce and outcome for it, generate the same count of
+-- random words, accept and reject the same messages, need memory for the same messages, and add the same to a
+-- message to it.
 pub record AnswersAlike (client : SocketAddr) (a b : Server) : Type 0 where
   pub nonce : nonce_at b client ≡ nonce_at a client
   pub outcome : outcome_at b client ≡ outcome_at a client
-  pub drawn : (now : ℕ) → words_drawn b client now ≡ words_drawn a client now
+  pub generated : (now : ℕ) → words_generated b client now ≡ words_generated a client now
   pub accepts : (bytes : List ℕ) (algorithm : IntegrityAlgorithm) (name : List ℕ)
       → Accepts a client bytes algorithm name ↔ Accepts b client bytes algorithm name
   pub refuses : (bytes : List ℕ) (error : LongTermServerAuthError)
@@ -28,8 +29,8 @@ pub record AnswersAlike (client : SocketAddr) (a b : Server) : Type 0 where
       → WantsMemory a client bytes now stream ↔ WantsMemory b client bytes now stream
   pub adds : (class : MessageClass) → addition_for b client class ≡ addition_for a client class
 
--- what an address does leaves it with two servers that it can't tell apart: a nonce that is due is
--- drawn, an outcome is kept, the address is forgotten
+-- After a call for the address, it still can't distinguish the two servers. The calls generate a nonce if one
+-- is due, store an outcome, or remove what is stored for the address.
 pub record LeavesAlike (client : SocketAddr) (a b : Server) : Type 0 where
   pub refreshes : (now : ℕ) (stream : Stream)
       → SameFor client (refreshed a client now stream) (refreshed b client now stream)
@@ -38,7 +39,7 @@ pub record LeavesAlike (client : SocketAddr) (a b : Server) : Type 0 where
   pub forgets : SameFor client (record a { clients = map.remove a.clients client })
       (record b { clients = map.remove b.clients client })
 
--- so does what is done to users and settings
+-- After the same change of users or settings, the address still can't distinguish the two servers.
 pub record SetsAlike (client : SocketAddr) (a b : Server) : Type 0 where
   pub user_added : (name password : List ℕ) → SameFor client (record a { users = map.insert a.users name password })
       (record b { users = map.insert b.users name password })
@@ -54,7 +55,7 @@ pub record SetsAlike (client : SocketAddr) (a b : Server) : Type 0 where
   pub anonymity_set : (feature : Feature) → SameFor client (record a { anonymous_username = feature })
       (record b { anonymous_username = feature })
 
--- an address can't see what another one does
+-- An address can't distinguish a server from what calls for another address make of it.
 pub record LeavesAlone (client other : SocketAddr) (server : Server) : Type 0 where
   pub refreshes : (now : ℕ) (stream : Stream) → SameFor client server (refreshed server other now stream)
   pub keeps : (outcome : Option Outcome) → SameFor client server (with_outcome server other outcome)

@@ -1,7 +1,7 @@
 pub mod AuthCalls
 pub mod AuthRuns
 pub mod Isolation
-pub mod KeptKeys
+pub mod StoredKeys
 pub mod Server
 pub mod ServerSigning
 pub mod ServerValidation

@@ -8,7 +8,7 @@ use Rattle.std.specs.Ordering.{nat_cmp}
 use Rattle.std.specs.contracts.net.socket_addr.SocketAddr as addr
 use Rattle.std.specs.declared.net.socket_addr.SocketAddr.{SocketAddr}
 use Rattle.rand_core.specs.Stream.{Stream}
-use Rattle.stun_types_base.specs.Moments.{moment_after}
+use Rattle.stun_types_base.specs.Times.{time_after}
 use Rattle.stun_proto_auth.specs.contracts.feature.Feature as feature
 use Rattle.stun_proto_auth.specs.declared.feature.Feature.{Feature}
 use Rattle.stun_proto_auth.specs.Nonce.{features_offered, nonce_text}
@@ -19,15 +19,15 @@ use Rattle.stun_types_base.specs.GeneratorWords.{words_of}
 use Rattle.stun_types_wire.specs.contracts.algorithm.IntegrityAlgorithm as algorithm
 use Rattle.stun_types_wire.specs.declared.algorithm.IntegrityAlgorithm.{IntegrityAlgorithm}
 
--- what is kept for one address: the nonce's text, the moment of its drawing, and the last outcome
--- under it, where that was a validation
+-- What is stored for one address: the text of the nonce, the time of its generation, and the last outcome
+-- under it if that was a validation.
 pub record Client : Type 0 where
   pub nonce : List ℕ
-  pub drawn : ℕ
+  pub generated : ℕ
   pub outcome : Option Outcome
 
--- a server: the realm, each user's password by name, what is kept for each address, how many
--- nanoseconds a nonce stands, and what it supports
+-- A server: the realm, each user's password by name, what is stored for each address, the lifetime of a nonce
+-- in nanoseconds, the algorithms that it supports, and its setting for hashed names.
 pub record Server : Type 0 where
   pub realm : List ℕ
   pub users : map.FinMap (slice_cmp nat_cmp) (List ℕ)
@@ -36,27 +36,27 @@ pub record Server : Type 0 where
   pub algorithms : List IntegrityAlgorithm
   pub anonymous_username : Feature
 
--- the code of an outcome
+-- The encoding of an outcome.
 abbrev pub outcome_code : Coded Outcome
 outcome_code =
     code_by (List ℕ × IntegrityAlgorithm) (coded× (coded_list coded_ℕ) algorithm.the_row.coded)
     (λ o. (o.name, o.algorithm)) (λ p. record { name = p.0; algorithm = p.1 }) (λ _. refl)
 
--- the code of what is kept for one address
+-- The encoding of what is stored for one address.
 abbrev pub client_code : Coded Client
 client_code =
     code_by (List ℕ × (ℕ × Option Outcome)) (coded× (coded_list coded_ℕ) (coded× coded_ℕ (coded_option outcome_code)))
-    (λ c. (c.nonce, (c.drawn, c.outcome))) (λ p. record { nonce = p.0; drawn = p.1.0; outcome = p.1.1 }) (λ _. refl)
+    (λ c. (c.nonce, (c.generated, c.outcome))) (λ p. record { nonce = p.0; generated = p.1.0; outcome = p.1.1 }) (λ _. refl)
 
--- the code of the users
+-- The encoding of the users.
 abbrev pub users_code : Coded (map.FinMap (slice_cmp nat_cmp) (List ℕ))
 users_code = map.code (coded_list coded_ℕ) (coded_list coded_ℕ)
 
--- the code of what is kept for all addresses
+-- The encoding of what is stored for all addresses.
 abbrev pub clients_code : Coded (map.FinMap socket_addr_cmp Client)
 clients_code = map.code addr.the_row.coded client_code
 
--- the code of a server
+-- The encoding of a server.
 abbrev pub server_code : Coded Server
 server_code =
     code_by (List ℕ × (map.FinMap (slice_cmp nat_cmp) (List ℕ)
@@ -74,65 +74,67 @@ server_code =
     })
     (λ _. refl)
 
--- the nonce that is kept for an address, of any age
+-- The nonce that is stored for an address, valid or expired.
 abbrev pub nonce_at : Server → SocketAddr → Option (List ℕ)
-nonce_at server client = option_map (λ (kept : Client). kept.nonce) (map.get server.clients client)
+nonce_at server client = option_map (λ (stored : Client). stored.nonce) (map.get server.clients client)
 
--- the outcome that is kept for an address
+-- The outcome that is stored for an address.
 abbrev pub outcome_at : Server → SocketAddr → Option Outcome
-outcome_at server client = option_and_then (λ (kept : Client). kept.outcome) (map.get server.clients client)
+outcome_at server client = option_and_then (λ (stored : Client). stored.outcome) (map.get server.clients client)
 
--- whether a nonce stands at a moment: there is one, and the moment is before its drawing plus the expiry
+-- Whether a nonce is valid at `now`: there is one, and `now` is before its generation plus its lifetime.
 abbrev pub is_standing : ℕ → ℕ → Option Client → Bool
 is_standing expiry now None = false
-is_standing expiry now (Some kept) = nat_lt now (moment_after kept.drawn expiry)
+is_standing expiry now (Some stored) = nat_lt now (time_after stored.generated expiry)
 
--- whether the nonce that is kept for an address stands at a moment
+-- Whether the nonce that is stored for an address is valid at `now`.
 abbrev pub has_standing_nonce : Server → SocketAddr → ℕ → Bool
 has_standing_nonce server client now = is_standing server.nonce_expiry now (map.get server.clients client)
 
--- what a drawing at a moment keeps: the nonce of the next words of the stream, which tells of the server's features
+-- What is stored when a nonce is generated at `now`: the nonce made from the next words of the stream, which
+-- announces the server's features.
 abbrev pub new_client : Server → ℕ → Stream → Client
 new_client server now stream = record {
   nonce = nonce_text (features_offered server.algorithms server.anonymous_username) (words_of NONCE_WORDS stream);
-  drawn = now;
+  generated = now;
   outcome = None;
 }
 
--- the server with a nonce drawn for an address
+-- The server with a new nonce for an address.
 abbrev pub with_new_nonce : Server → SocketAddr → ℕ → Stream → Server
 with_new_nonce server from now stream = record server {
   clients = map.insert server.clients from
       (new_client server now stream);
 }
 
--- the server with a nonce that stands for an address
+-- The server with a valid nonce for an address: unchanged if it has one, otherwise with a new one.
 abbrev pub refreshed : Server → SocketAddr → ℕ → Stream → Server
 refreshed server from now stream = if has_standing_nonce server from now then server
     else with_new_nonce server from now stream
 
--- the clients with another outcome for an address for which something is kept
+-- The clients with a new outcome for an address; unchanged if nothing is stored for it.
 abbrev pub set_outcome : map.FinMap socket_addr_cmp Client → SocketAddr → Option Outcome → Option Client
     → map.FinMap socket_addr_cmp Client
 set_outcome clients from outcome None = clients
-set_outcome clients from outcome (Some kept) = map.insert clients from (record kept { outcome = outcome })
+set_outcome clients from outcome (Some stored) = map.insert clients from (record stored { outcome = outcome })
 
--- the server with the last outcome of an address
+-- The server with a new outcome for an address.
 abbrev pub with_outcome : Server → SocketAddr → Option Outcome → Server
 with_outcome server from outcome = record server {
   clients = set_outcome server.clients from outcome
       (map.get server.clients from);
 }
 
--- how many words a refresh draws
-abbrev pub words_drawn : Server → SocketAddr → ℕ → ℕ
-words_drawn server from now = if has_standing_nonce server from now then 0 else NONCE_WORDS
+-- How many random words `refresh_nonce` generates.
+abbrev pub words_generated : Server → SocketAddr → ℕ → ℕ
+words_generated server from now = if has_standing_nonce server from now then 0 else NONCE_WORDS
 
--- two servers that an address can't tell apart: the same realm, users and settings, and the same kept for the address
+-- Two servers that an address can't distinguish: they have the same realm, users and settings, and store the
+-- same for the address.
 pub record SameFor (client : SocketAddr) (old new : Server) : Type 0 where
   pub realm : new.realm ≡ old.realm
   pub users : new.users ≡ old.users
   pub nonce_expiry : new.nonce_expiry ≡ old.nonce_expiry
   pub algorithms : new.algorithms ≡ old.algorithms
   pub anonymous_username : new.anonymous_username ≡ old.anonymous_username
-  pub kept : map.get new.clients client ≡ map.get old.clients client
+  pub stored : map.get new.clients client ≡ map.get old.clients client

@@ -7,37 +7,38 @@ use Rattle.stun_proto_auth.specs.Claims.{Claimed}
 use Rattle.stun_proto_verify.specs.Knowledge.{Named}
 use Rattle.stun_proto_server.specs.Server.{Server}
 
--- a name is the claimed one: the one that is shown, or, where none is, one whose hash in the realm is shown
+-- A name is the claimed one: the name in the message or, if it has none, a name whose hash in the realm is in
+-- the message.
 abbrev pub IsClaimedName : List ℕ → Option (List ℕ) → Option (List ℕ) → List ℕ → Type 0
-IsClaimedName realm (Some shown) hash name = name ≡ shown
+IsClaimedName realm (Some visible) hash name = name ≡ visible
 IsClaimedName realm None hash name = hash ≡ Some (userhash_of name realm)
 
--- a user who is there, and whose name is such a one
+-- A user that exists, and whose name satisfies `IsName`.
 pub record IsUser (server : Server) (IsName : List ℕ → Type 0) (user : Named) : Type 0 where
   pub present : map.get server.users user.name ≡ Some user.password
   pub named : IsName user.name
 
--- the user that is found: one whose name is such a one, or None, where there is none
+-- The result of a search: a user whose name satisfies the condition, or `None` if there is no such user.
 abbrev pub IsFoundBy : Server → (List ℕ → Type 0) → Option Named → Type 0
 IsFoundBy server IsName found = MatchOption found ((user : Named) → ¬ IsUser server IsName user) (IsUser server IsName)
 
--- a claim names a user who is there
+-- A claim names a user that exists.
 abbrev pub Names : Server → Claimed → Named → Type 0
 Names server claim = IsUser server (IsClaimedName server.realm claim.username claim.user_hash)
 
--- the user that is found for a claim: one whom it names, or None, where it names none
+-- The result of the search for a claim: a user that it names, or `None` if it names none.
 abbrev pub IsFound : Server → Claimed → Option Named → Type 0
 IsFound server claim = IsFoundBy server (IsClaimedName server.realm claim.username claim.user_hash)
 
--- no two users of a server have the same hash
+-- No two users of a server have the same hash.
 abbrev pub HashesDiffer : Server → Type 0
 HashesDiffer server = (a b : List ℕ) → IsSome (map.get server.users a) → IsSome (map.get server.users b)
     → userhash_of a server.realm ≡ userhash_of b server.realm → a ≡ b
 
--- a claim names no two users: that is so of a name, and of a hash where no two users have the same
+-- A claim does not name two users. A name never does; a hash does not if no two users have the same hash.
 abbrev pub NamesOne : Server → Claimed → Type 0
 NamesOne server claim = claim.username ≡ None → HashesDiffer server
 
--- whether a hash is that of a name in a realm
+-- Whether a hash is that of a name in a realm.
 abbrev pub is_hash_of : List ℕ → List ℕ → List ℕ → Bool
 is_hash_of hash realm name = pointwise nat_eq hash (userhash_of name realm)

@@ -1,4 +1,4 @@
--- The server that the fields of a `LongTermServerAuth` hold.
+-- The server that the fields of a `LongTermServerAuth` represent.
 use Rattle.std.specs.Prelude.{ℕ, List, map}
 use Rattle.std.specs.Duration.{as_nanos}
 use Rattle.std.specs.FinMap as finite
@@ -11,11 +11,11 @@ use Rattle.stun_proto_server.specs.declared.long_term.ClientRecord.{ClientRecord
 use Rattle.stun_proto_server.specs.declared.long_term.LongTermServerAuth.TheInside.{Inside}
 use Rattle.stun_proto_server.specs.declared.users.KeyedUser.{KeyedUser}
 
--- what is kept for one address
+-- What is stored for one address.
 abbrev pub client_of : ClientRecord → Client
-client_of kept = record { nonce = kept.nonce; drawn = kept.drawn; outcome = kept.outcome }
+client_of stored = record { nonce = stored.nonce; generated = stored.generated; outcome = stored.outcome }
 
--- the server
+-- The server.
 abbrev pub server_of : Inside → Server
 server_of s = record {
   realm = string_bytes s.realm;
@@ -26,10 +26,10 @@ server_of s = record {
   anonymous_username = s.anonymous_username;
 }
 
--- the name and the user of an entry
+-- The name and the record of an entry's user.
 abbrev pub pair_of : String Global × KeyedUser → List ℕ × KeyedUser
 pair_of entry = (string_bytes entry.0, entry.1)
 
--- the user of an entry
+-- The name and the password of an entry's user.
 abbrev pub named_of : String Global × KeyedUser → Named
 named_of user = record { name = string_bytes user.0; password = user.1.credentials.password }

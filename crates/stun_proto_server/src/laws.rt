@@ -1,5 +1,5 @@
-//! What the definitions of the contracts mean for a layer above. The functions do nothing; each
-//! contract is a law.
+//! Theorems on the server's authentication for the layers above. The functions do nothing; each
+//! contract states theorems.
 
 ghost use Rattle.std.specs.Prelude.{◌≡◌, ◌≢◌, ℕ, List};
 ghost use Rattle.std.specs.declared.net.socket_addr.SocketAddr.{SocketAddr as Addr};
@@ -7,16 +7,20 @@ ghost use Rattle.stun_proto_auth.specs.Claims.{claimed};
 ghost use Rattle.stun_proto_verify.specs.declared.error.LongTermServerAuthError.{LongTermServerAuthError as Error};
 ghost use Rattle.stun_types_wire.specs.declared.algorithm.IntegrityAlgorithm.{IntegrityAlgorithm};
 ghost use Rattle.stun_proto_server.specs.AuthCalls.{AuthAnswer, AuthCall};
-ghost use Rattle.stun_proto_server.specs.AuthRuns.{AreAnsweredAlike, EachNamesOne, IsAuthRun, StandsAlone, calls_concerning};
+ghost use Rattle.stun_proto_server.specs.AuthRuns.{AreAnsweredAlike, EachNamesOne, IsAuthRun, IsIsolated, calls_concerning};
 ghost use Rattle.stun_proto_server.specs.Isolation.{AnswersAlike, LeavesAlike, LeavesAlone, SetsAlike};
 ghost use Rattle.stun_proto_server.specs.Server.{SameFor, Server};
 ghost use Rattle.stun_proto_server.specs.ServerValidation.{Accepts, Refuses};
 ghost use Rattle.stun_proto_server.specs.Users.{NamesOne};
 
-/// Addresses are apart: what a server answers to an address is fixed by the calls of that address and by
-/// those on users and settings. Two servers that an address can't tell apart answer it alike; each
-/// call leaves it with two such servers again; and the calls of other addresses leave it with a
-/// server that it can't tell from the one before.
+/// Addresses are isolated: what the server does for an address depends only on the calls for that
+/// address and on those that change users and settings.
+///
+/// - `answers`: if an address can't distinguish two servers, both respond to it alike.
+/// - `leaves`: after the same call for that address, it can't distinguish the two servers either.
+/// - `settings`: nor can it after the same change of users or settings.
+/// - `others`: a call for another address leaves a server that the address can't distinguish from
+///   the one before.
 pub fn addresses_are_apart()
     ensures answers { (client : Addr) (a b : Server) → SameFor client a b
         → AnswersAlike client a b }
@@ -28,20 +32,24 @@ pub fn addresses_are_apart()
         → LeavesAlone client other server }
 {}
 
-/// So it is of whole runs of calls, whatever other addresses do between an address's own. Of any run
-/// that isn't refused memory, the calls that concern an address alone, its own and those on users and
-/// settings, are answered the same from any server that the address can't tell from the one of the run,
-/// and they leave a server that it can't tell from the one that all calls left.
+/// Isolation of addresses holds for whole runs of calls. The calls that concern an address are
+/// those for that address and those that change or read users and settings. In the runs no
+/// allocation fails.
 ///
-/// And what it is answered is fixed by these calls: of two runs in which they are the same, from
-/// servers that the address can't tell apart, it gets the same answers. That takes for granted that
-/// no message names two users, by a hash that both have (RFC 8489, section 14.4).
-pub fn addresses_stand_alone()
+/// - `alone`: take any run, and any server that the address can't distinguish from the server at
+///   its start. Make only the calls of the run that concern the address. They return the same
+///   results, and leave a server that the address can't distinguish from the one that the whole run
+///   left.
+/// - `fixed`: take two runs from servers that the address can't distinguish, in which the calls
+///   that concern the address are the same. Then these calls return the same results, and the
+///   servers that are left can't be distinguished by the address. Premise: no message names two
+///   users by a hash that both have (RFC 8489, section 14.4).
+pub fn addresses_are_isolated()
     ensures alone { (address : Addr) (old other new : Server)
         (pairs : List (AuthCall × AuthAnswer))
         → SameFor address old other
         → IsAuthRun old pairs new
-        → StandsAlone address other pairs new }
+        → IsIsolated address other pairs new }
     ensures fixed { (address : Addr) (old other new left : Server)
         (pairs others : List (AuthCall × AuthAnswer))
         → SameFor address old other
@@ -52,8 +60,8 @@ pub fn addresses_stand_alone()
         → AreAnsweredAlike address pairs others new left }
 {}
 
-/// A message that a server accepts as one of its user's, it doesn't refuse, where the message names no
-/// two of its users.
+/// If a message does not name two of the server's users, and the server accepts it as one of its
+/// user's, then the server does not reject it.
 pub fn accepted_is_not_refused()
     ensures { (server : Server) (from : Addr) (bytes : List ℕ) (algorithm : IntegrityAlgorithm)
         (name : List ℕ) (error : Error)

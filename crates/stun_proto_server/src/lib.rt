@@ -1,5 +1,5 @@
 //! The server's side of long-term authentication (RFC 8489, section 9.2). It performs no input or
-//! output: the caller hands in the moment and the random words.
+//! output: the caller passes the time and the random words.
 #![tactic(auto)]
 
 pub mod laws;

@@ -8,15 +8,15 @@ ghost use Rattle.std.specs.List.{IsDistinct};
 ghost use Rattle.std.specs.Option.{option_copied, option_map};
 ghost use Rattle.std.specs.String.{string_bytes};
 ghost use Rattle.std.specs.declared.net.socket_addr.SocketAddr.{SocketAddr};
-ghost use Rattle.stun_types_base.specs.Moments.{moment_after};
+ghost use Rattle.stun_types_base.specs.Times.{time_after};
 ghost use Rattle.stun_proto_auth.specs.SupportedAlgorithms.{is_same_algorithm, with_algorithm};
 ghost use Rattle.stun_types_base.specs.SocketAddrs.{socket_addr_cmp};
 ghost use Rattle.stun_types_base.specs.GeneratorWords.{stream_after};
 ghost use Rattle.stun_types_wire.specs.Registry.{longest_text};
 ghost use Rattle.stun_types_wire.specs.declared.algorithm.IntegrityAlgorithm.TheVariants.{Sha1};
 ghost use Rattle.stun_proto_auth.specs.declared.feature.Feature.TheVariants.{Auto};
-ghost use Rattle.stun_proto_server.specs.Server.{nonce_at, has_standing_nonce, outcome_at, words_drawn, with_new_nonce, with_outcome, refreshed, SameFor};
-ghost use Rattle.stun_proto_server.specs.KeptKeys.{HasKeys};
+ghost use Rattle.stun_proto_server.specs.Server.{nonce_at, has_standing_nonce, outcome_at, words_generated, with_new_nonce, with_outcome, refreshed, SameFor};
+ghost use Rattle.stun_proto_server.specs.StoredKeys.{HasKeys};
 ghost use Rattle.stun_proto_server.specs.Users.{IsFound, IsFoundBy};
 ghost use Rattle.stun_types_auth_attributes.specs.Userhashes.{userhash_of};
 
@@ -40,21 +40,21 @@ use stun_types_base::words::draw_words;
 use stun_types_integrity::credentials::LongTermCredentials;
 use stun_types_wire::algorithm::IntegrityAlgorithm;
 
-/// The least time that a nonce stands, in seconds.
+/// The shortest allowed lifetime of a nonce, in seconds.
 pub const MIN_NONCE_EXPIRY: u64 = 30;
 
-/// What a server keeps for one client address.
+/// What a server stores for one client address.
 #[derive(Debug, Drop)]
 struct ClientRecord {
     nonce: ServerNonce,
-    drawn: Instant,
+    generated: Instant,
     outcome: Option<ValidatedUser>,
 }
 
-/// The server's side of long-term authentication: a realm, its users, and for each client address
-/// a record of its own, which the calls of other addresses don't touch. With each user its keys in the
-/// realm are kept, one for each algorithm. The realm has at most 763 bytes, as a nonce has (RFC 8489,
-/// sections 14.9 and 14.10). Contracts see the record `Server` of `specs/Server.antt`.
+/// The server's side of long-term authentication: a realm, its users, and a record for each client
+/// address, which calls for other addresses do not touch. With each user it stores the user's keys
+/// in the realm, one for each algorithm. The realm is at most 763 bytes long, and so is a nonce
+/// (RFC 8489, sections 14.9 and 14.10). Contracts see the record `Server` of `specs/Server.antt`.
 #[derive(Debug, Drop)]
 pub struct LongTermServerAuth {
     alloc: Global,
@@ -80,16 +80,16 @@ impl Model for LongTermServerAuth {
     ghost use Rattle.std.specs.Prelude.{◌≤◌, length};
     ghost use Rattle.std.specs.String.{string_bytes};
     ghost use Rattle.stun_types_wire.specs.Registry.{longest_text};
-    ghost use Rattle.stun_proto_server.specs.KeptKeys.{AllHaveKeys};
+    ghost use Rattle.stun_proto_server.specs.StoredKeys.{AllHaveKeys};
 
     ghost invariant = { λ server. (length (string_bytes server.realm) ≤ longest_text)
         × AllHaveKeys (string_bytes server.realm) server.users };
 }
 
 impl LongTermServerAuth {
-    /// A server of a realm, with no users. It supports Sha1 alone, takes hashed names, and its
-    /// nonces stand for an hour. The realm has at most 763 bytes (RFC 8489, section 14.9). It keeps
-    /// the allocator, and holds no memory of its own yet.
+    /// Creates a server for a realm, without users. It supports only `Sha1`, accepts hashed names,
+    /// and its nonces are valid for an hour. The realm is at most 763 bytes long (RFC 8489, section
+    /// 14.9). The server stores the allocator, and has allocated nothing of its own yet.
     pub fn new(alloc: Global, realm: String) -> Self
         requires { length (string_bytes realm) ≤ longest_text }
         ensures { result ≡ record {
@@ -112,7 +112,7 @@ impl LongTermServerAuth {
         }
     }
 
-    /// The realm.
+    /// Returns the realm.
     pub fn realm(&self) -> &str
         ensures value { result.now ≡ self.now.realm }
         ensures short { length result.now ≤ longest_text }
@@ -120,7 +120,11 @@ impl LongTermServerAuth {
         self.realm.as_str()
     }
 
-    /// Adds a user with its keys, in place of one of that name. Where memory is refused, nothing changes.
+    /// Adds a user with its keys, replacing any user of that name.
+    ///
+    /// # Errors
+    ///
+    /// - `NoMemory`: an allocation failed. Nothing changes.
     pub fn add_user(&mut self, user: LongTermCredentials) -> Result<(), NoMemory>
         ensures ok { OnOk result
             (self.new ≡ record self.old {
@@ -134,7 +138,7 @@ impl LongTermServerAuth {
         Ok(())
     }
 
-    /// A user with its keys in the realm. Where memory is refused, `NoMemory`.
+    /// Derives a user's keys in the realm. Fails with `NoMemory` if an allocation fails.
     fn keyed(&self, user: LongTermCredentials) -> Result<KeyedUser, NoMemory>
         ensures { IfOk result (λ keyed. (keyed.credentials ≡ user)
             × HasKeys self.now.realm user.username keyed) }
@@ -146,16 +150,16 @@ impl LongTermServerAuth {
         })
     }
 
-    /// Removes the user of a name. One that isn't there changes nothing. What was kept for an address
-    /// stays: a message to an address that was validated as this user's isn't signed any more.
+    /// Removes the user of this name, if there is one. What is stored for addresses stays, but a
+    /// message to an address that was validated as this user's is no longer signed.
     pub fn remove_user(&mut self, user: &str)
         ensures { self.new ≡ record self.old { users = map.remove self.old.users user.now } }
     {
         self.users.remove(user);
     }
 
-    /// The integrity algorithms that are supported, in the order in which they were added: at
-    /// least one, and none twice.
+    /// Returns the supported integrity algorithms in the order in which they were added: at least
+    /// one, and none twice.
     pub fn supported_integrity(&self) -> &[IntegrityAlgorithm]
         ensures value { result.now ≡ self.now.algorithms }
         ensures never_empty { result.now ≢ [] }
@@ -164,8 +168,8 @@ impl LongTermServerAuth {
         self.supported.as_slice()
     }
 
-    /// Supports an integrity algorithm too, as the last one; one that is there already changes
-    /// nothing.
+    /// Adds a supported integrity algorithm, as the last one. If it is supported already, nothing
+    /// changes.
     pub fn add_supported_integrity(&mut self, algorithm: IntegrityAlgorithm)
         ensures { self.new
             ≡ record self.old { algorithms = with_algorithm self.old.algorithms algorithm } }
@@ -173,30 +177,31 @@ impl LongTermServerAuth {
         self.supported = self.supported.with(algorithm);
     }
 
-    /// Supports this integrity algorithm alone.
+    /// Sets this integrity algorithm as the only supported one.
     pub fn set_supported_integrity(&mut self, algorithm: IntegrityAlgorithm)
         ensures { self.new ≡ record self.old { algorithms = algorithm ∷ [] } }
     {
         self.supported = SupportedIntegrity::only(algorithm);
     }
 
-    /// Whether clients may send a hash of the user's name in its place.
+    /// Returns whether clients may send a hash of the user's name in its place.
     pub fn anonymous_username(&self) -> Feature
         ensures { result ≡ self.now.anonymous_username }
     {
         self.anonymous_username
     }
 
-    /// Sets whether clients may send a hash of the user's name in its place. Required is as good
-    /// as Auto; Disabled only withholds the bit that later nonces tell of it by.
+    /// Sets whether clients may send a hash of the user's name in its place. `Required` has the
+    /// same effect as `Auto`. The only effect of `Disabled` is that later nonces do not announce
+    /// the feature.
     pub fn set_anonymous_username(&mut self, feature: Feature)
         ensures { self.new ≡ record self.old { anonymous_username = feature } }
     {
         self.anonymous_username = feature;
     }
 
-    /// Sets how long a nonce stands, those that are kept already too. It may not be less than
-    /// `MIN_NONCE_EXPIRY` seconds.
+    /// Sets how long a nonce is valid; it applies to nonces that are stored already too. The
+    /// duration has to be at least `MIN_NONCE_EXPIRY` seconds.
     pub fn set_nonce_expiry_duration(&mut self, duration: Duration)
         requires { MIN_NONCE_EXPIRY * 1_000_000_000 ≤ as_nanos duration }
         ensures { self.new ≡ record self.old { nonce_expiry = as_nanos duration } }
@@ -204,18 +209,18 @@ impl LongTermServerAuth {
         self.nonce_expiry = duration;
     }
 
-    /// The nonce that is kept for a client, of any age, or `None`.
+    /// Returns the nonce that is stored for a client, valid or expired, or `None` if there is none.
     pub fn nonce_for_client(&self, client: SocketAddr) -> Option<&str>
         ensures value { option_copied result ≡ nonce_at self.now client }
         ensures short { IfSome result (λ nonce. length nonce.now ≤ longest_text) }
     {
-        match kept_for(&self.clients, client) {
-            Some(kept) => Some(kept.nonce.as_str()),
+        match stored_for(&self.clients, client) {
+            Some(stored) => Some(stored.nonce.as_str()),
             None => None,
         }
     }
 
-    /// Forgets what is kept for a client. One that isn't known changes nothing.
+    /// Removes what is stored for a client. If nothing is, nothing changes.
     pub fn remove_client(&mut self, client: SocketAddr)
         ensures removed { self.new
             ≡ record self.old { clients = map.remove self.old.clients client } }
@@ -224,17 +229,22 @@ impl LongTermServerAuth {
         self.clients.remove(&client);
     }
 
-    /// Draws a nonce for a client where none is kept for it, or where the moment isn't before the
-    /// drawing of the one kept plus the expiry; else nothing changes and no word is drawn. A
-    /// drawing takes sixteen words, before any memory is asked for. Where memory is refused, which
-    /// only a drawing can meet, they are drawn all the same, and nothing changes.
+    /// Generates a nonce for a client if none is stored for it, or if the stored one has expired. A
+    /// nonce expires when `now` reaches the time of its generation plus the configured duration.
+    /// Otherwise nothing changes, and no random word is generated.
+    ///
+    /// # Errors
+    ///
+    /// - `NoMemory`: an allocation failed. Only the generation of a nonce can fail. It takes
+    ///   sixteen random words from `rng` before anything is allocated, so they are used up; the
+    ///   server is unchanged.
     pub fn refresh_nonce<R: Rng>(
         &mut self,
         from: SocketAddr,
         now: Instant,
         rng: &mut R,
     ) -> Result<(), NoMemory>
-        ensures stream { R.stream rng.new ≡ stream_after (words_drawn self.old from now)
+        ensures stream { R.stream rng.new ≡ stream_after (words_generated self.old from now)
             (R.stream rng.old) }
         ensures ok { OnOk result (self.new ≡ refreshed self.old from now (R.stream rng.old)) }
         ensures err { OnErr result (self.new ≡ self.old) }
@@ -247,17 +257,17 @@ impl LongTermServerAuth {
         self.draw_nonce(from, now, rng)
     }
 
-    /// Whether the nonce that is kept for a client stands at a moment.
+    /// Returns whether the nonce that is stored for a client is valid at `now`.
     fn has_standing_nonce(&self, client: SocketAddr, now: Instant) -> bool
         ensures { result ≡ has_standing_nonce self.now client now }
     {
-        match kept_for(&self.clients, client) {
-            Some(kept) => stands(kept.drawn, self.nonce_expiry, now),
+        match stored_for(&self.clients, client) {
+            Some(stored) => occurs(stored.generated, self.nonce_expiry, now),
             None => false,
         }
     }
 
-    /// Draws a nonce for a client, in place of the one kept.
+    /// Generates a nonce for a client, replacing any stored one.
     fn draw_nonce<R: Rng>(
         &mut self,
         from: SocketAddr,
@@ -276,35 +286,37 @@ impl LongTermServerAuth {
             from,
             ClientRecord {
                 nonce,
-                drawn: now,
+                generated: now,
                 outcome: None,
             },
         )?;
         Ok(())
     }
 
-    /// The user by whom the last message from a client was validated, where it was a validation:
-    /// no refusal came after it, and no other nonce was drawn for the client.
+    /// Returns the user for whom the last message from a client was validated. It is `None` if the
+    /// message was rejected, or if a new nonce was generated for the client since. Responses do not
+    /// count, since they are rejected without effect; neither do messages that failed with
+    /// `NoMemory`.
     pub fn validated_user(&self, client: SocketAddr) -> Option<&ValidatedUser>
         ensures { option_copied result ≡ outcome_at self.now client }
     {
-        match kept_for(&self.clients, client) {
-            Some(kept) => kept.outcome.as_ref(),
+        match stored_for(&self.clients, client) {
+            Some(stored) => stored.outcome.as_ref(),
             None => None,
         }
     }
 
-    /// Keeps the outcome of a message from a client for which a nonce is kept: the user, where it
-    /// was a validation.
+    /// Stores the outcome of a message from a client for which a nonce is stored: the user if the
+    /// message was validated, otherwise `None`.
     pub(crate) fn keep_outcome(&mut self, from: SocketAddr, outcome: Option<ValidatedUser>)
-        ensures kept { self.new ≡ with_outcome self.old from outcome }
+        ensures stored { self.new ≡ with_outcome self.old from outcome }
         ensures others { (other : SocketAddr) → other ≢ from → SameFor other self.old self.new }
     {
         put_outcome(&mut self.clients, from, outcome);
     }
 
-    /// The present user whom a claim names: the one of the name that it shows, or, where it shows none,
-    /// the first one whose name has the hash that it shows.
+    /// Finds the user that a claim names: the one with the claimed name or, if no name is claimed,
+    /// the first one whose name has the claimed hash.
     #[tactic(auto, using(crate::proofs::Naming::none_claimed))]
     pub(crate) fn user_claimed<'a>(&'a self, claim: &'a Claim<'_>) -> Option<NamedUser<'a>>
         ensures { IsFound self.now claim.now result }
@@ -316,7 +328,7 @@ impl LongTermServerAuth {
         }
     }
 
-    /// The present user of a name, where there is such a one.
+    /// Finds the user with this name.
     #[tactic(auto, using(crate::proofs::Naming::by_name, crate::proofs::Naming::none_by_name))]
     fn user_named<'a>(&'a self, name: &'a str) -> Option<NamedUser<'a>>
         ensures { IsFoundBy self.now (λ other. other ≡ name.now) result }
@@ -327,7 +339,7 @@ impl LongTermServerAuth {
         }
     }
 
-    /// The first present user whose name has this hash in the realm, where there is one.
+    /// Finds the first user whose name has this hash in the realm.
     fn user_hashed(&self, hash: &[u8]) -> Option<NamedUser<'_>>
         ensures { IsFoundBy self.now
             (λ other. Some hash.now ≡ Some (userhash_of other self.now.realm)) result }
@@ -338,7 +350,7 @@ impl LongTermServerAuth {
         }
     }
 
-    /// A user by name, with its keys in the realm.
+    /// Returns a user together with its stored keys in the realm.
     fn named<'a>(&'a self, name: &'a str, user: &'a KeyedUser) -> NamedUser<'a>
         requires { HasKeys self.now.realm name.now user.now }
         ensures { result ≡ record { name = name.now; password = user.now.credentials.password } }
@@ -346,14 +358,14 @@ impl LongTermServerAuth {
         NamedUser::with_keys(name, user.credentials.password(), self.realm(), &user.keys)
     }
 
-    /// The algorithms that are supported.
+    /// Returns the supported algorithms.
     pub(crate) fn supported(&self) -> SupportedIntegrity
         ensures { result ≡ self.now.algorithms }
     {
         self.supported
     }
 
-    /// The user of a name, where there is such a one.
+    /// Finds the stored record of the user with this name.
     pub(crate) fn user(&self, name: &str) -> Option<&KeyedUser>
         ensures password { option_map (λ user. user.now.credentials.password) result
             ≡ map.get self.now.users name.now }
@@ -362,14 +374,14 @@ impl LongTermServerAuth {
         self.users.get(name)
     }
 
-    /// The allocator that is kept.
+    /// Returns the stored allocator.
     pub(crate) fn alloc(&self) -> Global {
         self.alloc
     }
 }
 
-/// What is kept for a client, where something is.
-fn kept_for(
+/// Returns what is stored for a client, if anything.
+fn stored_for(
     clients: &BTreeMap<SocketAddr, ClientRecord>,
     client: SocketAddr,
 ) -> Option<&ClientRecord>
@@ -378,7 +390,7 @@ fn kept_for(
     clients.get(&client)
 }
 
-/// Keeps an outcome for a client, where something is kept for it; else nothing changes.
+/// Stores an outcome for a client. If nothing is stored for the client, nothing changes.
 fn put_outcome(
     clients: &mut BTreeMap<SocketAddr, ClientRecord>,
     client: SocketAddr,
@@ -386,18 +398,18 @@ fn put_outcome(
 )
     ensures { MatchOption (tree.get socket_addr_cmp clients.old client)
         (tree.IsUnchanged clients.old clients.new)
-        (λ kept. tree.Updates socket_addr_cmp clients.old clients.new client
-        (Some (record kept { outcome = outcome }))) }
+        (λ stored. tree.Updates socket_addr_cmp clients.old clients.new client
+        (Some (record stored { outcome = outcome }))) }
 {
-    let Some(kept) = clients.get_mut(&client) else {
+    let Some(stored) = clients.get_mut(&client) else {
         return;
     };
-    kept.outcome = outcome;
+    stored.outcome = outcome;
 }
 
-/// Whether a nonce stands at a moment: the moment is before its drawing plus the expiry.
-fn stands(drawn: Instant, expiry: Duration, now: Instant) -> bool
-    ensures { result ≡ nat_lt now (moment_after drawn (as_nanos expiry)) }
+/// Returns whether a nonce is valid at `now`: `now` is before its generation plus its lifetime.
+fn occurs(generated: Instant, expiry: Duration, now: Instant) -> bool
+    ensures { result ≡ nat_lt now (time_after generated (as_nanos expiry)) }
 {
-    now < drawn.saturating_add(expiry)
+    now < generated.saturating_add(expiry)
 }

@@ -1,14 +1,14 @@
-//! The signing of what goes out.
+//! Signing of messages that are sent.
 
 ghost use Rattle.std.specs.Prelude.{◌≡◌, None, IsSome, IsSomeAnd, IfOk, false};
 ghost use Rattle.std.specs.Result.{IsOk};
 ghost use Rattle.stun_types_base.specs.Refusals.{RefusesFor};
 ghost use Rattle.stun_types_wire.specs.Attributes.{kind_at};
 ghost use Rattle.stun_types_wire.specs.Types.{class_of};
-ghost use Rattle.stun_types_write.specs.Adding.{IsBegun};
+ghost use Rattle.stun_types_write.specs.Adding.{IsStarted};
 ghost use Rattle.stun_proto_auth.specs.AdditionStages.{IsMade};
 ghost use Rattle.stun_types_wire.specs.declared.class.MessageClass.TheVariants.{Success};
-ghost use Rattle.stun_proto_server.specs.ServerSigning.{addition_for, class_asked as class_of_size, party_at, signing_refusal_for, size_for};
+ghost use Rattle.stun_proto_server.specs.ServerSigning.{addition_for, class_requested as class_of_size, party_at, signing_refusal_for, size_for};
 ghost use Rattle.stun_types_write.specs.Outcomes.{TakesNoMemory};
 
 use crate::long_term::LongTermServerAuth;
@@ -20,29 +20,41 @@ use stun_types_wire::error::StunWriteError;
 use stun_types_write::writer::MessageWrite;
 
 impl LongTermServerAuth {
-    /// Signs a message that goes to an address, by what is kept for the address, and gives the writer
-    /// back (RFC 8489, section 9.2). Where the last message from the address was validated as a
-    /// user's, a response gets the integrity attribute of that user, under the key of the user's
-    /// present password in the server's realm, and by the algorithm of that validation; a request gets
-    /// USERNAME, REALM, NONCE and then that attribute; an indication gets nothing. Where it was not,
-    /// an error response gets REALM and NONCE, which is a nonce of any age, and PASSWORD-ALGORITHMS
-    /// where that nonce says that there is a list: it has the algorithms that are supported by now, in
-    /// their order. The integrity attribute stands alone, and is written in full.
+    /// Signs a message to an address with what is stored for that address, and returns the writer
+    /// (RFC 8489, section 9.2). It adds the following attributes, in this order.
     ///
-    /// Refused with `IntegrityFailed` where no nonce is kept for the address; where its last message
-    /// was not validated, and the message is no error response; and where the user by whom it was
-    /// validated is no user any more. Else the attributes are taken one after another, and the first
-    /// cause counts: of a text `TooLarge`, for more than 513 bytes of a name or 763 of a realm or a
-    /// nonce, and then the causes of `add_attribute`; of the integrity attribute those of
-    /// `add_message_integrity`. Where memory is refused, and nothing else is, `NoMemory`, which a
-    /// writer with a greatest size never answers. A refusal drops the writer. The server is as it was
-    /// in each case.
+    /// If the last message from the address was validated for a user:
+    ///
+    /// - To a response: the integrity attribute, under the key of the user's present password in
+    ///   the server's realm, with the algorithm of that validation.
+    /// - To a request: USERNAME, REALM, NONCE, and that integrity attribute.
+    /// - To an indication: nothing.
+    ///
+    /// If it was not validated:
+    ///
+    /// - To an error response: REALM; NONCE, with the stored nonce, valid or expired; and, if that
+    ///   nonce announces password algorithms, PASSWORD-ALGORITHMS with the algorithms supported at
+    ///   present, in their order.
+    ///
+    /// One integrity attribute is added at most, with the full digest.
+    ///
+    /// # Errors
+    ///
+    /// The first error is returned. A refusal drops the writer, and the server is unchanged.
+    ///
+    /// 1. `IntegrityFailed`: no nonce is stored for the address; or the last message from it was
+    ///    not validated, and the message to be signed is not an error response; or the user for
+    ///    whom it was validated no longer exists.
+    /// 2. For each attribute before the integrity attribute, in order: `TooLarge` for a name over
+    ///    513 bytes or a realm or nonce over 763 bytes, then the errors of `add_attribute`.
+    /// 3. For the integrity attribute: the errors of `add_message_integrity`.
+    /// 4. `NoMemory`: an allocation failed. It never occurs with a writer that has a size limit.
     pub fn sign_outgoing_message<W: MessageWrite + Drop>(
         &self,
         writer: W,
         to: SocketAddr,
     ) -> Result<W, StunWriteError>
-        requires { IsBegun (W.draft writer).bytes }
+        requires { IsStarted (W.draft writer).bytes }
         ensures ok { IfOk result (λ signed. IsSomeAnd
             (addition_for self.now to (class_of (kind_at (W.draft writer).bytes)))
             (λ made. IsMade made (W.draft writer) (W.draft signed))) }
@@ -57,14 +69,18 @@ impl LongTermServerAuth {
         }
     }
 
-    /// The same, where `sign_outgoing_message` has nothing to refuse but for memory. Where memory is
-    /// refused, `NoMemory`, and the writer is dropped. The server is as it was.
+    /// Signs a message as `sign_outgoing_message` does. The caller has to know that nothing but a
+    /// failed allocation can prevent it. The server is unchanged.
+    ///
+    /// # Errors
+    ///
+    /// - `NoMemory`: an allocation failed. The writer is dropped.
     pub fn sign_outgoing_message_unchecked<W: MessageWrite + Drop>(
         &self,
         writer: W,
         to: SocketAddr,
     ) -> Result<W, NoMemory>
-        requires begun { IsBegun (W.draft writer).bytes }
+        requires started { IsStarted (W.draft writer).bytes }
         requires accepted { signing_refusal_for
             (addition_for self.now to (class_of (kind_at (W.draft writer).bytes)))
             (W.draft writer) ≡ None }
@@ -76,25 +92,27 @@ impl LongTermServerAuth {
         match self.sign_outgoing_message(writer, to) {
             Ok(signed) => Ok(signed),
             Err(StunWriteError::NoMemory) => Err(NoMemory),
-            // What is required leaves no other cause.
+            // The precondition rules out every other error.
             Err(_) => unreachable!(),
         }
     }
 
-    /// How many bytes `sign_outgoing_message` adds for an address: to a request, or else to a
-    /// response, which is an error response where the last message from the address was not validated.
-    /// It is 0 where nothing may be added, and where a text that would be is over its limit.
+    /// Returns how many bytes `sign_outgoing_message` adds to a message to an address: to a
+    /// request, or to a response if `is_request` is `false`. If the last message from the address
+    /// was not validated, the response is an error response. The result is 0 if the message can't
+    /// be signed, and if a text to be added is over its limit.
     pub fn message_signature_bytes(&self, to: SocketAddr, is_request: bool) -> usize
         ensures bytes { result ≡ size_for (addition_for self.now to
             (class_of_size is_request)) }
-        // A success response that may be signed grows by as much as an error response.
+        // If a success response can be signed, the result holds for it as well as for an error
+        // response.
         ensures success { is_request ≡ false → IsSome (addition_for self.now to Success) → result
             ≡ size_for (addition_for self.now to Success) }
     {
-        self.bytes_for(to, class_asked(is_request))
+        self.bytes_for(to, class_requested(is_request))
     }
 
-    /// How many bytes `sign_outgoing_message` adds to a message of a class for an address.
+    /// Returns how many bytes `sign_outgoing_message` adds to a message of a class to an address.
     fn bytes_for(&self, to: SocketAddr, class: MessageClass) -> usize
         ensures { result ≡ size_for (addition_for self.now to class) }
     {
@@ -104,8 +122,8 @@ impl LongTermServerAuth {
         }
     }
 
-    /// What is known of the party at an address, where a nonce is kept for it, and where a user by
-    /// whom it was validated is a user still.
+    /// Collects what is known of the party at an address. It is `None` if no nonce is stored for
+    /// the address, or if the user for whom it was validated no longer exists.
     fn party(&self, to: SocketAddr) -> Option<Party<'_>>
         ensures { result ≡ party_at self.now to }
     {
@@ -126,8 +144,8 @@ impl LongTermServerAuth {
     }
 }
 
-/// The class by which a size is asked for: of a request, or else of a response.
-fn class_asked(is_request: bool) -> MessageClass
+/// Returns the message class for which the size is computed: a request or an error response.
+fn class_requested(is_request: bool) -> MessageClass
     ensures { result ≡ class_of_size is_request }
 {
     if is_request {

@@ -6,9 +6,9 @@ ghost use Rattle.stun_types_base.specs.Refusals.{RefusesFor};
 ghost use Rattle.stun_types_wire.specs.Attributes.{kind_at};
 ghost use Rattle.stun_types_wire.specs.Types.{class_of};
 ghost use Rattle.stun_types_wire.specs.declared.class.MessageClass.TheVariants.{Error};
-ghost use Rattle.stun_types_write.specs.Adding.{IsBegun};
+ghost use Rattle.stun_types_write.specs.Adding.{IsStarted};
 ghost use Rattle.stun_types_write.specs.Outcomes.{TakesNoMemory};
-ghost use Rattle.stun_proto_auth.specs.Nonce.{features_told};
+ghost use Rattle.stun_proto_auth.specs.Nonce.{features_in};
 ghost use Rattle.stun_proto_auth.specs.Addition.{addition_refusal};
 ghost use Rattle.stun_proto_auth.specs.AdditionStages.{IsMade};
 ghost use Rattle.stun_proto_auth.specs.Sizes.{size_of};
@@ -28,8 +28,8 @@ use stun_types_wire::class::MessageClass;
 use stun_types_wire::error::StunWriteError;
 use stun_types_write::writer::MessageWrite;
 
-/// A user under whose key messages are signed: its name, its password, the algorithm of the integrity
-/// attribute, and the key.
+/// A user under whose key messages are signed: its name, its password, the algorithm of the
+/// integrity attribute, and the key.
 #[derive(Drop)]
 pub(crate) struct SigningUser<'a> {
     pub(crate) name: &'a str,
@@ -38,9 +38,9 @@ pub(crate) struct SigningUser<'a> {
     pub(crate) key: &'a IntegrityKey<'static>,
 }
 
-/// The party that a message goes to, as its server knows it: the realm, the nonce that is kept for
-/// it, the algorithms that are supported, and the user by whom its last message was validated,
-/// where it was, with its key in the realm. Contracts see the record `Party`.
+/// What the server knows of the party to which a message goes: the realm, the nonce stored for it,
+/// the supported algorithms and, if its last message was validated, the user with the key in the
+/// realm. Contracts see the record `Party`.
 #[derive(Drop)]
 pub(crate) struct Party<'a> {
     realm: &'a str,
@@ -68,7 +68,7 @@ impl<'a> Model for Party<'a> {
 }
 
 impl<'a> Party<'a> {
-    /// A party of which this is known.
+    /// Collects what is known of a party.
     pub(crate) fn new(
         realm: &'a str,
         nonce: &'a str,
@@ -91,10 +91,14 @@ impl<'a> Party<'a> {
         }
     }
 
-    /// Adds to a message what the party knows the server by. Refused with `IntegrityFailed` where
-    /// the party was not validated and the message is no error response, and then as `sign` is.
+    /// Adds the authentication attributes for the party to a message.
+    ///
+    /// # Errors
+    ///
+    /// 1. `IntegrityFailed`: the party was not validated, and the message is not an error response.
+    /// 2. The errors of `sign`.
     pub(crate) fn sign_for<W: MessageWrite + Drop>(&self, writer: W) -> Result<W, StunWriteError>
-        requires { IsBegun (W.draft writer).bytes }
+        requires { IsStarted (W.draft writer).bytes }
         ensures ok { IfOk result (λ signed. IsSomeAnd
             (addition self.now (class_of (kind_at (W.draft writer).bytes)))
             (λ made. IsMade made (W.draft writer) (W.draft signed))) }
@@ -111,14 +115,15 @@ impl<'a> Party<'a> {
         }
     }
 
-    /// Adds what a message of a class gets where the party was validated. Refused as `sign` is.
+    /// Adds the attributes for a party that was validated, according to the message's class. Fails
+    /// as `sign` does.
     fn sign_for_user<W: MessageWrite + Drop>(
         &self,
         writer: W,
         user: &SigningUser<'_>,
         class: MessageClass,
     ) -> Result<W, StunWriteError>
-        requires begun { IsBegun (W.draft writer).bytes }
+        requires started { IsStarted (W.draft writer).bytes }
         requires key { HasKeyIn self.now.realm user.now }
         ensures ok { IfOk result (λ signed. IsMade
             (addition_for_user self.now (signer_of user.now) class)
@@ -141,9 +146,10 @@ impl<'a> Party<'a> {
         }
     }
 
-    /// Adds what an error response gets where the party was not validated. Refused as `sign` is.
+    /// Adds the attributes of a challenge to an error response, for a party that was not validated.
+    /// Fails as `sign` does.
     fn sign_challenge<W: MessageWrite + Drop>(&self, writer: W) -> Result<W, StunWriteError>
-        requires { IsBegun (W.draft writer).bytes }
+        requires { IsStarted (W.draft writer).bytes }
         ensures ok { IfOk result (λ signed. IsSomeAnd (addition_unvalidated self.now Error)
             (λ made. IsMade made (W.draft writer) (W.draft signed))) }
         ensures cause { RefusesFor StunWriteError.NoMemory (signing_refusal_for
@@ -159,15 +165,15 @@ impl<'a> Party<'a> {
         }
     }
 
-    /// Whether the nonce says that the server lists its algorithms.
+    /// Returns whether the nonce announces that the server lists its password algorithms.
     fn lists_algorithms(&self) -> bool
-        ensures { result ≡ (features_told self.now.nonce).password_algorithms }
+        ensures { result ≡ (features_in self.now.nonce).password_algorithms }
     {
-        NonceFeatures::told_by(self.nonce).password_algorithms
+        NonceFeatures::decoded_by(self.nonce).password_algorithms
     }
 
-    /// How many bytes are added to a message of a class: 0 where nothing may be, and where a value is
-    /// over its limit.
+    /// Returns how many bytes are added to a message of a class: 0 if it can't be signed, or if a
+    /// value is over its limit.
     pub(crate) fn bytes_for(&self, class: MessageClass) -> usize
         ensures { result ≡ size_for (addition self.now class) }
     {
@@ -178,7 +184,7 @@ impl<'a> Party<'a> {
         }
     }
 
-    /// How many bytes are added to a message of a class where the party was validated.
+    /// Returns how many bytes are added to a message of a class for a party that was validated.
     fn bytes_for_user(&self, user: &SigningUser<'_>, class: MessageClass) -> usize
         ensures { result ≡ size_of (addition_for_user self.now (signer_of user.now) class) }
     {
@@ -198,7 +204,7 @@ impl<'a> Party<'a> {
         }
     }
 
-    /// How many bytes are added to an error response where the party was not validated.
+    /// Returns how many bytes are added to an error response for a party that was not validated.
     fn bytes_of_challenge(&self) -> usize
         ensures { result ≡ size_for (addition_unvalidated self.now Error) }
     {

@@ -14,16 +14,16 @@ use stun_proto_verify::keys::UserKeys;
 use stun_types_auth_attributes::userhash::Userhash;
 use stun_types_integrity::credentials::LongTermCredentials;
 
-/// A user, and its keys in the server's realm, which go with it. They have memory of their own, so that
-/// the map moves no keys.
+/// A user and its keys in the server's realm. The keys are in a box of their own, so that the map
+/// does not move them.
 #[derive(Debug, Drop)]
 pub(crate) struct KeyedUser {
     pub(crate) credentials: LongTermCredentials,
     pub(crate) keys: Box<UserKeys>,
 }
 
-/// The first user of a map whose name has this hash in a realm, with its name, where there is one (RFC
-/// 8489, section 14.4).
+/// Finds the first user in the map whose name has this hash in a realm, and returns it with its
+/// name (RFC 8489, section 14.4).
 pub(crate) fn user_hashed<'a>(
     users: &'a BTreeMap<String, KeyedUser>,
     realm: &str,
@@ -32,7 +32,7 @@ pub(crate) fn user_hashed<'a>(
     ensures first { option_map {U = List ℕ × Keyed} (λ user. (user.0.now, user.1.now)) result
         ≡ option_map pair_of
         (find (λ user. is_hash_of hash.now realm.now (string_bytes user.0)) users.now.entries) }
-    ensures kept { All (λ user. get string_cmp users.now user.0 ≡ Some user.1) users.now.entries }
+    ensures stored { All (λ user. get string_cmp users.now user.0 ≡ Some user.1) users.now.entries }
 {
     for (name, user) in users {
         if is_hash_of(hash, realm, name) {
@@ -42,7 +42,7 @@ pub(crate) fn user_hashed<'a>(
     None
 }
 
-/// Whether a hash is that of a name in a realm.
+/// Returns whether a hash is that of a name in a realm.
 fn is_hash_of(hash: &[u8], realm: &str, name: &str) -> bool
     ensures { result ≡ is_hash_of hash.now realm.now name.now }
 {

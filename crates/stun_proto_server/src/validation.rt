@@ -1,4 +1,4 @@
-//! The validation of what comes in, and what is kept of it.
+//! Validation of received messages, and the state that it leaves.
 
 ghost use Rattle.std.specs.Prelude.{◌≡◌, ◌≢◌, ℕ, List, None, IfOk, IfErr, MatchResult, false};
 ghost use Rattle.std.specs.declared.net.socket_addr.SocketAddr.{SocketAddr};
@@ -22,31 +22,40 @@ use stun_types_base::instant::Instant;
 use stun_types_message::parsed::Message;
 use stun_types_wire::algorithm::IntegrityAlgorithm;
 
-/// What a server answers to a message that it takes.
+/// The result for a message that a server accepts.
 #[derive(Clone, Copy, Debug, PartialEq, Eq)]
 pub enum LongTermServerValidation {
-    /// The message is one of a user's, by the integrity attribute of this algorithm.
+    /// The message is one of a user's, by its integrity attribute of this algorithm.
     Validated(IntegrityAlgorithm),
 }
 
 impl LongTermServerAuth {
-    /// Validates a message from an address, in this order. A response is refused with `BadRequest`;
-    /// nothing changes then, and no word is drawn. Else a nonce is drawn for the address where none
-    /// stands, as `refresh_nonce` does. Then the message is refused with `Unauthorized` where it
-    /// shows no integrity attribute; with `BadRequest` where it shows neither the name of a user nor
-    /// a hash of it, no realm or no nonce; with `StaleNonce` where its nonce is not the one that
-    /// stands for the address; with `BadRequest` where its password algorithms are inconsistent;
-    /// with `Unauthorized` where it names no user that is there; with `IntegrityFailed` where its
-    /// last integrity attribute is wrong under the key of that user in the server's realm. Of each
-    /// kind of attribute the last one shown decides, and a malformed one is as if there were none.
-    /// USERNAME names a user by name; where there is none, USERHASH does so by the hash of name and
-    /// realm, and of several users with the same hash the first name counts. Each user is then looked
-    /// at, which takes a digest a user.
+    /// Validates a message from an address, and stores the user and the algorithm for that address.
+    /// First, unless the message is a response, it generates a nonce for the address if no valid
+    /// one is stored, as `refresh_nonce` does.
     ///
-    /// The outcome is kept for the address: after a validation the user and the algorithm, after a
-    /// refusal none. Memory is asked for where a nonce is due, and where the message is accepted. Where
-    /// it is refused, with `NoMemory`, the server is as it was, or has the nonce that was drawn and no
-    /// outcome for the address.
+    /// - Of several visible attributes of one type the last one counts, and a malformed one counts
+    ///   as absent.
+    /// - USERNAME names the user. Without it, USERHASH does, by the hash of name and realm; if
+    ///   several users have that hash, the first by name counts. The users are then searched in
+    ///   order up to that one, which costs one digest for each.
+    ///
+    /// # Errors
+    ///
+    /// 1. `BadRequest`: the message is a response. Nothing changes, and no random word is
+    ///    generated.
+    /// 2. `NoMemory`: an allocation for a new nonce failed. The server is unchanged.
+    /// 3. `Unauthorized`: the message has no visible integrity attribute.
+    /// 4. `BadRequest`: it has neither a user's name nor the hash of one, no realm, or no nonce.
+    /// 5. `StaleNonce`: its nonce is not the valid one for the address.
+    /// 6. `BadRequest`: its password algorithms are inconsistent.
+    /// 7. `Unauthorized`: it names no user of the server.
+    /// 8. `IntegrityFailed`: its last integrity attribute is wrong under the key of that user in
+    ///    the server's realm.
+    /// 9. `NoMemory`: the message is accepted, but an allocation for the user's name failed. The
+    ///    server is unchanged, or it has the new nonce and no outcome for the address.
+    ///
+    /// After errors 3 to 8 a new nonce stays, and no outcome is stored for the address.
     pub fn validate_incoming_message<R: Rng>(
         &mut self,
         message: &Message<'_>,
@@ -56,18 +65,18 @@ impl LongTermServerAuth {
     ) -> Result<LongTermServerValidation, LongTermServerAuthError>
         ensures valid { IfOk result (λ answer. IsValidated
             (refreshed self.old from now (R.stream rng.old)) from message.now answer self.new) }
-        // Where a hash names the user, no two users may have the same one.
+        // The premise `NamesOne`: if a hash names the user, no two users have the same hash.
         ensures accepted { (algorithm : Algorithm) (name : List ℕ)
             → Accepts (refreshed self.old from now (R.stream rng.old)) from message.now
             algorithm name → NamesOne self.old (claimed message.now)
             → MatchResult result
             (λ answer. answer ≡ LongTermServerValidation.Validated algorithm)
             (λ error. error ≡ LongTermServerAuthError.NoMemory) }
-        // A message that is refused is forgotten.
+        // A rejected message leaves no outcome for the address, unless it is a response.
         ensures refused { IfErr result (λ error. error ≢ LongTermServerAuthError.NoMemory
             → Refuses (refreshed self.old from now (R.stream rng.old)) from message.now error
             × (self.new ≡ after_refusal self.old from message.now now (R.stream rng.old))) }
-        // Memory is wanted for a nonce that is due, or to keep the user of a message that is accepted.
+        // Memory is needed only for a new nonce, or to store the user of an accepted message.
         ensures memory { IfErr result (λ error. error ≡ LongTermServerAuthError.NoMemory
             → WantsMemory self.old from message.now now (R.stream rng.old)
             × IsAfterNoMemory self.old from now (R.stream rng.old) self.new) }
@@ -82,8 +91,9 @@ impl LongTermServerAuth {
         self.validate_request(message, from)
     }
 
-    /// Validates a message that is no response, under the nonce that is kept for its address, and
-    /// keeps the outcome. Where memory is refused, nothing changes.
+    /// Validates a message that is not a response under the nonce stored for its address, and
+    /// stores the outcome. Fails as `validate_incoming_message` does. On `NoMemory` nothing
+    /// changes.
     fn validate_request(
         &mut self,
         message: &Message<'_>,
@@ -114,8 +124,8 @@ impl LongTermServerAuth {
         }
     }
 
-    /// The judgement of a message that is no response, by what is kept for its address. It changes
-    /// nothing.
+    /// Decides whether a message that is not a response is accepted, from what is stored for its
+    /// address. It changes nothing.
     #[tactic(auto, using(crate::proofs::Named::answers))]
     fn judge_sender(
         &self,

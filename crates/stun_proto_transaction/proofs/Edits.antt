@@ -1,4 +1,4 @@
--- What edits do to lists that are mapped, and to sorted entries.
+-- The effect of edits on mapped lists and on sorted entries.
 use Rattle.std.proofs.Common.{◌≡◌, ℕ, zero, suc, ◌+◌, ◌-◌, ◌<◌, ◌≤◌, List, [], ◌∷◌, length, get_or, set, map, refl, sym, ap, ◌∙◌, subst, inl, inr, arith}
 use Rattle.std.specs.List.{insert, remove}
 use Rattle.std.proofs.lemmas.Bool.{cases_lt}
@@ -34,7 +34,7 @@ module _ {A B : Type 0} (f : A → B) where
   length-mapped [] = refl
   length-mapped (x ∷ l) = ap suc (length-mapped l)
 
--- an insertion is undone
+-- Removing an inserted element restores the list.
 pub remove-inserted : {A : Type 0} (l : List A) (i : ℕ) (y : A) → i ≤ length l → remove (insert l i y) i ≡ l
 remove-inserted [] zero y less = refl
 remove-inserted [] (suc i) y less = absurd (omega (arith, less))
@@ -44,32 +44,32 @@ remove-inserted (x ∷ l) (suc i) y less = ap (λ r. x ∷ r) (remove-inserted l
 -- ---- order
 
 module _ {X : Type 0} where
-  -- the number at a place, written with the place that it has
+  -- The key of an entry.
   abbrev key : ℕ × X → ℕ
   key e = e.0
 
-  at_place : (l : List (ℕ × X)) (k j : ℕ) (d : ℕ × X) → k ≡ j → get_or l k d ≡ get_or l j d
-  at_place l k j d same = ap (λ i. get_or l i d) same
+  at_index : (l : List (ℕ × X)) (k j : ℕ) (d : ℕ × X) → k ≡ j → get_or l k d ≡ get_or l j d
+  at_index l k j d same = ap (λ i. get_or l i d) same
 
-  module _ (l : List (ℕ × X)) (number place : ℕ) (v : X) (gap : IsGap l number place) where
-    above : (k : ℕ) (d : ℕ × X) → place < k → get_or (insert l place (number, v)) k d ≡ get_or l (k - 1) d
-    above k d more = at_place (insert l place (number, v)) k (k - 1 + 1) d (omega (arith, more)) ∙ get_or-insert_above l place (number, v) d (k - 1) (omega (arith, more)) gap.within
+  module _ (l : List (ℕ × X)) (number position : ℕ) (v : X) (gap : IsGap l number position) where
+    above : (k : ℕ) (d : ℕ × X) → position < k → get_or (insert l position (number, v)) k d ≡ get_or l (k - 1) d
+    above k d more = at_index (insert l position (number, v)) k (k - 1 + 1) d (omega (arith, more)) ∙ get_or-insert_above l position (number, v) d (k - 1) (omega (arith, more)) gap.within
 
-    here : (k : ℕ) (d : ℕ × X) → place ≡ k → get_or (insert l place (number, v)) k d ≡ (number, v)
-    here k d same = at_place (insert l place (number, v)) k place d (sym same) ∙ get_or-insert_at l place (number, v) d gap.within
+    here : (k : ℕ) (d : ℕ × X) → position ≡ k → get_or (insert l position (number, v)) k d ≡ (number, v)
+    here k d same = at_index (insert l position (number, v)) k position d (sym same) ∙ get_or-insert_at l position (number, v) d gap.within
 
-    pub sorted_inserted : IsStrictlySorted l → IsStrictlySorted (insert l place (number, v))
+    pub sorted_inserted : IsStrictlySorted l → IsStrictlySorted (insert l position (number, v))
     sorted_inserted sorted i j d less within =
-        let more = length-insert l place (number, v) gap.within in
-        elim (cases_lt i place) [
+        let more = length-insert l position (number, v) gap.within in
+        elim (cases_lt i position) [
           | inl i_below ↦
-              let first = ap key (get_or-insert_below l place (number, v) d i i_below gap.within) in
-              elim (cases_lt j place) [
+              let first = ap key (get_or-insert_below l position (number, v) d i i_below gap.within) in
+              elim (cases_lt j position) [
                 | inl j_below ↦
-                    let second = ap key (get_or-insert_below l place (number, v) d j j_below gap.within) in
+                    let second = ap key (get_or-insert_below l position (number, v) d j j_below gap.within) in
                     let old = sorted i j d less (let g = gap.within in omega (arith, j_below, g)) in
                     omega (arith, first, second, old)
-                | inr j_not ↦ elim (cases_lt place j) [
+                | inr j_not ↦ elim (cases_lt position j) [
                   | inl j_above ↦
                       let second = ap key (above j d j_above) in
                       let old = sorted i (j - 1) d (omega (arith, i_below, j_above)) (omega (arith, j_above, within, more)) in
@@ -82,7 +82,7 @@ module _ {X : Type 0} where
               ]
           | inr i_not ↦
               let second = ap key (above j d (omega (arith, i_not, less))) in
-              elim (cases_lt place i) [
+              elim (cases_lt position i) [
                 | inl i_above ↦
                     let first = ap key (above i d i_above) in
                     let old = sorted (i - 1) (j - 1) d (omega (arith, i_above, less)) (omega (arith, i_above, less, within, more)) in
@@ -94,45 +94,45 @@ module _ {X : Type 0} where
               ]
         ]
 
-  pub sorted_removed : (l : List (ℕ × X)) (place : ℕ) → place < length l → IsStrictlySorted l → IsStrictlySorted (remove l place)
-  sorted_removed l place there sorted i j d less within =
-      let fewer = length-remove l place there in
-      elim (cases_lt i place) [
+  pub sorted_removed : (l : List (ℕ × X)) (position : ℕ) → position < length l → IsStrictlySorted l → IsStrictlySorted (remove l position)
+  sorted_removed l position there sorted i j d less within =
+      let fewer = length-remove l position there in
+      elim (cases_lt i position) [
         | inl i_below ↦
-            let first = ap key (get_or-remove_below l place d i i_below there) in
-            elim (cases_lt j place) [
+            let first = ap key (get_or-remove_below l position d i i_below there) in
+            elim (cases_lt j position) [
               | inl j_below ↦
-                  let second = ap key (get_or-remove_below l place d j j_below there) in
+                  let second = ap key (get_or-remove_below l position d j j_below there) in
                   let old = sorted i j d less (omega (arith, j_below, there)) in
                   omega (arith, first, second, old)
               | inr j_above ↦
-                  let second = ap key (get_or-remove_above l place d j j_above there) in
+                  let second = ap key (get_or-remove_above l position d j j_above there) in
                   let old = sorted i (j + 1) d (omega (arith, less)) (omega (arith, within, fewer)) in
                   omega (arith, first, second, old)
             ]
         | inr i_above ↦
-            let first = ap key (get_or-remove_above l place d i i_above there) in
-            let second = ap key (get_or-remove_above l place d j (omega (arith, i_above, less)) there) in
+            let first = ap key (get_or-remove_above l position d i i_above there) in
+            let second = ap key (get_or-remove_above l position d j (omega (arith, i_above, less)) there) in
             let old = sorted (i + 1) (j + 1) d (omega (arith, less)) (omega (arith, within, fewer)) in
             omega (arith, first, second, old)
       ]
 
-  -- the number at each place is what it was
-  same_key : (l : List (ℕ × X)) (number place : ℕ) (v : X) → IsAt l number place → (k : ℕ) (d : ℕ × X) → (get_or (set l place (number, v)) k d).0 ≡ (get_or l k d).0
-  same_key l number place v at k d = elim (cases_lt k place) [
-    | inl below ↦ ap key (get_or-set_other l place k (number, v) d (λ same. absurd (omega (arith, below, same))))
-    | inr not_below ↦ elim (cases_lt place k) [
-      | inl above ↦ ap key (get_or-set_other l place k (number, v) d (λ same. absurd (omega (arith, above, same))))
+  -- Replacing the value of an entry changes no key.
+  same_key : (l : List (ℕ × X)) (number position : ℕ) (v : X) → IsAt l number position → (k : ℕ) (d : ℕ × X) → (get_or (set l position (number, v)) k d).0 ≡ (get_or l k d).0
+  same_key l number position v at k d = elim (cases_lt k position) [
+    | inl below ↦ ap key (get_or-set_other l position k (number, v) d (λ same. absurd (omega (arith, below, same))))
+    | inr not_below ↦ elim (cases_lt position k) [
+      | inl above ↦ ap key (get_or-set_other l position k (number, v) d (λ same. absurd (omega (arith, above, same))))
       | inr not_above ↦
-          let same : k ≡ place = omega (arith, not_below, not_above) in
-          subst (λ j. (get_or (set l place (number, v)) j d).0 ≡ (get_or l j d).0) (sym same) (ap key (get_or-set_same l place (number, v) d at.within) ∙ sym (at.same d))
+          let same : k ≡ position = omega (arith, not_below, not_above) in
+          subst (λ j. (get_or (set l position (number, v)) j d).0 ≡ (get_or l j d).0) (sym same) (ap key (get_or-set_same l position (number, v) d at.within) ∙ sym (at.same d))
     ]
   ]
 
-  pub sorted_written : (l : List (ℕ × X)) (number place : ℕ) (v : X) → IsAt l number place → IsStrictlySorted l → IsStrictlySorted (set l place (number, v))
-  sorted_written l number place v at sorted i j d less within =
-      let first = same_key l number place v at i d in
-      let second = same_key l number place v at j d in
-      let same = length-set l place (number, v) in
+  pub sorted_written : (l : List (ℕ × X)) (number position : ℕ) (v : X) → IsAt l number position → IsStrictlySorted l → IsStrictlySorted (set l position (number, v))
+  sorted_written l number position v at sorted i j d less within =
+      let first = same_key l number position v at i d in
+      let second = same_key l number position v at j d in
+      let same = length-set l position (number, v) in
       let old = sorted i j d less (omega (arith, within, same)) in
       omega (arith, first, second, old)

@@ -1,4 +1,4 @@
--- What a look-up finds among entries, and after an edit of them.
+-- What a look-up finds among entries, also after an edit.
 use Rattle.std.proofs.Common.{◌≡◌, ◌≢◌, ℕ, zero, suc, ◌<◌, ◌≤◌, Bool, true, false, cond, List, [], ◌∷◌, length, get_or, set, Option, Some, None, Result, Ok, Err, IfOk, IfErr, refl, sym, ap, ◌∙◌, inl, inr, arith}
 use Rattle.std.specs.List.{insert, remove}
 use Rattle.std.specs.List.Sorted.{IsSearchInRange, IsBinarySearchResult, IsNonDecreasingBy}
@@ -13,7 +13,7 @@ use Rattle.stun_proto_transaction.proofs.Leasts.{same_number}
 own : (n : ℕ) → eq_by_cmp nat_cmp n n ≡ true
 own n = (eq_by_cmp_equiv nat_cmp_total).refl n
 
--- numbers that differ do not tie
+-- Different keys do not compare as equal.
 pub other_number : (n k : ℕ) → n ≢ k → eq_by_cmp nat_cmp n k ≡ false
 other_number n k differs = elim (eq_by_cmp nat_cmp n k) as (λ b. eq_by_cmp nat_cmp n k ≡ b → b ≡ false) [
   | true ↦ λ is. absurd (differs (same_number n k is))
@@ -30,18 +30,18 @@ module _ {X : Type 0} where
   abbrev Found : ℕ → List (ℕ × X) → Option X
   Found q l = find nat_cmp q l
 
-  -- two tests that never pass together may be asked in either order
+  -- Two tests that never pass together may be tried in either order.
   swapped : (a b : Bool) (u v w : Option X) → (a ≡ true → b ≡ false) → cond a u (cond b v w) ≡ cond b v (cond a u w)
   swapped true b u v w apart = ap (λ t. cond t v u) (sym (apart refl))
   swapped false b u v w apart = refl
 
-  pub find-inserted : (l : List (ℕ × X)) (number place : ℕ) (v : X) → ((j : ℕ) (d : ℕ × X) → j < place → (get_or l j d).0 ≢ number) → (q : ℕ)
-      → Found q (insert l place (number, v)) ≡ cond (eq_by_cmp nat_cmp q number) (Some v) (Found q l)
+  pub find-inserted : (l : List (ℕ × X)) (number position : ℕ) (v : X) → ((j : ℕ) (d : ℕ × X) → j < position → (get_or l j d).0 ≢ number) → (q : ℕ)
+      → Found q (insert l position (number, v)) ≡ cond (eq_by_cmp nat_cmp q number) (Some v) (Found q l)
   find-inserted [] number zero v before q = refl
-  find-inserted [] number (suc place) v before q = refl
+  find-inserted [] number (suc position) v before q = refl
   find-inserted (x ∷ l) number zero v before q = refl
-  find-inserted (x ∷ l) number (suc place) v before q =
-      ap (cond (eq_by_cmp nat_cmp q x.0) (Some x.1)) (find-inserted l number place v (λ j d less. before (suc j) d (omega (arith, less))) q)
+  find-inserted (x ∷ l) number (suc position) v before q =
+      ap (cond (eq_by_cmp nat_cmp q x.0) (Some x.1)) (find-inserted l number position v (λ j d less. before (suc j) d (omega (arith, less))) q)
       ∙ swapped (eq_by_cmp nat_cmp q x.0) (eq_by_cmp nat_cmp q number) (Some x.1) (Some v) (Found q l) (apart q x.0 number (before 0 x (omega arith)))
 
   over : (q k number : ℕ) (u v w : Option X) → k ≡ number → cond (eq_by_cmp nat_cmp q number) v w ≡ cond (eq_by_cmp nat_cmp q number) v (cond (eq_by_cmp nat_cmp q k) u w)
@@ -50,15 +50,15 @@ module _ {X : Type 0} where
     | false ↦ λ is. ap (λ t. cond t u w) (sym (ap (λ n. eq_by_cmp nat_cmp q n) same ∙ is))
   ] refl
 
-  pub find-written : (l : List (ℕ × X)) (number place : ℕ) (v : X) → IsAt l number place → ((j : ℕ) (d : ℕ × X) → j < place → (get_or l j d).0 ≢ number) → (q : ℕ)
-      → Found q (set l place (number, v)) ≡ cond (eq_by_cmp nat_cmp q number) (Some v) (Found q l)
-  find-written [] number place v at before q = absurd (let w = at.within in omega (arith, w))
+  pub find-written : (l : List (ℕ × X)) (number position : ℕ) (v : X) → IsAt l number position → ((j : ℕ) (d : ℕ × X) → j < position → (get_or l j d).0 ≢ number) → (q : ℕ)
+      → Found q (set l position (number, v)) ≡ cond (eq_by_cmp nat_cmp q number) (Some v) (Found q l)
+  find-written [] number position v at before q = absurd (let w = at.within in omega (arith, w))
   find-written (x ∷ l) number zero v at before q = over q x.0 number (Some x.1) (Some v) (Found q l) (at.same x)
-  find-written (x ∷ l) number (suc place) v at before q =
-      ap (cond (eq_by_cmp nat_cmp q x.0) (Some x.1)) (find-written l number place v (record { within = (let w = at.within in (let less : place < length l = omega (arith, w) in less)); same = at.same }) (λ j d less. before (suc j) d (omega (arith, less))) q)
+  find-written (x ∷ l) number (suc position) v at before q =
+      ap (cond (eq_by_cmp nat_cmp q x.0) (Some x.1)) (find-written l number position v (record { within = (let w = at.within in (let less : position < length l = omega (arith, w) in less)); same = at.same }) (λ j d less. before (suc j) d (omega (arith, less))) q)
       ∙ swapped (eq_by_cmp nat_cmp q x.0) (eq_by_cmp nat_cmp q number) (Some x.1) (Some v) (Found q l) (apart q x.0 number (before 0 x (omega arith)))
 
-  -- a number that no entry has is not found
+  -- A key that no entry has is not found.
   pub find-absent : (l : List (ℕ × X)) (q : ℕ) → ((j : ℕ) (d : ℕ × X) → j < length l → (get_or l j d).0 ≢ q) → Found q l ≡ None
   find-absent [] q none = refl
   find-absent (x ∷ l) q none =
@@ -73,25 +73,25 @@ module _ {X : Type 0} where
     | false ↦ λ is. ap (λ t. cond t u w) (sym (ap (λ n. eq_by_cmp nat_cmp q n) same ∙ is))
   ] refl
 
-  pub find-removed : (l : List (ℕ × X)) (number place : ℕ) → IsAt l number place → IsStrictlySorted l → (q : ℕ)
-      → Found q (remove l place) ≡ cond (eq_by_cmp nat_cmp q number) None (Found q l)
-  find-removed [] number place at sorted q = absurd (let w = at.within in omega (arith, w))
+  pub find-removed : (l : List (ℕ × X)) (number position : ℕ) → IsAt l number position → IsStrictlySorted l → (q : ℕ)
+      → Found q (remove l position) ≡ cond (eq_by_cmp nat_cmp q number) None (Found q l)
+  find-removed [] number position at sorted q = absurd (let w = at.within in omega (arith, w))
   find-removed (x ∷ l) number zero at sorted q = without q x.0 number (Some x.1) (Found q l) (at.same x)
       (λ is. find-absent l q (λ j d less same. absurd (let more = sorted 0 (suc j) d (omega arith) (omega (arith, less)) in omega (arith, more, same, is))))
-  find-removed (x ∷ l) number (suc place) at sorted q =
-      ap (cond (eq_by_cmp nat_cmp q x.0) (Some x.1)) (find-removed l number place (record { within = (let w = at.within in (let less : place < length l = omega (arith, w) in less)); same = at.same }) (tail x l sorted) q)
+  find-removed (x ∷ l) number (suc position) at sorted q =
+      ap (cond (eq_by_cmp nat_cmp q x.0) (Some x.1)) (find-removed l number position (record { within = (let w = at.within in (let less : position < length l = omega (arith, w) in less)); same = at.same }) (tail x l sorted) q)
       ∙ swapped (eq_by_cmp nat_cmp q x.0) (eq_by_cmp nat_cmp q number) (Some x.1) None (Found q l)
-      (apart q x.0 number (λ same. absurd (let w = at.within in let more = sorted 0 (suc place) x (omega arith) w in let is = at.same x in omega (arith, more, same, is))))
+      (apart q x.0 number (λ same. absurd (let w = at.within in let more = sorted 0 (suc position) x (omega arith) w in let is = at.same x in omega (arith, more, same, is))))
 
-  -- a number is found at its place
-  pub find-at : (l : List (ℕ × X)) (number place : ℕ) (d : ℕ × X) → IsAt l number place → IsStrictlySorted l → Found number l ≡ Some (get_or l place d).1
-  find-at [] number place d at sorted = absurd (let w = at.within in omega (arith, w))
+  -- The key of an entry is found, with the entry's value.
+  pub find-at : (l : List (ℕ × X)) (number position : ℕ) (d : ℕ × X) → IsAt l number position → IsStrictlySorted l → Found number l ≡ Some (get_or l position d).1
+  find-at [] number position d at sorted = absurd (let w = at.within in omega (arith, w))
   find-at (x ∷ l) number zero d at sorted = ap (λ b. cond b (Some x.1) (Found number l)) (ap (λ n. eq_by_cmp nat_cmp number n) (at.same x) ∙ own number)
-  find-at (x ∷ l) number (suc place) d at sorted =
-      ap (λ b. cond b (Some x.1) (Found number l)) (other_number number x.0 (λ same. absurd (let w = at.within in let more = sorted 0 (suc place) x (omega arith) w in let is = at.same x in omega (arith, more, same, is))))
-      ∙ find-at l number place d (record { within = (let w = at.within in (let less : place < length l = omega (arith, w) in less)); same = at.same }) (tail x l sorted)
+  find-at (x ∷ l) number (suc position) d at sorted =
+      ap (λ b. cond b (Some x.1) (Found number l)) (other_number number x.0 (λ same. absurd (let w = at.within in let more = sorted 0 (suc position) x (omega arith) w in let is = at.same x in omega (arith, more, same, is))))
+      ∙ find-at l number position d (record { within = (let w = at.within in (let less : position < length l = omega (arith, w) in less)); same = at.same }) (tail x l sorted)
 
-  -- what is found stands at a place
+  -- An entry with this key and value is at some index.
   abbrev pub IsFoundAt : List (ℕ × X) → ℕ → X → Type 0
   IsFoundAt l number v = (j : ℕ) × (j < length l) × ((d : ℕ × X) → get_or l j d ≡ (number, v))
 

@@ -1,4 +1,4 @@
--- The least of some numbers, found one after another; and that numbers which tie are the same.
+-- The least of some numbers, found one after another, and that numbers which compare as equal are equal.
 use Rattle.std.proofs.Common.{◌≡◌, ℕ, zero, suc, length, ◌<◌, ◌≤◌, arith, true, false, List, [], ◌∷◌, refl, sym, subst, inl, inr}
 use Rattle.std.specs.Prelude.{All, min, nat_le, ◌⊎◌}
 use Rattle.std.proofs.lemmas.Bool.{leb-false, leb-true}
@@ -14,11 +14,11 @@ tie Less is = absurd (Prim.cc is)
 tie Equal is = refl
 tie Greater is = absurd (Prim.cc is)
 
--- numbers that tie are the same
+-- Numbers that compare as equal are equal.
 pub same_number : (n k : ℕ) → is_eq (nat_cmp n k) ≡ true → n ≡ k
 same_number n k is = nat_cmp-IsAntisymmetric n k (tie (nat_cmp n k) is)
 
--- the least of a number and those of a list, one after another
+-- The least of a number and those of a list.
 abbrev pub least_of : ℕ → List ℕ → ℕ
 least_of most [] = most
 least_of most (n ∷ rest) = least_of (min most n) rest

@@ -1,7 +1,7 @@
 pub mod Schedule
 pub mod Agents
-pub mod KeptMoments
-pub mod KeptRequests
+pub mod StoredTimes
+pub mod StoredRequests
 pub mod Least
 pub mod OutstandingCodes
 pub mod Sorted

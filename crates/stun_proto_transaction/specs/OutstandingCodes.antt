@@ -1,11 +1,11 @@
--- The code of the requests, by which proofs tell values apart.
+-- The encoding of the table of requests, with which proofs distinguish values.
 use Rattle.std.specs.Prelude.{Bool, refl}
 use Rattle.std.specs.Coded.{Coded, code_by, coded×, coded_bool, coded_ℕ}
 use Rattle.std.specs.FinMap as map
 use Rattle.std.specs.Ordering.{nat_cmp}
 use Rattle.stun_proto_transaction.specs.Agents.{Transaction}
 use Rattle.stun_proto_transaction.specs.TransactionCodes.{transaction_code}
-use Rattle.stun_proto_transaction.specs.KeptRequests.{Requests}
+use Rattle.stun_proto_transaction.specs.StoredRequests.{Requests}
 
 abbrev pub requests_code : Coded Requests
 requests_code =

@@ -1,4 +1,4 @@
--- The codes of waits and transactions, by which proofs tell their values apart.
+-- The encodings of waits and transactions, with which proofs distinguish values.
 use Rattle.std.specs.Prelude.{ℕ, List, Option, refl}
 use Rattle.std.specs.Coded.{Coded, code_by, coded×, coded_ℕ, coded_list, coded_option}
 use Rattle.std.specs.contracts.net.socket_addr.SocketAddr as addr
@@ -8,14 +8,14 @@ use Rattle.stun_proto_transaction.specs.Agents.{Transaction}
 use Rattle.stun_proto_transaction.specs.contracts.transaction.Cancelled as cancelled
 use Rattle.stun_proto_transaction.specs.declared.transaction.Cancelled.{Cancelled}
 
--- the code of waits
+-- The encoding of waits.
 abbrev pub waits_code : Coded Waits
 waits_code =
     code_by (ℕ × (Option ℕ × (ℕ × ℕ))) (coded× coded_ℕ (coded× (coded_option coded_ℕ) (coded× coded_ℕ coded_ℕ)))
     (λ w. (w.initial, (w.most, (w.retransmits, w.final))))
     (λ p. record { initial = p.0; most = p.1.0; retransmits = p.1.1.0; final = p.1.1.1 }) (λ _. refl)
 
--- the code of a transaction
+-- The encoding of a transaction.
 abbrev pub transaction_code : Coded Transaction
 transaction_code =
     code_by (List ℕ × (SocketAddr × (ℕ × (ℕ × (Waits × Cancelled)))))

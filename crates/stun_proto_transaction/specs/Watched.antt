@@ -1,25 +1,25 @@
--- What is known of moments by place: a bound of those before a cursor.
+-- The invariant of a list of times: a lower bound on those before a cursor.
 use Rattle.std.specs.Prelude.{◌≡◌, ◌⊎◌, ℕ, ◌<◌, ◌≤◌, Bool, true, List, length, slice_index}
-use Rattle.stun_types_base.specs.Moments.{greatest_moment}
-use Rattle.stun_proto_transaction.specs.declared.moments.Moments.TheInside.{Inside}
+use Rattle.stun_types_base.specs.Times.{greatest_time}
+use Rattle.stun_proto_transaction.specs.declared.times.Times.TheInside.{Inside}
 
--- a moment is no later than the first moments, so many
+-- The time `least` is not later than any of the first `passed` times.
 abbrev pub IsBelow : List ℕ → ℕ → ℕ → Type 0
-IsBelow moments passed least = (k : ℕ) → k < passed → least ≤ slice_index moments k
+IsBelow times passed least = (k : ℕ) → k < passed → least ≤ slice_index times k
 
--- it is one of these, or the greatest moment
+-- The time `least` is one of the first `passed` times, or the greatest possible time.
 abbrev pub IsReached : List ℕ → ℕ → ℕ → Type 0
-IsReached moments passed least =
-    (least ≡ greatest_moment) ⊎ ((k : ℕ) × (k < passed) × (slice_index moments k ≡ least))
+IsReached times passed least =
+    (least ≡ greatest_time) ⊎ ((k : ℕ) × (k < passed) × (slice_index times k ≡ least))
 
--- the cursor is within; the bound is no later than the moments before it and, where it is said to be exact,
--- one of these
-pub record IsKept (moments : List ℕ) (passed least : ℕ) (exact : Bool) : Type 0 where
-  pub within : passed ≤ length moments
-  pub most : least ≤ greatest_moment
-  pub below : IsBelow moments passed least
-  pub reached : exact ≡ true → IsReached moments passed least
+-- The cursor is within the list. The bound is not later than any time before the cursor. If it is marked as
+-- exact, it is one of them or the greatest possible time.
+pub record IsStored (times : List ℕ) (passed least : ℕ) (exact : Bool) : Type 0 where
+  pub within : passed ≤ length times
+  pub most : least ≤ greatest_time
+  pub below : IsBelow times passed least
+  pub reached : exact ≡ true → IsReached times passed least
 
--- what always holds of moments that are kept
+-- The invariant, for the fields of the list.
 abbrev pub IsWatched : Inside → Type 0
-IsWatched m = IsKept m.moments.items m.passed m.least m.is_exact
+IsWatched m = IsStored m.times.items m.passed m.least m.is_exact

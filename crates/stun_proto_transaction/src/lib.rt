@@ -1,9 +1,9 @@
-//! A request that waits for its response, all that do, and when each is sent again and given up
-//! (RFC 8489, section 6.2).
+//! Requests that await their responses: one request, the table of all, and the times at which each
+//! is retransmitted and given up (RFC 8489, section 6.2).
 #![tactic(auto)]
 
-mod kept;
-mod moments;
 pub mod outstanding;
+mod stored;
+mod times;
 pub mod transaction;
 pub mod waits;

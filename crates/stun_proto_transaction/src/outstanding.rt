@@ -1,16 +1,17 @@
-//! The requests that are outstanding: a vector in the order of their numbers, and the moments of each.
+//! The table of outstanding requests: a vector sorted by transaction ID, and two times for each
+//! request.
 
 ghost use Rattle.std.specs.Prelude.{◌≡◌, ◌≤◌, IfErr, IfOk, MatchOption, None, OnErr, OnOk, Some, length, max, min};
 ghost use Rattle.std.specs.FinMap as finite;
 ghost use Rattle.std.specs.List.{insert};
-ghost use Rattle.stun_types_base.specs.Moments.{greatest_moment};
+ghost use Rattle.stun_types_base.specs.Times.{greatest_time};
 ghost use Rattle.stun_proto_transaction.specs.Agents.{Transaction, changed, is_due, is_ended, is_over, transmitted};
-ghost use Rattle.stun_proto_transaction.specs.KeptRequests.{IsFirstFrom, IsNext, NoneDue, NoneEnded, NoneFrom, with_number};
+ghost use Rattle.stun_proto_transaction.specs.StoredRequests.{IsFirstFrom, IsNext, NoneDue, NoneEnded, NoneFrom, with_number};
 ghost use Rattle.stun_proto_transaction.specs.Least.{IsLeast};
 ghost use Rattle.stun_proto_transaction.specs.Sorted.{IsAt, IsGap, IsStrictlySorted};
 
-use crate::kept::Kept;
-use crate::moments::Moments;
+use crate::stored::Stored;
+use crate::times::Times;
 use crate::transaction::{Change, Transaction};
 use std::alloc::Global;
 use std::marker::Model;
@@ -18,25 +19,25 @@ use stun_types_base::instant::Instant;
 use stun_types_base::memory::NoMemory;
 use stun_types_wire::transaction::TransactionId;
 
-/// The requests that are outstanding, of one transport. Contracts see the record `Requests` of
-/// `specs/KeptRequests.antt`, a map of requests by number.
+/// The outstanding requests over one transport. Contracts see the record `Requests` of
+/// `specs/StoredRequests.antt`, a map from transaction ID to request.
 ///
-/// They stand in the order of their numbers, each number once, and are looked up by halves. Beside each are
-/// kept the moment from which a transmission of it is due, and the one from which it has ended. At the end
-/// of every call both are what the request and its waits give.
+/// The entries are sorted by transaction ID without duplicates, and are looked up by binary search.
+/// For each entry two times are stored: when its next transmission is due, and when it ends. At the
+/// end of every call both agree with the request and its waits.
 #[derive(Debug, Drop)]
 pub struct Outstanding {
     alloc: Global,
     is_tcp: bool,
-    entries: Vec<(TransactionId, Kept)>,
-    // When a transmission of each is due.
-    sends: Moments,
-    // When each has ended.
-    ends: Moments,
+    entries: Vec<(TransactionId, Stored)>,
+    // The time at which each entry's next transmission is due.
+    sends: Times,
+    // The time at which each entry ends.
+    ends: Times,
 }
 
 impl Model for Outstanding {
-    ghost use Rattle.stun_proto_transaction.specs.KeptRequests.{Requests};
+    ghost use Rattle.stun_proto_transaction.specs.StoredRequests.{Requests};
 
     ghost Value = { Requests };
 
@@ -52,7 +53,7 @@ impl Model for Outstanding {
 }
 
 impl Outstanding {
-    /// No requests yet, of a transport that is TCP or not.
+    /// Creates an empty table for a transport that is TCP or not.
     pub fn new(alloc: Global, is_tcp: bool) -> Outstanding
         ensures { result ≡ record { is_tcp = is_tcp; by_number = finite.empty } }
     {
@@ -60,135 +61,140 @@ impl Outstanding {
             alloc,
             is_tcp,
             entries: Vec::new(alloc),
-            sends: Moments::new(alloc),
-            ends: Moments::new(alloc),
+            sends: Times::new(alloc),
+            ends: Times::new(alloc),
         }
     }
 
-    /// The request of a number, or `None` where no such request is outstanding.
-    pub fn get(&self, number: TransactionId) -> Option<&Transaction>
-        ensures { MatchOption result (finite.get self.now.by_number number ≡ None)
-            (λ t. finite.get self.now.by_number number ≡ Some t.now) }
+    /// Returns the outstanding request with this transaction ID, or `None`.
+    pub fn get(&self, transaction_id: TransactionId) -> Option<&Transaction>
+        ensures { MatchOption result (finite.get self.now.by_number transaction_id ≡ None)
+            (λ t. finite.get self.now.by_number transaction_id ≡ Some t.now) }
     {
-        match place_of(self.entries.as_slice(), number) {
-            Ok(place) => Some(self.entries[place].1.transaction()),
+        match index_of(self.entries.as_slice(), transaction_id) {
+            Ok(position) => Some(self.entries[position].1.transaction()),
             Err(_) => None,
         }
     }
 
-    /// Keeps a request, in place of one of that number. Where memory is refused, nothing changes.
+    /// Stores a request, and replaces one with the same transaction ID.
+    ///
+    /// # Errors
+    ///
+    /// - `NoMemory`: an allocation failed. Nothing changes.
     pub fn insert(
         &mut self,
-        number: TransactionId,
+        transaction_id: TransactionId,
         transaction: Transaction,
     ) -> Result<(), NoMemory>
-        ensures ok { OnOk result (self.new ≡ with_number self.old number transaction) }
+        ensures ok { OnOk result (self.new ≡ with_number self.old transaction_id transaction) }
         ensures err { OnErr result (self.new ≡ self.old) }
     {
         let sends = transaction.sends_from(self.is_tcp);
         let ends = transaction.ends_from();
-        let boxed = Kept::new(self.alloc, transaction)?;
-        match place_of(self.entries.as_slice(), number) {
-            Ok(place) => {
-                self.entries[place] = (number, boxed);
-                self.sends.set(place, sends);
-                self.ends.set(place, ends);
+        let boxed = Stored::new(self.alloc, transaction)?;
+        match index_of(self.entries.as_slice(), transaction_id) {
+            Ok(position) => {
+                self.entries[position] = (transaction_id, boxed);
+                self.sends.set(position, sends);
+                self.ends.set(position, ends);
                 Ok(())
             }
-            Err(place) => {
-                self.entries.insert(place, (number, boxed))?;
-                let kept = insert_both(&mut self.sends, &mut self.ends, place, sends, ends);
-                if kept.is_err() {
-                    self.entries.remove(place);
+            Err(position) => {
+                self.entries.insert(position, (transaction_id, boxed))?;
+                let stored = insert_both(&mut self.sends, &mut self.ends, position, sends, ends);
+                if stored.is_err() {
+                    self.entries.remove(position);
                 }
-                kept
+                stored
             }
         }
     }
 
-    /// Takes the request of a number out, where it is outstanding.
-    pub fn remove(&mut self, number: TransactionId)
+    /// Removes the request with this transaction ID, if it is outstanding.
+    pub fn remove(&mut self, transaction_id: TransactionId)
         ensures { self.new
-            ≡ record self.old { by_number = finite.remove self.old.by_number number } }
+            ≡ record self.old { by_number = finite.remove self.old.by_number transaction_id } }
     {
-        match place_of(self.entries.as_slice(), number) {
-            Ok(place) => {
-                self.entries.remove(place);
-                self.sends.remove(place);
-                self.ends.remove(place);
+        match index_of(self.entries.as_slice(), transaction_id) {
+            Ok(position) => {
+                self.entries.remove(position);
+                self.sends.remove(position);
+                self.ends.remove(position);
             }
             Err(_) => {}
         }
     }
 
-    /// Counts a transmission of the request of a number, where it is outstanding and one is left.
-    pub fn transmit(&mut self, number: TransactionId)
-        ensures { MatchOption (finite.get self.old.by_number number) (self.new ≡ self.old)
-            (λ t. self.new ≡ with_number self.old number (transmitted self.old.is_tcp t)) }
+    /// Counts a transmission of the request with this transaction ID, if it is outstanding and has
+    /// a transmission left.
+    pub fn transmit(&mut self, transaction_id: TransactionId)
+        ensures { MatchOption (finite.get self.old.by_number transaction_id) (self.new ≡ self.old)
+            (λ t. self.new ≡ with_number self.old transaction_id (transmitted self.old.is_tcp t)) }
     {
-        match place_of(self.entries.as_slice(), number) {
-            Ok(place) => {
-                let boxed = &mut self.entries[place].1;
+        match index_of(self.entries.as_slice(), transaction_id) {
+            Ok(position) => {
+                let boxed = &mut self.entries[position].1;
                 boxed.transmit(self.is_tcp);
                 let sends = boxed.transaction().sends_from(self.is_tcp);
                 let ends = boxed.transaction().ends_from();
-                self.sends.set(place, sends);
-                self.ends.set(place, ends);
+                self.sends.set(position, sends);
+                self.ends.set(position, ends);
             }
             Err(_) => {}
         }
     }
 
-    /// Changes the request of a number, where it is outstanding.
-    pub fn change(&mut self, number: TransactionId, change: Change)
-        ensures { MatchOption (finite.get self.old.by_number number) (self.new ≡ self.old)
-            (λ t. self.new ≡ with_number self.old number (changed change t)) }
+    /// Changes the request with this transaction ID, if it is outstanding.
+    pub fn change(&mut self, transaction_id: TransactionId, change: Change)
+        ensures { MatchOption (finite.get self.old.by_number transaction_id) (self.new ≡ self.old)
+            (λ t. self.new ≡ with_number self.old transaction_id (changed change t)) }
     {
-        match place_of(self.entries.as_slice(), number) {
-            Ok(place) => {
-                let boxed = &mut self.entries[place].1;
+        match index_of(self.entries.as_slice(), transaction_id) {
+            Ok(position) => {
+                let boxed = &mut self.entries[position].1;
                 boxed.change(change);
                 let send = boxed.transaction().sends_from(self.is_tcp);
                 let end = boxed.transaction().ends_from();
-                self.sends.set(place, send);
-                self.ends.set(place, end);
+                self.sends.set(position, send);
+                self.ends.set(position, end);
             }
             Err(_) => {}
         }
     }
 
-    /// The number of the request of least number of which a transmission is due at a moment, or `None` where
-    /// none is due.
+    /// Returns the lowest transaction ID of a request of which a transmission is due at `now`, or
+    /// `None`.
     pub fn first_due(&mut self, now: Instant) -> Option<TransactionId>
         ensures first { MatchOption result (NoneDue self.old now) (λ number. (t : Transaction)
             × IsLeast (is_due self.old.is_tcp now) self.old.by_number number t) }
         ensures state { self.new ≡ self.old }
     {
         let from = self.sends.first_until(now)?;
-        // It is that place itself, unless the moment is the greatest one.
-        let place = first_due_from(self.entries.as_slice(), from, self.is_tcp, now)?;
-        Some(self.entries[place].0)
+        // This is `from` itself, unless `now` is the greatest possible time.
+        let position = first_due_from(self.entries.as_slice(), from, self.is_tcp, now)?;
+        Some(self.entries[position].0)
     }
 
-    /// The number of the request of least number that has ended at a moment, and whether it is cancelled as a
-    /// whole; `None` where none has ended.
+    /// Returns the lowest transaction ID of a request that has ended at `now`, and whether the
+    /// whole transaction is cancelled. Returns `None` if none has ended.
     pub fn first_ended(&mut self, now: Instant) -> Option<(TransactionId, bool)>
         ensures first { MatchOption result (NoneEnded self.old now) (λ found. (t : Transaction)
             × IsLeast (is_ended now) self.old.by_number found.0 t
             × (is_over t.cancelled ≡ found.1)) }
         ensures state { self.new ≡ self.old }
     {
-        let place = self.ends.first_until(now)?;
-        let entry = &self.entries[place];
+        let position = self.ends.first_until(now)?;
+        let entry = &self.entries[position];
         Some((entry.0, entry.1.transaction().is_over()))
     }
 
-    /// The least of the next moments of requests none of which has ended, not earlier than now and not later
-    /// than another moment.
-    pub fn next_moment(&mut self, now: Instant, most: Instant) -> Instant
+    /// Returns the earliest next time of the requests, limited to the range from `now` to `most`.
+    /// None of the requests may have ended.
+    pub fn next_time(&mut self, now: Instant, most: Instant) -> Instant
         requires none { NoneEnded self.old now }
         requires later { now ≤ most }
-        requires small { most ≤ greatest_moment }
+        requires small { most ≤ greatest_time }
         ensures next { IsNext self.old now most result }
         ensures state { self.new ≡ self.old }
     {
@@ -201,58 +207,66 @@ impl Outstanding {
     }
 }
 
-/// The lesser of two moments, not earlier than now and not later than another moment.
+/// Returns the earlier of two times, limited to the range from `now` to `most`.
 fn between(now: Instant, most: Instant, sends: Instant, ends: Instant) -> Instant
     ensures { result ≡ max now (min most (min sends ends)) }
 {
     now.max(most.min(sends.min(ends)))
 }
 
-/// The place of a number or, as an `Err`, the one where it would go.
-fn place_of(entries: &[(TransactionId, Kept)], number: TransactionId) -> Result<usize, usize>
+/// Returns the index of a transaction ID or, as `Err`, the index at which to insert it.
+fn index_of(
+    entries: &[(TransactionId, Stored)],
+    transaction_id: TransactionId,
+) -> Result<usize, usize>
     requires { IsStrictlySorted entries.now }
-    ensures found { IfOk result (λ place. IsAt entries.now number place) }
-    ensures absent { IfErr result (λ place. IsGap entries.now number place) }
+    ensures found { IfOk result (λ position. IsAt entries.now transaction_id position) }
+    ensures absent { IfErr result (λ position. IsGap entries.now transaction_id position) }
 {
-    entries.binary_search_by_key(&number, |entry| entry.0)
+    entries.binary_search_by_key(&transaction_id, |entry| entry.0)
 }
 
-/// Puts a moment each at a place. Where memory is refused, nothing changes.
+/// Inserts a time into each list at the same index.
+///
+/// # Errors
+///
+/// - `NoMemory`: an allocation failed. Nothing changes.
 fn insert_both(
-    sends: &mut Moments,
-    ends: &mut Moments,
-    place: usize,
+    sends: &mut Times,
+    ends: &mut Times,
+    position: usize,
     send: Instant,
     end: Instant,
 ) -> Result<(), NoMemory>
-    requires first { place ≤ length sends.old }
-    requires second { place ≤ length ends.old }
-    ensures ok_sends { OnOk result (sends.new ≡ insert sends.old place send) }
-    ensures ok_ends { OnOk result (ends.new ≡ insert ends.old place end) }
+    requires first { position ≤ length sends.old }
+    requires second { position ≤ length ends.old }
+    ensures ok_sends { OnOk result (sends.new ≡ insert sends.old position send) }
+    ensures ok_ends { OnOk result (ends.new ≡ insert ends.old position end) }
     ensures err_sends { OnErr result (sends.new ≡ sends.old) }
     ensures err_ends { OnErr result (ends.new ≡ ends.old) }
 {
-    sends.insert(place, send)?;
-    let kept = ends.insert(place, end);
-    if kept.is_err() {
-        sends.remove(place);
+    sends.insert(position, send)?;
+    let stored = ends.insert(position, end);
+    if stored.is_err() {
+        sends.remove(position);
     }
-    kept
+    stored
 }
 
-/// The first place from one on of which a transmission is due at a moment.
+/// Returns the first index, starting at `from`, of a request of which a transmission is due at
+/// `now`.
 fn first_due_from(
-    entries: &[(TransactionId, Kept)],
+    entries: &[(TransactionId, Stored)],
     from: usize,
     is_tcp: bool,
     now: Instant,
 ) -> Option<usize>
     ensures { MatchOption result (NoneFrom (is_due is_tcp now) entries.now from)
-        (λ place. IsFirstFrom (is_due is_tcp now) entries.now from place) }
+        (λ position. IsFirstFrom (is_due is_tcp now) entries.now from position) }
 {
-    for place in from..entries.len() {
-        if entries[place].1.transaction().is_due(is_tcp, now) {
-            return Some(place);
+    for position in from..entries.len() {
+        if entries[position].1.transaction().is_due(is_tcp, now) {
+            return Some(position);
         }
     }
     None

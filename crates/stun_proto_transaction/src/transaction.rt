@@ -1,10 +1,10 @@
-//! A request that is outstanding: what is kept of it, and what a caller changes of it. Contracts of other
-//! crates name `Cancelled` and `Change`.
+//! An outstanding request: its state, and the changes that a caller can make to it. Contracts of
+//! other crates use `Cancelled` and `Change`.
 
 ghost use Rattle.std.specs.Prelude.{◌≡◌, ◌+◌, ◌<◌, ◌≤◌, ◌^◌, true};
-ghost use Rattle.stun_types_wire.specs.Grammar.{shown};
+ghost use Rattle.stun_types_wire.specs.Grammar.{visible};
 ghost use Rattle.stun_types_message.specs.MessageValidation.{last_algorithm};
-ghost use Rattle.stun_proto_transaction.specs.Agents.{changed, ends_from, goes_on, has_left, integrity_of, is_due, is_over, next_slot, sends_from, transmitted, without_retransmissions};
+ghost use Rattle.stun_proto_transaction.specs.Agents.{changed, ends_from, continues, has_left, integrity_of, is_due, is_over, next_slot, sends_from, transmitted, without_retransmissions};
 ghost use Rattle.stun_proto_transaction.specs.Schedule.{transmissions};
 
 use crate::waits::Waits;
@@ -14,21 +14,21 @@ use stun_types_base::instant::Instant;
 use stun_types_message::parsed::Message;
 use stun_types_wire::algorithm::IntegrityAlgorithm;
 
-/// What of a transaction is cancelled. Contracts name it; no call answers it.
+/// How far a transaction is cancelled. Contracts use it; no call of the public crate returns it.
 #[derive(Clone, Copy, Debug, PartialEq, Eq)]
 pub enum Cancelled {
-    /// Nothing is.
+    /// It is not cancelled.
     Nothing,
-    /// Nothing more is sent; the end is the same.
+    /// It is not retransmitted any more; its end does not change.
     Retransmissions,
-    /// Nothing more is sent, and the transaction has ended.
+    /// It is not transmitted any more and has ended.
     Whole,
 }
 
 impl Cancelled {
-    /// Whether nothing is cancelled.
-    fn goes_on(self) -> bool
-        ensures { result ≡ goes_on self }
+    /// Returns whether nothing is cancelled.
+    fn continues(self) -> bool
+        ensures { result ≡ continues self }
     {
         match self {
             Cancelled::Nothing => true,
@@ -36,7 +36,7 @@ impl Cancelled {
         }
     }
 
-    /// What is cancelled where nothing more is sent.
+    /// Returns the state after retransmissions are cancelled too.
     fn silenced(self) -> Cancelled
         ensures { result ≡ without_retransmissions self }
     {
@@ -46,7 +46,7 @@ impl Cancelled {
         }
     }
 
-    /// Whether all is cancelled.
+    /// Returns whether the whole transaction is cancelled.
     pub fn is_over(self) -> bool
         ensures { result ≡ is_over self }
     {
@@ -57,9 +57,10 @@ impl Cancelled {
     }
 }
 
-/// A request that is outstanding: its bytes and where they go, the moment at which it was sent, how many
-/// of its transmissions were made, how long is waited, and what is cancelled. Contracts see the record
-/// `Transaction` of `specs/Agents.antt`.
+/// An outstanding request. Contracts see the record `Transaction` of `specs/Agents.antt`.
+///
+/// It holds the bytes and their destination, the time of the first transmission, the number of
+/// transmissions so far, the waits, and how far it is cancelled.
 #[derive(Debug, Drop)]
 pub struct Transaction {
     bytes: Vec<u8>,
@@ -86,7 +87,7 @@ impl Model for Transaction {
 }
 
 impl Transaction {
-    /// A request whose first transmission is made at a moment.
+    /// Creates a request whose first transmission is made at `sent`.
     pub fn new(bytes: Vec<u8>, to: SocketAddr, sent: Instant, waits: Waits) -> Transaction
         ensures { result ≡ record {
           bytes = bytes.items;
@@ -114,42 +115,43 @@ impl Transaction {
         self.bytes.as_slice()
     }
 
-    /// Where the request goes.
+    /// The destination of the request.
     pub fn to(&self) -> SocketAddr
         ensures { result ≡ self.now.to }
     {
         self.to
     }
 
-    /// Whether the transaction is cancelled as a whole.
+    /// Returns whether the whole transaction is cancelled.
     pub fn is_over(&self) -> bool
         ensures { result ≡ is_over self.now.cancelled }
     {
         self.cancelled.is_over()
     }
 
-    /// Whether a transmission is left.
+    /// Returns whether a transmission is left.
     fn has_left(&self, is_tcp: bool) -> bool
         ensures { result ≡ has_left is_tcp self.now }
     {
-        self.cancelled.goes_on() && self.used < self.waits.transmissions(is_tcp)
+        self.cancelled.continues() && self.used < self.waits.transmissions(is_tcp)
     }
 
-    /// The moment of the next transmission.
+    /// Returns the time of the next transmission.
     fn next_slot(&self) -> Instant
         ensures { result ≡ next_slot self.now }
     {
         self.waits.slot(self.sent, self.used)
     }
 
-    /// Whether a transmission is due at a moment.
+    /// Returns whether a transmission is due at `now`.
     pub fn is_due(&self, is_tcp: bool, now: Instant) -> bool
         ensures { result ≡ is_due is_tcp now self.now }
     {
         self.has_left(is_tcp) && self.next_slot() <= now
     }
 
-    /// The moment from which a transmission is due; the greatest moment where none is left.
+    /// Returns the time at which the next transmission is due, or the greatest possible time if
+    /// none is left.
     pub fn sends_from(&self, is_tcp: bool) -> Instant
         ensures { result ≡ sends_from is_tcp self.now }
     {
@@ -160,7 +162,8 @@ impl Transaction {
         }
     }
 
-    /// The moment from which the transaction has ended; the start where it is cancelled as a whole.
+    /// Returns the time at which the transaction ends, or time zero if the whole transaction is
+    /// cancelled.
     pub fn ends_from(&self) -> Instant
         ensures { result ≡ ends_from self.now }
     {
@@ -171,7 +174,7 @@ impl Transaction {
         }
     }
 
-    /// The algorithm of the last integrity attribute that the request shows, or `None`.
+    /// Returns the algorithm of the last visible integrity attribute of the request, or `None`.
     pub fn integrity(&self) -> Option<IntegrityAlgorithm>
         ensures { result ≡ integrity_of self.now }
     {
@@ -181,12 +184,13 @@ impl Transaction {
         }
     }
 
-    /// Counts a transmission, where one is left.
+    /// Counts a transmission if one is left.
     pub fn transmit(&mut self, is_tcp: bool)
         ensures { self.new ≡ transmitted is_tcp self.old }
     {
-        // `has_left`, written out: from its value alone it isn't seen that the sum fits.
-        if self.cancelled.goes_on() && self.used < self.waits.transmissions(is_tcp) {
+        // Proof only: `has_left` is written out, because its result alone does not show that the
+        // sum fits.
+        if self.cancelled.continues() && self.used < self.waits.transmissions(is_tcp) {
             self.used += 1;
         }
     }
@@ -203,14 +207,14 @@ impl Transaction {
     }
 }
 
-/// What a caller changes of a transaction, by the calls of `StunRequestMut`. Contracts name it; no call
-/// takes it.
+/// A change that a caller makes to a transaction with the calls of `StunRequestMut`. Contracts use
+/// it; no call of the public crate takes it.
 #[derive(Debug, Drop)]
 pub enum Change {
-    /// It waits otherwise; the waits count from the first sending.
+    /// Replaces the waits. They count from the first transmission.
     ConfigureTimeout(Waits),
-    /// Nothing more is sent; the end is the same.
+    /// Stops retransmission; the end does not change.
     CancelRetransmissions,
-    /// Nothing more is sent, and it has ended.
+    /// Stops retransmission and ends the transaction.
     Cancel,
 }

@@ -1,18 +1,18 @@
-//! How long an agent waits for the response to a request (RFC 8489, section 6.2.1).
+//! The time that an agent waits for the response to a request (RFC 8489, section 6.2.1).
 
 ghost use Rattle.std.specs.Prelude.{◌≡◌, ◌+◌, ◌*◌, ◌<◌, ◌≤◌, min, MatchOption};
 ghost use Rattle.std.specs.List.{sum};
 ghost use Rattle.std.specs.Duration.{as_nanos};
 ghost use Rattle.std.specs.Option.{option_map};
-ghost use Rattle.stun_types_base.specs.Moments.{greatest_moment, moment_after};
-ghost use Rattle.stun_proto_transaction.specs.Schedule.{end_at, greatest_wait, is_reached, slot_at, transmissions, waits_behind};
+ghost use Rattle.stun_types_base.specs.Times.{greatest_time, time_after};
+ghost use Rattle.stun_proto_transaction.specs.Schedule.{end_at, greatest_wait, is_reached, slot_at, transmissions, waits_after};
 
 use std::marker::Model;
 use std::time::Duration;
 use stun_types_base::instant::Instant;
 
-/// How long is waited behind the first transmission of a request; how long at most; how often the
-/// request is transmitted; and how long is waited behind the last transmission. Contracts see the
+/// The timing of a request's transmissions: the wait after the first transmission, the maximum
+/// wait, the number of transmissions, and the wait after the last transmission. Contracts see the
 /// record `Waits`.
 #[derive(Debug, Drop)]
 pub struct Waits {
@@ -38,7 +38,7 @@ impl Model for Waits {
 }
 
 impl Waits {
-    /// These waits.
+    /// Creates the waits.
     pub fn new(initial: Duration, most: Option<Duration>, retransmits: u32, last: Duration) -> Waits
         ensures { result ≡ record {
           initial = as_nanos initial;
@@ -55,7 +55,7 @@ impl Waits {
         }
     }
 
-    /// The same waits.
+    /// Returns a copy of the waits.
     pub fn copied(&self) -> Waits
         ensures { result ≡ self.now }
     {
@@ -67,7 +67,7 @@ impl Waits {
         }
     }
 
-    /// How often a request is transmitted: once over TCP, else at least once.
+    /// Returns how often a request is transmitted: once over TCP, otherwise at least once.
     pub fn transmissions(&self, is_tcp: bool) -> u32
         ensures { result ≡ transmissions is_tcp self.now }
     {
@@ -78,14 +78,14 @@ impl Waits {
         }
     }
 
-    /// The moment of a transmission, by its place, of a request that was sent at a moment.
-    pub fn slot(&self, sent: Instant, place: u32) -> Instant
-        ensures { result ≡ slot_at sent self.now place }
+    /// Returns the time of a transmission, given its index, of a request that was sent at `sent`.
+    pub fn slot(&self, sent: Instant, position: u32) -> Instant
+        ensures { result ≡ slot_at sent self.now position }
     {
-        sent.saturating_add(Duration::from_nanos(self.waited(place)))
+        sent.saturating_add(Duration::from_nanos(self.waited(position)))
     }
 
-    /// The moment at which a request that was sent at a moment is given up.
+    /// Returns the time at which a request that was sent at `sent` is given up.
     pub fn end(&self, sent: Instant) -> Instant
         ensures { result ≡ end_at sent self.now }
     {
@@ -93,31 +93,33 @@ impl Waits {
         last.saturating_add(self.last)
     }
 
-    /// How many nanoseconds are waited behind the first transmissions, so many: at most the greatest
-    /// moment. It takes 65 steps at most, since each wait is twice the one before, until the greatest
-    /// wait is reached or the sum is past all moments.
+    /// Returns the total of the waits after the first `count` transmissions, in nanoseconds and at
+    /// most the greatest possible time.
+    ///
+    /// It loops at most 65 times, because each wait is twice the one before until the maximum wait
+    /// is reached or the sum exceeds the greatest possible time.
     #[tactic(auto, using(crate::proofs::Summing::sums))]
     fn waited(&self, count: u32) -> u64
-        ensures { result ≡ min (sum (waits_behind self.now count)) greatest_moment }
+        ensures { result ≡ min (sum (waits_after self.now count)) greatest_time }
     {
         let mut wait = self.initial.as_nanos();
         if wait == 0 {
             return 0;
         }
         let mut total = 0_u64;
-        let mut place = 0_u32;
-        while place < count && !self.is_reached(wait) {
+        let mut position = 0_u32;
+        while position < count && !self.is_reached(wait) {
             let Some(sum) = longer(total, wait) else {
                 return u64::MAX;
             };
             total = sum;
             wait *= 2;
-            place += 1;
+            position += 1;
         }
-        total.saturating_add(self.others(count - place))
+        total.saturating_add(self.others(count - position))
     }
 
-    /// Whether a wait is the greatest one, or longer.
+    /// Returns whether a wait is at least the maximum wait.
     fn is_reached(&self, wait: u128) -> bool
         ensures { result ≡ is_reached self.now.most wait }
     {
@@ -127,10 +129,10 @@ impl Waits {
         }
     }
 
-    /// How long so many of the greatest waits are, at most the greatest moment; nothing, where there is
-    /// no greatest wait.
+    /// Returns the length of `count` maximum waits, at most the greatest possible time, or 0 if
+    /// there is no maximum wait.
     fn others(&self, count: u32) -> u64
-        ensures { result ≡ min (count * greatest_wait self.now.most) greatest_moment }
+        ensures { result ≡ min (count * greatest_wait self.now.most) greatest_time }
     {
         match self.most {
             Some(most) => times(count, most.as_nanos()),
@@ -139,18 +141,18 @@ impl Waits {
     }
 }
 
-/// A sum of waits, where it is no greater than the greatest moment.
+/// Returns the sum of a total and a wait, or `None` if it exceeds the greatest possible time.
 fn longer(total: u64, wait: u128) -> Option<u64>
-    ensures { MatchOption result (greatest_moment < total + wait)
-        (λ sum. (sum ≡ total + wait) × (total + wait ≤ greatest_moment)) }
+    ensures { MatchOption result (greatest_time < total + wait)
+        (λ sum. (sum ≡ total + wait) × (total + wait ≤ greatest_time)) }
 {
     let wait = u64::try_from(wait).ok()?;
     total.checked_add(wait)
 }
 
-/// So many waits, at most the greatest moment.
+/// Returns the length of `count` waits, at most the greatest possible time.
 fn times(count: u32, wait: u128) -> u64
-    ensures { result ≡ min (count * wait) greatest_moment }
+    ensures { result ≡ min (count * wait) greatest_time }
 {
     u64::try_from(u128::from(count).saturating_mul(wait)).unwrap_or(u64::MAX)
 }

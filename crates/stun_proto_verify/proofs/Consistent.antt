@@ -1,4 +1,4 @@
--- What fits a server is consistent with it, and the other way round.
+-- The check of password algorithms passes exactly if they are consistent.
 use Rattle.std.proofs.Common.{◌≡◌, ℕ, Bool, true, false, ◌&&◌, ◌==◌, List, Option, Some, None, refl, sym, ap, ◌∙◌, nat_eq, arith, inl, inr}
 use Rattle.std.specs.Cmp.Lexicographic.{pointwise, same_text, nat_list_eq_equiv}
 use Rattle.std.specs.List.{list_any}
@@ -6,7 +6,7 @@ use Rattle.stun_types_wire.specs.declared.algorithm.IntegrityAlgorithm.{Integrit
 use Rattle.stun_types_wire.specs.declared.algorithm.IntegrityAlgorithm.TheVariants.{Sha1, Sha256, Sha512}
 use Rattle.stun_proto_auth.specs.SupportedAlgorithms.{is_same_algorithm, list_of, number_by}
 use Rattle.stun_proto_auth.specs.Claims.{Claimed}
-use Rattle.stun_proto_verify.specs.Consistency.{AreConsistent, fits_shown, is_consistent}
+use Rattle.stun_proto_verify.specs.Consistency.{AreConsistent, fits_visible, is_consistent}
 
 pub both : (a b : Bool) → (a && b) ≡ true → (a ≡ true) × (b ≡ true)
 both true b h = (refl, h)
@@ -21,7 +21,7 @@ same_sha1 Sha256 h = absurd (Prim.cc h)
 same_sha1 Sha512 h = absurd (Prim.cc h)
 
 shows : (supported : List IntegrityAlgorithm) (claim : Claimed) (algorithm : IntegrityAlgorithm) (list : Option (List ℕ)) (choice : Option ℕ)
-    → claim.algorithms ≡ list → claim.algorithm ≡ choice → fits_shown supported list choice algorithm ≡ true → AreConsistent supported claim algorithm
+    → claim.algorithms ≡ list → claim.algorithm ≡ choice → fits_visible supported list choice algorithm ≡ true → AreConsistent supported claim algorithm
 shows supported claim algorithm None None l c h =
     let two = both (is_same_algorithm Sha1 algorithm) (list_any (is_same_algorithm algorithm) supported) h in
     inl (record { list = l; choice = c; own = same_sha1 algorithm two.0; among = two.1 })
@@ -45,11 +45,11 @@ own_number Sha1 = refl
 own_number Sha256 = refl
 own_number Sha512 = refl
 
-pub shown_consistent : (supported : List IntegrityAlgorithm) (claim : Claimed) (algorithm : IntegrityAlgorithm)
+pub visible_consistent : (supported : List IntegrityAlgorithm) (claim : Claimed) (algorithm : IntegrityAlgorithm)
     → AreConsistent supported claim algorithm → is_consistent supported claim (Some algorithm) ≡ true
-shown_consistent supported claim algorithm (inl s) =
+visible_consistent supported claim algorithm (inl s) =
     let own : is_same_algorithm Sha1 algorithm ≡ true = ap (is_same_algorithm Sha1) s.own in
     rw (s.list, s.choice, own, s.among) refl
-shown_consistent supported claim algorithm (inr s) =
+visible_consistent supported claim algorithm (inr s) =
     let list : pointwise nat_eq (list_of supported) (list_of supported) ≡ true = nat_list_eq_equiv.refl (list_of supported) in
     rw (s.list, s.choice, list, own_number algorithm, s.among) refl

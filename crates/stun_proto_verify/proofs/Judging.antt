@@ -1,4 +1,4 @@
--- A judgement, and what it says of a message.
+-- What the decision on a message implies for the message.
 use Rattle.std.proofs.Common.{◌≡◌, ◌≢◌, ℕ, Bool, true, false, ◌&&◌, List, Option, Some, None, refl, sym, ap, ◌∙◌, subst, nat_eq, is_some}
 use Rattle.std.specs.Prelude.{Result, Ok, Err, IfOk, IfErr, IsErrAnd, MatchResult, MatchOption, if◌then◌else◌}
 use Rattle.std.specs.Cmp.Lexicographic.{pointwise, same_text, nat_list_eq_equiv}
@@ -6,7 +6,7 @@ use Rattle.std.specs.Option.{option_or}
 use Rattle.stun_types_wire.specs.declared.algorithm.IntegrityAlgorithm.{IntegrityAlgorithm}
 use Rattle.stun_types_wire.specs.declared.error.ValidateError.{ValidateError}
 use Rattle.stun_types_wire.specs.declared.error.ValidateError.TheVariants as invalid
-use Rattle.stun_types_wire.specs.Grammar.{shown}
+use Rattle.stun_types_wire.specs.Grammar.{visible}
 use Rattle.stun_types_integrity.specs.Credentials.{Key, long_term_key}
 use Rattle.stun_types_integrity.specs.Integrity.{IsSigned, Validates}
 use Rattle.stun_types_message.specs.MessageValidation.{last_algorithm}
@@ -18,20 +18,20 @@ use Rattle.stun_proto_auth.specs.Claims.{Claimed, claimed}
 use Rattle.stun_proto_verify.specs.Consistency.{is_consistent}
 use Rattle.stun_proto_verify.specs.Knowledge.{Knowledge, Named, Outcome}
 use Rattle.stun_proto_verify.specs.Judgement.{ServerAccepts, HasWrongDigest, IsAccepted, IsRefused, is_response, is_same_text, names_user, user_key, integrity_refusal, parts_refusal, nonce_refusal, algorithms_refusal, claim_refusal, judgement}
-use Rattle.stun_proto_verify.proofs.Consistent.{both, consistent_by, shown_consistent}
+use Rattle.stun_proto_verify.proofs.Consistent.{both, consistent_by, visible_consistent}
 
--- ---- the pieces of a claim that is not refused
+-- ---- the chunks of a claim that is not refused
 
 or_none : {A : Type 0} (a b : Option A) → option_or a b ≡ None → (a ≡ None) × (b ≡ None)
 or_none (Some x) b h = absurd cc
 or_none None b h = (refl, h)
 
--- a test that passes
+-- A check that does not fail has passed.
 passes : (b : Bool) (error : LongTermServerAuthError) → (if b then None else Some error) ≡ None → b ≡ true
 passes true error h = refl
 passes false error h = absurd cc
 
--- a text that is there
+-- A text that is present.
 record Text (o : Option (List ℕ)) : Type 0 where
   text : List ℕ
   is : o ≡ Some text
@@ -40,7 +40,7 @@ text_of : (o : Option (List ℕ)) → is_some o ≡ true → Text o
 text_of None h = absurd (Prim.cc h)
 text_of (Some text) h = record { text = text; is = refl }
 
--- two texts that are the same
+-- Two texts that are present and equal.
 record SameText (a b : Option (List ℕ)) : Type 0 where
   text : List ℕ
   first : a ≡ Some text
@@ -57,7 +57,7 @@ pub record Passed (known : Knowledge) (claim : Claimed) : Type 0 where
   pub has_realm : claim.realm ≡ Some realm
   pub nonce : List ℕ
   pub has_nonce : claim.nonce ≡ Some nonce
-  pub stands : known.nonce ≡ Some nonce
+  pub occurs : known.nonce ≡ Some nonce
   pub consistent : is_consistent known.algorithms claim claim.integrity ≡ true
 
 pub passed : (known : Knowledge) (claim : Claimed) → claim_refusal known claim ≡ None → Passed known claim
@@ -76,7 +76,7 @@ passed known claim h =
       has_realm = realm.is;
       nonce = nonce.text;
       has_nonce = nonce.first;
-      stands = nonce.second;
+      occurs = nonce.second;
       consistent = passes _ BadRequest four.0;
     }
 
@@ -99,7 +99,7 @@ accepts known bytes claim algorithm name password is other none last present val
       has_realm = ap (λ (c : Claimed). c.realm) (sym is) ∙ parts.has_realm;
       nonce = parts.nonce;
       has_nonce = ap (λ (c : Claimed). c.nonce) (sym is) ∙ parts.has_nonce;
-      stands = parts.stands;
+      occurs = parts.occurs;
       consistent = consistent_by known.algorithms (claimed bytes) algorithm
           ((λ i. is_consistent known.algorithms (sym is i) (Some algorithm))
           ∙ ap (λ (o : Option IntegrityAlgorithm). is_consistent known.algorithms claim o) (sym last) ∙ parts.consistent);
@@ -139,8 +139,8 @@ pub no_cause : (known : Knowledge) (bytes : List ℕ) (algorithm : IntegrityAlgo
 unfolding judgement claim_refusal
 no_cause known bytes algorithm name a =
     let same : pointwise nat_eq a.nonce a.nonce ≡ true = nat_list_eq_equiv.refl a.nonce in
-    let fits = shown_consistent known.algorithms (claimed bytes) algorithm a.consistent in
-    rw (a.no_response, a.last, a.named, a.has_realm, a.has_nonce, a.stands, a.present, same, fits) refl
+    let fits = visible_consistent known.algorithms (claimed bytes) algorithm a.consistent in
+    rw (a.no_response, a.last, a.named, a.has_realm, a.has_nonce, a.occurs, a.present, same, fits) refl
 
 pub not_both : (known : Knowledge) (bytes : List ℕ) (algorithm : IntegrityAlgorithm) (name : List ℕ) (error : LongTermServerAuthError) → ServerAccepts known bytes algorithm name → IsRefused known bytes error → ⊥
 not_both known bytes algorithm name error a r =
@@ -168,8 +168,9 @@ answers known bytes (Err (IntegrityFailed x)) valid refused algorithm name a = a
 
 -- ---- the digest
 
--- what is signed under the key of the texts, by the algorithm of the last integrity attribute, validates
-pub valid_by : (bytes : List ℕ) (key : Key) (realm name password : List ℕ) (algorithm answered : IntegrityAlgorithm) → key ≡ long_term_key (record { username = name; password = password; realm = realm }) algorithm → last_algorithm (shown bytes) ≡ Some algorithm
+-- A message that is signed under the user's key, with the algorithm of its last integrity attribute,
+-- validates.
+pub valid_by : (bytes : List ℕ) (key : Key) (realm name password : List ℕ) (algorithm answered : IntegrityAlgorithm) → key ≡ long_term_key (record { username = name; password = password; realm = realm }) algorithm → last_algorithm (visible bytes) ≡ Some algorithm
     → (answered ≡ key.algorithm) × ((text : List ℕ) × IsSigned bytes key.bytes answered text) → (text : List ℕ) × Validates bytes (user_key realm name password algorithm) algorithm text
 valid_by bytes key realm name password algorithm answered is last valid =
     let own = user_key realm name password algorithm in
@@ -178,7 +179,7 @@ valid_by bytes key realm name password algorithm answered is last valid =
     subst (λ (a : IntegrityAlgorithm). IsSigned bytes own a valid.1.0) same (subst (λ (k : Key). IsSigned bytes k.bytes answered valid.1.0) is valid.1.1) in
     (valid.1.0, signed_validates bytes own algorithm valid.1.0 last signed)
 
--- an error of validation is that of a wrong digest
+-- A validation error is mapped to that of a wrong digest.
 pub is_wrong : (algorithm : IntegrityAlgorithm) (error : ValidateError) → digest_error algorithm error ≡ IntegrityFailed algorithm
 is_wrong algorithm (invalid.Parse cause) = refl
 is_wrong algorithm invalid.IntegrityFailed = refl
@@ -189,7 +190,7 @@ pub wrong_by : (bytes : List ℕ) (key : Key) (realm name password : List ℕ) (
 wrong_by bytes key realm name password algorithm error answered made is not_signed =
     (made ∙ is_wrong algorithm error, λ text v. not_signed text (subst (λ (k : Key). IsSigned bytes k.bytes k.algorithm text) (sym is) v.signed))
 
--- the user that is answered is the one that was found
+-- The user that is returned is the one that was found.
 pub accepts_user : (known : Knowledge) (bytes : List ℕ) (algorithm : IntegrityAlgorithm) (name copy : List ℕ) (user : Outcome) → user ≡ record { name = copy; algorithm = algorithm } → copy ≡ name → ServerAccepts known bytes algorithm name → ServerAccepts known bytes user.algorithm user.name
 accepts_user known bytes algorithm name copy user is same a =
     subst (λ (u : Outcome). ServerAccepts known bytes u.algorithm u.name) (sym (is ∙ (λ i. record { name = same i; algorithm = algorithm }))) a
@@ -203,14 +204,14 @@ digest_refused known bytes claim algorithm name password realm (Err e) error is 
     λ cause. refuses_digest known bytes claim algorithm name password e is other none last present
     (subst (λ (r : List ℕ). (e ≡ IntegrityFailed algorithm) × ((text : List ℕ) → ¬ Validates bytes (user_key r name password algorithm) algorithm text)) own (answer ∙ wrong.0, wrong.1))
 
--- a wrong digest is no want of memory
+-- A wrong digest is not reported as `NoMemory`.
 pub not_memory : (known : Knowledge) (bytes : List ℕ) (algorithm : IntegrityAlgorithm) (result : Result Outcome LongTermServerAuthError) (error : LongTermServerAuthError) → IsErrAnd result (λ e. e ≡ error) → error ≡ IntegrityFailed algorithm → result ≡ Err NoMemory → IsAccepted known bytes
 not_memory known bytes algorithm (Ok user) error answer is memory = absurd (Prim.cc memory)
 not_memory known bytes algorithm (Err e) error answer is memory = absurd (let same : e ≡ NoMemory = Prim.cc memory in let other : IntegrityFailed algorithm ≡ NoMemory = sym is ∙ sym answer ∙ same in Prim.cc other)
 
--- the key of the realm that is known
+-- The key is that of the server's realm.
 pub in_realm : (bytes realm own name password : List ℕ) (algorithm : IntegrityAlgorithm) → realm ≡ own → (text : List ℕ) × Validates bytes (user_key realm name password algorithm) algorithm text → (text : List ℕ) × Validates bytes (user_key own name password algorithm) algorithm text
 in_realm bytes realm own name password algorithm is valid = (valid.0, subst (λ (r : List ℕ). Validates bytes (user_key r name password algorithm) algorithm valid.0) is valid.1)
 
--- the judgement, case by case
+-- The cases of the decision.
 pub ruleset judgements = (accepts, refuses_claim, refuses_digest)

@@ -1,4 +1,4 @@
 pub mod Consistent
 pub mod Judging
--- What stands above this crate has these through it.
+-- Re-exported for the crates that depend on this one.
 pub use Rattle.stun_proto_auth.proofs as Auth

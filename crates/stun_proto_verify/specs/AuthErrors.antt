@@ -1,4 +1,4 @@
--- What is told of an error.
+-- What a validation error reports.
 use Rattle.std.specs.Prelude.{Option, Some, None}
 use Rattle.stun_types_wire.specs.declared.algorithm.IntegrityAlgorithm.{IntegrityAlgorithm}
 use Rattle.stun_types_wire.specs.declared.error.ValidateError.{ValidateError}
@@ -8,7 +8,7 @@ use Rattle.stun_proto_verify.specs.declared.error.LongTermServerAuthError.TheVar
 use Rattle.stun_proto_verify.specs.declared.error.LongTermServerAuthErrorReason.{LongTermServerAuthErrorReason}
 use Rattle.stun_proto_verify.specs.declared.error.LongTermServerAuthErrorReason.TheVariants as reason
 
--- the reason alone
+-- The kind of an error.
 abbrev pub reason_of : LongTermServerAuthError → LongTermServerAuthErrorReason
 reason_of Unauthorized = reason.Unauthorized
 reason_of (IntegrityFailed algorithm) = reason.IntegrityFailed
@@ -16,13 +16,13 @@ reason_of BadRequest = reason.BadRequest
 reason_of StaleNonce = reason.StaleNonce
 reason_of NoMemory = reason.NoMemory
 
--- the algorithm of the digest that is wrong
+-- The algorithm of a wrong digest; `None` for any other error.
 abbrev pub integrity_of : LongTermServerAuthError → Option IntegrityAlgorithm
 integrity_of (IntegrityFailed algorithm) = Some algorithm
 integrity_of _ = None
 
--- what a server answers where a message does not validate for an algorithm: an attribute of
--- unlawful length is wrong too
+-- The error for a message that does not validate with an algorithm. An integrity attribute of invalid length
+-- is a wrong digest too.
 abbrev pub digest_error : IntegrityAlgorithm → ValidateError → LongTermServerAuthError
 digest_error algorithm (invalid.Parse cause) = IntegrityFailed algorithm
 digest_error algorithm invalid.IntegrityFailed = IntegrityFailed algorithm

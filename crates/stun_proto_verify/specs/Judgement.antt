@@ -1,4 +1,4 @@
--- When a server takes a message for one of its user's, and why it does not (RFC 8489, section 9.2.4).
+-- When a server accepts a message as one of its user's, and why it rejects one (RFC 8489, section 9.2.4).
 use Rattle.std.specs.Prelude.{◌≡◌, ℕ, Bool, ◌&&◌, ◌||◌, nat_eq, true, false, if◌then◌else◌, List, Option, Some, None, is_some, MatchOption}
 use Rattle.std.specs.Cmp.Lexicographic.{pointwise}
 use Rattle.std.specs.Option.{option_or}
@@ -13,27 +13,27 @@ use Rattle.stun_proto_auth.specs.Claims.{Claimed, claimed}
 use Rattle.stun_proto_verify.specs.Consistency.{AreConsistent, is_consistent}
 use Rattle.stun_proto_verify.specs.Knowledge.{Knowledge, Named}
 
--- whether a message answers a request
+-- Whether a message is a response.
 abbrev pub is_response : List ℕ → Bool
 is_response bytes = is_response_class (class_of (kind_at bytes))
 
--- the bytes of the key of a realm's user, by name and password
+-- The bytes of a user's key in a realm, from name and password.
 abbrev pub user_key : List ℕ → List ℕ → List ℕ → IntegrityAlgorithm → List ℕ
 user_key realm name password algorithm = (long_term_key
     (record { username = name; password = password; realm = realm }) algorithm).bytes
 
--- this key, with its algorithm
+-- That key, together with its algorithm.
 abbrev pub full_key : List ℕ → List ℕ → List ℕ → IntegrityAlgorithm → Key
 full_key realm name password algorithm =
     long_term_key (record { username = name; password = password; realm = realm }) algorithm
 
--- whether a claim names a user: by name, or by the hash of it
+-- Whether a claim names a user, by name or by the hash of the name.
 abbrev pub names_user : Claimed → Bool
 names_user claim = is_some claim.username || is_some claim.user_hash
 
--- a message is no response, shows an integrity attribute of the algorithm as the last one, a realm,
--- and the nonce that stands for its address, names a user that is there, has consistent password
--- algorithms, and validates under that user's key in the server's realm
+-- The server accepts a message. It is not a response; its last integrity attribute is of this algorithm; it
+-- has a realm, and the nonce that is valid for its address; it names a user that exists; its password
+-- algorithms are consistent; and it validates under that user's key in the server's realm.
 pub record ServerAccepts (known : Knowledge) (bytes : List ℕ) (algorithm : IntegrityAlgorithm)
     (name : List ℕ) : Type 0 where
   pub no_response : is_response bytes ≡ false
@@ -43,14 +43,14 @@ pub record ServerAccepts (known : Knowledge) (bytes : List ℕ) (algorithm : Int
   pub has_realm : (claimed bytes).realm ≡ Some realm
   pub nonce : List ℕ
   pub has_nonce : (claimed bytes).nonce ≡ Some nonce
-  pub stands : known.nonce ≡ Some nonce
+  pub occurs : known.nonce ≡ Some nonce
   pub consistent : AreConsistent known.algorithms (claimed bytes) algorithm
   pub password : List ℕ
   pub present : known.user ≡ Some (record { name = name; password = password })
   pub text : List ℕ
   pub validates : Validates bytes (user_key known.realm name password algorithm) algorithm text
 
--- a message is accepted as that of some user, by some algorithm
+-- The server accepts a message as that of some user, with some algorithm.
 pub record IsAccepted (known : Knowledge) (bytes : List ℕ) : Type 0 where
   pub algorithm : IntegrityAlgorithm
   pub name : List ℕ
@@ -58,51 +58,51 @@ pub record IsAccepted (known : Knowledge) (bytes : List ℕ) : Type 0 where
 
 -- ---- the refusals, in their order
 
--- a response is none of a user's
+-- Rejects a response.
 abbrev pub class_refusal : List ℕ → Option LongTermServerAuthError
 class_refusal bytes = if is_response bytes then Some BadRequest else None
 
--- no integrity attribute
+-- Rejects a message without an integrity attribute.
 abbrev pub integrity_refusal : Option IntegrityAlgorithm → Option LongTermServerAuthError
 integrity_refusal None = Some Unauthorized
 integrity_refusal (Some algorithm) = None
 
--- neither a name nor its hash, no realm, or no nonce
+-- Rejects a message with neither a name nor its hash, without a realm, or without a nonce.
 abbrev pub parts_refusal : Claimed → Option LongTermServerAuthError
 parts_refusal claim = if names_user claim && (is_some claim.realm && is_some claim.nonce) then None
     else Some BadRequest
 
--- whether two texts are there, and are the same
+-- Whether both texts are present and equal.
 abbrev pub is_same_text : Option (List ℕ) → Option (List ℕ) → Bool
 is_same_text (Some a) (Some b) = pointwise nat_eq a b
 is_same_text _ _ = false
 
--- another nonce than the one that stands
+-- Rejects a nonce other than the valid one.
 abbrev pub nonce_refusal : Option (List ℕ) → Option (List ℕ) → Option LongTermServerAuthError
 nonce_refusal claim standing = if is_same_text claim standing then None else Some StaleNonce
 
--- inconsistent password algorithms
+-- Rejects inconsistent password algorithms.
 abbrev pub algorithms_refusal : Claimed → List IntegrityAlgorithm → Option LongTermServerAuthError
 algorithms_refusal claim algorithms = if is_consistent algorithms claim claim.integrity then None
     else Some BadRequest
 
--- no such user
+-- Rejects an unknown user.
 abbrev pub user_refusal : Option Named → Option LongTermServerAuthError
 user_refusal (Some user) = None
 user_refusal None = Some Unauthorized
 
--- the first cause for which a claim is refused, whatever the digest is
+-- The first error of a claim, without regard to the digest.
 unfoldable pub claim_refusal : Knowledge → Claimed → Option LongTermServerAuthError
 claim_refusal known claim =
     option_or (integrity_refusal claim.integrity) (option_or (parts_refusal claim)
     (option_or (nonce_refusal claim.nonce known.nonce)
     (option_or (algorithms_refusal claim known.algorithms) (user_refusal known.user))))
 
--- the first cause for which a message is refused, whatever its digest is
+-- The first error of a message, without regard to its digest.
 unfoldable pub judgement : Knowledge → List ℕ → Option LongTermServerAuthError
 judgement known bytes = option_or (class_refusal bytes) (claim_refusal known (claimed bytes))
 
--- the digest is wrong under the key of the user, for the algorithm of the last integrity attribute
+-- The digest is wrong under the user's key, for the algorithm of the last integrity attribute.
 pub record HasWrongDigest (known : Knowledge) (bytes : List ℕ) (error : LongTermServerAuthError) : Type 0 where
   pub algorithm : IntegrityAlgorithm
   pub last : (claimed bytes).integrity ≡ Some algorithm
@@ -110,7 +110,7 @@ pub record HasWrongDigest (known : Knowledge) (bytes : List ℕ) (error : LongTe
   pub wrong : (user : Named) (text : List ℕ) → known.user ≡ Some user
       → ¬ Validates bytes (user_key known.realm user.name user.password algorithm) algorithm text
 
--- why a server refuses a message: the first cause, or, where there is none, its digest
+-- Why a server rejects a message: the first error or, if there is none, a wrong digest.
 abbrev pub IsRefused : Knowledge → List ℕ → LongTermServerAuthError → Type 0
 IsRefused known bytes error = MatchOption (judgement known bytes) (HasWrongDigest known bytes error)
     (λ cause. error ≡ cause)

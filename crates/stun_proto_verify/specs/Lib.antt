@@ -3,5 +3,5 @@ pub mod Consistency
 pub mod Knowledge
 pub mod Judgement
 pub mod UserKeys
--- What stands above this crate has these through it.
+-- Re-exported for the crates that depend on this one.
 pub use Rattle.stun_proto_auth.specs as Auth

@@ -1,10 +1,10 @@
--- The keys of a user in a realm, which are kept.
+-- The stored keys of a user in a realm.
 use Rattle.std.specs.Prelude.{◌≡◌}
 use Rattle.stun_types_wire.specs.declared.algorithm.IntegrityAlgorithm.TheVariants.{Sha1, Sha256, Sha512}
 use Rattle.stun_types_integrity.specs.Credentials.{LongTermSecret, long_term_key}
 use Rattle.stun_proto_verify.specs.declared.keys.UserKeys.{UserKeys}
 
--- keys are those that a user's name and password make in a realm, for each algorithm
+-- The keys are those derived from a user's name, password and realm, one for each algorithm.
 pub record AreKeysOf (secret : LongTermSecret) (keys : UserKeys) : Type 0 where
   pub sha1 : keys.sha1 ≡ long_term_key secret Sha1
   pub sha256 : keys.sha256 ≡ long_term_key secret Sha256

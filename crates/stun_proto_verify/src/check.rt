@@ -1,10 +1,10 @@
-//! What is looked at of a claim before its digest, check by check.
+//! The checks of a claim that precede the check of its digest.
 
 ghost use Rattle.std.specs.Prelude.{◌≡◌, ◌==◌, Some, None, MatchResult};
 ghost use Rattle.std.specs.Option.{option_copied, option_map};
 ghost use Rattle.stun_types_auth_attributes.specs.PasswordAlgorithmNumbers.{number_of};
 ghost use Rattle.stun_proto_auth.specs.SupportedAlgorithms.{number_by};
-ghost use Rattle.stun_proto_verify.specs.Consistency.{fits_shown, is_consistent};
+ghost use Rattle.stun_proto_verify.specs.Consistency.{fits_visible, is_consistent};
 ghost use Rattle.stun_proto_verify.specs.Judgement.{algorithms_refusal, integrity_refusal, names_user, nonce_refusal, parts_refusal};
 
 use crate::error::LongTermServerAuthError;
@@ -14,7 +14,8 @@ use stun_proto_auth::supported::SupportedIntegrity;
 use stun_types_auth_attributes::algorithm::PasswordAlgorithmValue;
 use stun_types_wire::algorithm::IntegrityAlgorithm;
 
-/// The algorithm of the last integrity attribute. Refused with `Unauthorized` where none is shown.
+/// Returns the algorithm of the last integrity attribute. Fails with `Unauthorized` if there is
+/// none.
 pub(crate) fn check_integrity(
     claim: &Claim<'_>,
 ) -> Result<IntegrityAlgorithm, LongTermServerAuthError>
@@ -28,7 +29,8 @@ pub(crate) fn check_integrity(
     }
 }
 
-/// Whether all is shown that goes with an integrity attribute. Refused with `BadRequest`.
+/// Checks that the attributes required along with an integrity attribute are present: a user's name
+/// or its hash, a realm and a nonce. Fails with `BadRequest`.
 pub(crate) fn check_parts(claim: &Claim<'_>) -> Result<(), LongTermServerAuthError>
     ensures { MatchResult result (λ _. parts_refusal claim.now ≡ None)
         (λ error. parts_refusal claim.now ≡ Some error) }
@@ -40,14 +42,14 @@ pub(crate) fn check_parts(claim: &Claim<'_>) -> Result<(), LongTermServerAuthErr
     }
 }
 
-/// Whether a claim names a user, by name or by the hash of it.
+/// Returns whether a claim names a user, by name or by the hash of the name.
 fn names_user(claim: &Claim<'_>) -> bool
     ensures { result ≡ names_user claim.now }
 {
     claim.username().is_some() || claim.user_hash().is_some()
 }
 
-/// Whether the nonce is the one that stands for the address. Refused with `StaleNonce`.
+/// Checks that the nonce is the valid one for the address. Fails with `StaleNonce`.
 pub(crate) fn check_nonce(
     claim: &Claim<'_>,
     known: &Known<'_>,
@@ -61,7 +63,7 @@ pub(crate) fn check_nonce(
     }
 }
 
-/// Whether the password algorithms are consistent. Refused with `BadRequest`.
+/// Checks that the password algorithms are consistent. Fails with `BadRequest`.
 pub(crate) fn check_algorithms(
     claim: &Claim<'_>,
     known: &Known<'_>,
@@ -76,29 +78,29 @@ pub(crate) fn check_algorithms(
     }
 }
 
-/// Whether the password algorithms are consistent with those of a server, and with the last
-/// integrity attribute.
+/// Returns whether the password algorithms are consistent with those of the server and with the
+/// last integrity attribute.
 fn is_consistent(claim: &Claim<'_>, supported: SupportedIntegrity) -> bool
     ensures { result ≡ is_consistent supported claim.now claim.now.integrity }
 {
     match claim.integrity() {
         Some(algorithm) => {
-            fits_shown(supported, claim.algorithms(), claim.algorithm(), algorithm)
+            fits_visible(supported, claim.algorithms(), claim.algorithm(), algorithm)
         }
         None => false,
     }
 }
 
-/// Whether what is shown, the value of a list and a single one, fits a server and the algorithm of
-/// the last integrity attribute.
-fn fits_shown(
+/// Returns whether a PASSWORD-ALGORITHMS value and a PASSWORD-ALGORITHM, each present or absent,
+/// fit the server and the algorithm of the last integrity attribute.
+fn fits_visible(
     supported: SupportedIntegrity,
     value: Option<&[u8]>,
     chosen: Option<PasswordAlgorithmValue>,
     algorithm: IntegrityAlgorithm,
 ) -> bool
     ensures { result
-        ≡ fits_shown supported (option_copied value.entry) (option_map number_of chosen) algorithm }
+        ≡ fits_visible supported (option_copied value.entry) (option_map number_of chosen) algorithm }
 {
     match (value, chosen) {
         (None, None) => { algorithm == IntegrityAlgorithm::Sha1 && supported.supports(algorithm) }
@@ -111,7 +113,7 @@ fn fits_shown(
     }
 }
 
-/// Whether a password algorithm is the one by which an integrity algorithm's keys are made.
+/// Returns whether a password algorithm is the one that derives the keys of an integrity algorithm.
 fn is_by(chosen: PasswordAlgorithmValue, algorithm: IntegrityAlgorithm) -> bool
     ensures { result ≡ (number_of chosen == number_by algorithm) }
 {

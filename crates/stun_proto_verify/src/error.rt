@@ -1,4 +1,4 @@
-//! Why a server does not take a message for one of a user.
+//! The errors of a server's validation.
 
 ghost use Rattle.std.specs.Prelude.{◌≡◌};
 ghost use Rattle.stun_proto_verify.specs.AuthErrors.{digest_error, integrity_of, reason_of};
@@ -9,47 +9,47 @@ use stun_types_wire::algorithm::IntegrityAlgorithm;
 use stun_types_wire::error::ValidateError;
 use thiserror::Error;
 
-/// Why a message is not validated, without what goes with it.
+/// Why a message is not validated: the kind of error, without its data.
 #[derive(Clone, Copy, Debug, PartialEq, Eq)]
 pub enum LongTermServerAuthErrorReason {
-    /// The message shows no integrity attribute, or names no user of the server.
+    /// The message has no visible integrity attribute, or names no user of the server.
     Unauthorized,
     /// The digest is not that of the message under the user's key.
     IntegrityFailed,
-    /// The message is a response, lacks an attribute that goes with its integrity attribute, or
-    /// shows password algorithms that don't fit.
+    /// The message is a response, lacks an attribute that is required along with its integrity
+    /// attribute, or has inconsistent password algorithms.
     BadRequest,
-    /// The nonce is not the one that stands for the address.
+    /// The nonce is not the valid one for the address.
     StaleNonce,
-    /// No call answers this.
+    /// No call returns this.
     UnsupportedFeature,
-    /// Memory was refused.
+    /// An allocation failed.
     NoMemory,
 }
 
 /// Why a message is not validated.
 #[derive(Clone, Copy, Debug, PartialEq, Eq, Error)]
 pub enum LongTermServerAuthError {
-    /// The message shows no integrity attribute, or names no user of the server.
+    /// The message has no visible integrity attribute, or names no user of the server.
     #[error("unauthorized")]
     Unauthorized,
-    /// The digest is not that of the message under the user's key, by this algorithm.
+    /// The digest, by this algorithm, is not that of the message under the user's key.
     #[error("the integrity of the message does not hold")]
     IntegrityFailed(IntegrityAlgorithm),
-    /// The message is a response, lacks an attribute that goes with its integrity attribute, or
-    /// shows password algorithms that don't fit.
+    /// The message is a response, lacks an attribute that is required along with its integrity
+    /// attribute, or has inconsistent password algorithms.
     #[error("bad request")]
     BadRequest,
-    /// The nonce is not the one that stands for the address.
+    /// The nonce is not the valid one for the address.
     #[error("stale nonce")]
     StaleNonce,
-    /// Memory was refused.
+    /// An allocation failed.
     #[error("no memory")]
     NoMemory,
 }
 
 impl LongTermServerAuthError {
-    /// What a server answers where a message does not validate for an algorithm.
+    /// Returns the error for a message that does not validate with this algorithm.
     pub(crate) fn of_digest(
         algorithm: IntegrityAlgorithm,
         error: ValidateError,
@@ -63,7 +63,7 @@ impl LongTermServerAuthError {
         }
     }
 
-    /// The reason alone.
+    /// Returns the kind of the error.
     pub fn reason(&self) -> LongTermServerAuthErrorReason
         ensures { result ≡ reason_of self.now }
     {
@@ -78,8 +78,8 @@ impl LongTermServerAuthError {
         }
     }
 
-    /// The algorithm of the last integrity attribute that the message shows, where the digest is
-    /// wrong, else `None`.
+    /// Returns the algorithm of the message's last visible integrity attribute if the error is a
+    /// wrong digest, otherwise `None`.
     pub fn integrity(&self) -> Option<IntegrityAlgorithm>
         ensures { result ≡ integrity_of self.now }
     {

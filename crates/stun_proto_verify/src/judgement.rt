@@ -1,7 +1,7 @@
-//! The judgement of a message.
+//! The decision whether a message is accepted.
 
 ghost use Rattle.std.specs.Prelude.{◌≡◌, ◌≢◌, ℕ, List, Some, None, Err, IfOk, IfErr, IfSome, OnOk, MatchResult, false};
-ghost use Rattle.stun_types_wire.specs.Grammar.{shown};
+ghost use Rattle.stun_types_wire.specs.Grammar.{visible};
 ghost use Rattle.stun_types_message.specs.MessageValidation.{last_algorithm};
 ghost use Rattle.stun_types_wire.specs.declared.algorithm.IntegrityAlgorithm.{IntegrityAlgorithm as Algorithm};
 ghost use Rattle.stun_types_integrity.specs.Integrity.{Validates};
@@ -18,14 +18,19 @@ use stun_types_integrity::key::IntegrityKey;
 use stun_types_message::parsed::Message;
 use stun_types_wire::algorithm::IntegrityAlgorithm;
 
-/// Whether a server takes a message that is no response for one of its user's, by what the message
-/// claims and what the server knows; the answer is the user, and the algorithm of the last
-/// integrity attribute. Refused, in this order: `Unauthorized` where the message shows no integrity
-/// attribute; `BadRequest` where it shows neither the name of a user nor a hash of it, no realm or
-/// no nonce; `StaleNonce` where the nonce is not the one that stands; `BadRequest` where password
-/// algorithms are inconsistent; `Unauthorized` where the user that it names isn't known;
-/// `IntegrityFailed` where the digest is wrong. Where nothing refuses the message and memory is refused
-/// for the name, `NoMemory`.
+/// Decides whether the server accepts a message as one of its user's, from the message's claim and
+/// what the server knows. The message must not be a response. Returns the user and the algorithm of
+/// the last integrity attribute.
+///
+/// # Errors
+///
+/// 1. `Unauthorized`: the message has no visible integrity attribute.
+/// 2. `BadRequest`: it has neither a user's name nor the hash of one, no realm, or no nonce.
+/// 3. `StaleNonce`: its nonce is not the valid one.
+/// 4. `BadRequest`: its password algorithms are inconsistent.
+/// 5. `Unauthorized`: the user that it names is unknown.
+/// 6. `IntegrityFailed`: the digest is wrong.
+/// 7. `NoMemory`: an allocation failed, for the user's name.
 pub fn judge_message(
     alloc: Global,
     message: &Message<'_>,
@@ -42,16 +47,16 @@ pub fn judge_message(
         (λ error. error ≡ LongTermServerAuthError.NoMemory) }
     ensures refused { IfErr result (λ error. error ≢ LongTermServerAuthError.NoMemory
         → IsRefused known.now message.now error) }
-    // Memory is asked for only where the message is accepted.
+    // Memory is allocated only if the message is accepted.
     ensures memory { result ≡ Err LongTermServerAuthError.NoMemory
         → IsAccepted known.now message.now }
 {
-    // The paths are taken below. That a message which the server accepts is answered with its user is
-    // proved here, once for all of them.
+    // `decide` has the branches. Proof only: that every message which the server accepts is
+    // answered with its user is proved here, once for all branches.
     decide(alloc, message, claim, known)
 }
 
-/// The judgement, path by path: it answers as `judge_message` does.
+/// Decides step by step. The result is that of `judge_message`.
 #[tactic(auto, using(crate::proofs::Judging::judgements))]
 fn decide(
     alloc: Global,
@@ -74,16 +79,17 @@ fn decide(
     Ok(ValidatedUser::new(name, pending.algorithm))
 }
 
-/// A claim of which only the digest is left to be looked at.
+/// A claim that passed every check but that of the digest.
 #[derive(Drop)]
 struct Pending<'a> {
     algorithm: IntegrityAlgorithm,
     name: &'a str,
     password: &'a str,
-    kept: Option<&'a IntegrityKey<'static>>,
+    stored: Option<&'a IntegrityKey<'static>>,
 }
 
-/// Holds a claim against what is known. Refused as `judge_message` is, but for the digest.
+/// Checks a claim against what the server knows. Fails as `judge_message` does, except for the
+/// digest.
 #[tactic(auto, unfolding(crate::specs::Judgement::claim_refusal))]
 fn check<'a>(claim: &Claim<'_>, known: &Known<'a>) -> Result<Pending<'a>, LongTermServerAuthError>
     ensures passed { IfOk result (λ pending. (claim_refusal known.now claim.now ≡ None)
@@ -94,7 +100,7 @@ fn check<'a>(claim: &Claim<'_>, known: &Known<'a>) -> Result<Pending<'a>, LongTe
         }))) }
     ensures refused { IfErr result (λ error. (claim_refusal known.now claim.now ≡ Some error)
         × (error ≢ LongTermServerAuthError.NoMemory)) }
-    ensures kept { IfOk result (λ pending. IfSome pending.kept (λ key. key.now
+    ensures stored { IfOk result (λ pending. IfSome pending.stored (λ key. key.now
         ≡ full_key known.now.realm pending.name.now pending.password.now pending.algorithm)) }
 {
     let algorithm = check_integrity(claim)?;
@@ -106,20 +112,21 @@ fn check<'a>(claim: &Claim<'_>, known: &Known<'a>) -> Result<Pending<'a>, LongTe
             algorithm,
             name: user.name(),
             password: user.password(),
-            kept: user.kept_key(known.realm(), algorithm),
+            stored: user.stored_key(known.realm(), algorithm),
         }),
         None => Err(LongTermServerAuthError::Unauthorized),
     }
 }
 
-/// Whether a message validates under the key of a user in a realm. Refused with `IntegrityFailed`.
+/// Checks that a message validates under the key of a user in a realm. Fails with
+/// `IntegrityFailed`.
 fn validate_user(
     message: &Message<'_>,
     pending: &Pending<'_>,
     realm: &str,
 ) -> Result<(), LongTermServerAuthError>
-    requires last { last_algorithm (shown message.now) ≡ Some pending.now.algorithm }
-    requires kept { IfSome pending.now.kept (λ key. key.now ≡ full_key realm.now
+    requires last { last_algorithm (visible message.now) ≡ Some pending.now.algorithm }
+    requires stored { IfSome pending.now.stored (λ key. key.now ≡ full_key realm.now
         pending.now.name.now pending.now.password.now pending.now.algorithm) }
     ensures valid { OnOk result ((text : List ℕ)
         × Validates message.now
@@ -131,20 +138,21 @@ fn validate_user(
         (user_key realm.now pending.now.name.now pending.now.password.now pending.now.algorithm)
         pending.now.algorithm text)) }
 {
-    match pending.kept {
+    match pending.stored {
         Some(key) => validate_under(message, pending, realm, key),
         None => validate_under(message, pending, realm, &key_in(pending, realm)),
     }
 }
 
-/// The same under the user's key, whether it was kept or made.
+/// Checks that a message validates under the user's key, stored or newly derived. Fails with
+/// `IntegrityFailed`.
 fn validate_under(
     message: &Message<'_>,
     pending: &Pending<'_>,
     realm: &str,
     key: &IntegrityKey<'_>,
 ) -> Result<(), LongTermServerAuthError>
-    requires last { last_algorithm (shown message.now) ≡ Some pending.now.algorithm }
+    requires last { last_algorithm (visible message.now) ≡ Some pending.now.algorithm }
     requires key { key.now ≡ full_key realm.now pending.now.name.now
         pending.now.password.now pending.now.algorithm }
     ensures valid { OnOk result ((text : List ℕ)
@@ -163,7 +171,7 @@ fn validate_under(
     }
 }
 
-/// The key of the user in a realm.
+/// Derives the key of the user in a realm.
 fn key_in<'a>(pending: &Pending<'_>, realm: &str) -> IntegrityKey<'a>
     ensures { result ≡ full_key realm.now pending.now.name.now pending.now.password.now
         pending.now.algorithm }

@@ -7,7 +7,8 @@ ghost use Rattle.stun_proto_verify.specs.UserKeys.{AreKeysOf};
 use stun_types_integrity::key::IntegrityKey;
 use stun_types_wire::algorithm::IntegrityAlgorithm;
 
-/// The keys of a user in a realm, one for each algorithm: they are kept as long as the user is there.
+/// The keys of a user in a realm, one for each algorithm, derived once and stored as long as the
+/// user exists.
 #[derive(Debug, Drop)]
 pub struct UserKeys {
     sha1: IntegrityKey<'static>,
@@ -16,7 +17,7 @@ pub struct UserKeys {
 }
 
 impl UserKeys {
-    /// The keys of the user of this name and password in a realm. To make them takes no memory.
+    /// Derives the keys of a user with this name and password in a realm. It allocates nothing.
     pub fn new(name: &str, realm: &str, password: &str) -> UserKeys
         ensures { AreKeysOf (record {
           username = name.now;
@@ -31,7 +32,7 @@ impl UserKeys {
         }
     }
 
-    /// The key for an algorithm.
+    /// Returns the key for an algorithm.
     pub fn key(&self, algorithm: IntegrityAlgorithm) -> &IntegrityKey<'static>
         ensures { (secret : LongTermSecret) → AreKeysOf secret self.now
             → result.now ≡ long_term_key secret algorithm }

@@ -1,4 +1,4 @@
-//! What a server knows that a claim is held against.
+//! What a server knows and checks a claim against.
 
 ghost use Rattle.std.specs.Prelude.{◌≡◌, IfSome};
 ghost use Rattle.std.specs.Option.{option_copied};
@@ -11,20 +11,20 @@ use stun_proto_auth::supported::SupportedIntegrity;
 use stun_types_integrity::key::IntegrityKey;
 use stun_types_wire::algorithm::IntegrityAlgorithm;
 
-/// The keys of a user that are kept, and the realm in which they are the user's.
+/// The stored keys of a user, and the realm for which they were derived.
 #[derive(Debug, Drop)]
-struct KeptKeys<'a> {
+struct StoredKeys<'a> {
     realm: &'a str,
     keys: &'a UserKeys,
 }
 
-/// A user of a server: its name and its password, and its keys in a realm, where they are kept. Contracts
-/// see the record `Named`.
+/// A user of a server: name, password and, if they are stored, the keys in a realm. Contracts see
+/// the record `Named`.
 #[derive(Debug, Drop)]
 pub struct NamedUser<'a> {
     name: &'a str,
     password: &'a str,
-    kept: Option<KeptKeys<'a>>,
+    stored: Option<StoredKeys<'a>>,
 }
 
 impl<'a> Model for NamedUser<'a> {
@@ -36,26 +36,26 @@ impl<'a> Model for NamedUser<'a> {
 
     ghost view = { λ user. record { name = user.name.now; password = user.password.now } };
 
-    ghost invariant = { λ user. IfSome user.kept (λ kept. AreKeysOf (record {
+    ghost invariant = { λ user. IfSome user.stored (λ stored. AreKeysOf (record {
       username = user.name.now;
       password = user.password.now;
-      realm = kept.realm.now;
-    }) kept.keys.now) };
+      realm = stored.realm.now;
+    }) stored.keys.now) };
 }
 
 impl<'a> NamedUser<'a> {
-    /// The user of this name and password.
+    /// Creates a user with this name and password, without stored keys.
     pub fn new(name: &'a str, password: &'a str) -> NamedUser<'a>
         ensures { result ≡ record { name = name.now; password = password.now } }
     {
         NamedUser {
             name,
             password,
-            kept: None,
+            stored: None,
         }
     }
 
-    /// The user of this name and password, whose keys in a realm are kept.
+    /// Creates a user with this name and password, and stored keys in a realm.
     pub fn with_keys(
         name: &'a str,
         password: &'a str,
@@ -72,26 +72,26 @@ impl<'a> NamedUser<'a> {
         NamedUser {
             name,
             password,
-            kept: Some(KeptKeys { realm, keys }),
+            stored: Some(StoredKeys { realm, keys }),
         }
     }
 
-    /// The user's name.
+    /// Returns the user's name.
     pub fn name(&self) -> &'a str
         ensures { result.now ≡ self.now.name }
     {
         self.name
     }
 
-    /// The user's password.
+    /// Returns the user's password.
     pub fn password(&self) -> &'a str
         ensures { result.now ≡ self.now.password }
     {
         self.password
     }
 
-    /// The user's key in a realm for an algorithm, where it is kept.
-    pub(crate) fn kept_key(
+    /// Returns the user's stored key in a realm for an algorithm, or `None` if it is not stored.
+    pub(crate) fn stored_key(
         &self,
         realm: &str,
         algorithm: IntegrityAlgorithm,
@@ -102,16 +102,16 @@ impl<'a> NamedUser<'a> {
           realm = realm.now;
         }) algorithm) }
     {
-        match &self.kept {
-            Some(kept) if kept.realm == realm => Some(kept.keys.key(algorithm)),
+        match &self.stored {
+            Some(stored) if stored.realm == realm => Some(stored.keys.key(algorithm)),
             _ => None,
         }
     }
 }
 
-/// What a server knows of itself, of an address and of a user: its realm, the algorithms that it
-/// supports, the nonce that stands for the address, and the present user that the message names.
-/// Contracts see the record `Knowledge`.
+/// What a server knows when it checks a message: its realm, the algorithms that it supports, the
+/// nonce that is valid for the address, and the user that the message names. Contracts see the
+/// record `Knowledge`.
 #[derive(Debug, Drop)]
 pub struct Known<'a> {
     realm: &'a str,
@@ -136,7 +136,8 @@ impl<'a> Model for Known<'a> {
 }
 
 impl<'a> Known<'a> {
-    /// What is known: the nonce where one stands, the user where there is such a one.
+    /// Collects what the server knows. The nonce is `None` if none is valid for the address, and
+    /// the user is `None` if the server has no such user.
     pub fn new(
         realm: &'a str,
         supported: SupportedIntegrity,
@@ -159,28 +160,28 @@ impl<'a> Known<'a> {
         }
     }
 
-    /// The realm.
+    /// Returns the realm.
     pub fn realm(&self) -> &'a str
         ensures { result.now ≡ self.now.realm }
     {
         self.realm
     }
 
-    /// The algorithms that the server supports.
+    /// Returns the algorithms that the server supports.
     pub fn supported(&self) -> SupportedIntegrity
         ensures { result ≡ self.now.algorithms }
     {
         self.supported
     }
 
-    /// The nonce that stands for the address.
+    /// Returns the nonce that is valid for the address, if any.
     pub fn nonce(&self) -> Option<&'a str>
         ensures { option_copied result ≡ self.now.nonce }
     {
         self.nonce
     }
 
-    /// The present user that the message names.
+    /// Returns the user that the message names, if the server has that user.
     pub fn user(&self) -> Option<&NamedUser<'a>>
         ensures { option_copied result ≡ self.now.user }
     {

@@ -1,5 +1,5 @@
-//! Whether a server takes a message for one of a user of its own (RFC 8489, section 9.2.4): the
-//! judgement of what a message claims against what the server knows. It keeps nothing.
+//! The decision whether a server accepts a message as one of its user's (RFC 8489, section 9.2.4):
+//! it checks what the message claims against what the server knows. The crate stores nothing.
 #![tactic(auto)]
 
 mod check;

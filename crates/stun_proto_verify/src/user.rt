@@ -1,4 +1,4 @@
-//! A user by whom a message was validated.
+//! The user for whom a message was validated.
 
 ghost use Rattle.std.specs.Prelude.{◌≡◌};
 ghost use Rattle.std.specs.String.{string_bytes};
@@ -6,8 +6,8 @@ ghost use Rattle.std.specs.String.{string_bytes};
 use std::marker::Model;
 use stun_types_wire::algorithm::IntegrityAlgorithm;
 
-/// The user whose key a message was validated under, and the algorithm by which. Contracts see the
-/// bytes of the name and the algorithm.
+/// The user under whose key a message was validated, and the algorithm that was used. Contracts see
+/// the bytes of the name and the algorithm.
 #[derive(Debug, Drop)]
 pub struct ValidatedUser {
     name: String,
@@ -24,21 +24,21 @@ impl Model for ValidatedUser {
 }
 
 impl ValidatedUser {
-    /// The user of a name, by an algorithm.
+    /// Creates the record of a user's name and an algorithm.
     pub fn new(name: String, algorithm: IntegrityAlgorithm) -> ValidatedUser
         ensures { result ≡ record { name = string_bytes name; algorithm = algorithm } }
     {
         ValidatedUser { name, algorithm }
     }
 
-    /// The user's name.
+    /// Returns the user's name.
     pub fn name(&self) -> &str
         ensures { result.now ≡ self.now.name }
     {
         self.name.as_str()
     }
 
-    /// The algorithm of the integrity attribute that was right.
+    /// Returns the algorithm of the integrity attribute that was validated.
     pub fn algorithm(&self) -> IntegrityAlgorithm
         ensures { result ≡ self.now.algorithm }
     {

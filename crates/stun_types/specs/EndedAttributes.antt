@@ -1,2 +1,2 @@
--- Which ending attributes a writer holds.
+-- Which of the integrity attributes and FINGERPRINT a writer has.
 pub use Rattle.stun_types_write.specs.declared.ended.Ended.{Ended}

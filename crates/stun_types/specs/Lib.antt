@@ -1,4 +1,4 @@
--- The definitions that the contracts below this face cite, each file under its own name.
+-- The definitions used in the contracts of this facade, each file under its own name.
 pub mod EndedAttributes
 pub mod IntegrityAlgorithms
 pub mod IntegrityCredentials
@@ -34,7 +34,7 @@ pub use Rattle.stun_types_write.specs.Drafts
 pub use Rattle.stun_types_write.specs.Lent
 pub use Rattle.stun_types_write.specs.Outcomes
 pub use Rattle.stun_types_write.specs.ValueReading
-pub use Rattle.stun_types_write.specs.Walk
+pub use Rattle.stun_types_write.specs.Scan
 pub use Rattle.stun_types_attributes.specs.Addresses
 pub use Rattle.stun_types_attributes.specs.Xor
 pub use Rattle.stun_types_attributes.specs.ErrorCodeReading
@@ -45,7 +45,7 @@ pub use Rattle.stun_types_auth_attributes.specs.Entries
 pub use Rattle.stun_types_auth_attributes.specs.PasswordAlgorithmNumbers
 pub use Rattle.stun_types_auth_attributes.specs.Userhashes
 pub use Rattle.stun_types_integrity.specs.Credentials
-pub use Rattle.stun_types_integrity.specs.HmacFronts
+pub use Rattle.stun_types_integrity.specs.TruncatedHmacs
 pub use Rattle.stun_types_integrity.specs.Hmacs
 pub use Rattle.stun_types_integrity.specs.Integrity
 pub use Rattle.stun_types_integrity.specs.KeyBytes
@@ -53,7 +53,7 @@ pub use Rattle.stun_types_integrity.specs.Keys
 pub use Rattle.stun_types_integrity.specs.Signing
 pub use Rattle.stun_types_add.specs.FingerprintValues
 pub use Rattle.stun_types_add.specs.Calls
-pub use Rattle.stun_types_message.specs.Fronts
+pub use Rattle.stun_types_message.specs.Heads
 pub use Rattle.stun_types_message.specs.MessageValidation
 pub use Rattle.stun_types_message.specs.Objections
 pub use Rattle.stun_types_message.specs.Parsed
@@ -67,5 +67,5 @@ pub use Rattle.stun_types_message.specs.Same
 pub use Rattle.stun_types_message.specs.UnsignedCalls
 pub use Rattle.stun_types_base.specs.Family
 pub use Rattle.stun_types_base.specs.Transport
--- What stands above this crate has these through it.
+-- Crates above this one reach these definitions through it.
 pub use Rattle.stun_types_base.specs as Base

@@ -1,10 +1,13 @@
-//! STUN messages (RFC 8489): parsed from bytes and written into them. Nothing here does IO.
+//! STUN messages (RFC 8489): parsing from bytes and writing into them. Nothing here does I/O.
 //!
-//! [`message`] has messages and what stands in their headers, [`attribute`] the attributes, [`data`]
-//! bytes that are borrowed or owned, [`transmit`] bytes with the addresses between which they go, and
-//! [`prelude`] the traits that a caller wants in scope. [`room`] tells before a call what it takes.
-//! [`laws`] says what the definitions of the contracts mean. `Names` has names of methods and of
-//! types of attributes that a program adds.
+//! - [`message`]: messages and the fields of their headers.
+//! - [`attribute`]: the attributes.
+//! - [`data`]: bytes that are borrowed or owned.
+//! - [`transmit`]: bytes with the addresses that send and receive them.
+//! - [`prelude`]: the traits that a caller needs in scope.
+//! - [`room`]: the bytes that a call will add, checked before the call.
+//! - [`laws`]: theorems on what the definitions used in contracts mean.
+//! - `Names`: names of methods and attribute types that a program registers.
 #![tactic(auto)]
 
 pub mod attribute;

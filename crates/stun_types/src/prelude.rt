@@ -1,4 +1,4 @@
-//! The traits that a caller of this crate wants in scope.
+//! The traits that a caller of this crate needs in scope.
 
 pub use stun_types_add::ext::MessageWriteExt;
 pub use stun_types_write::attribute::{

@@ -1,11 +1,11 @@
--- What an add makes of the bytes of a message.
+-- How adding an attribute changes the bytes of a message.
 use Rattle.std.proofs.Common.{◌≡◌, ℕ, ◌+◌, ◌-◌, ◌*◌, ◌/◌, ◌%◌, ◌^◌, ◌<◌, ◌≤◌, true, not, ltb, List, [], ◌∷◌, ◌++◌, length, get_or, replicate, None, refl, sym, ap, ◌∙◌, append_assoc, Fits, w8, arith, inl, inr}
 use Rattle.std.proofs.lemmas.Bool.{cases_Bool, ltb-false, le-ltb, lt-ltb}
 use Rattle.std.proofs.lemmas.List.{length-append, length-replicate, append-nil}
 use Rattle.stun_types_wire.specs.Attributes.{Attr, padded, padding_len, attr_size}
 use Rattle.stun_types_wire.specs.Grammar.{may_begin, header_refusal}
 use Rattle.stun_types_wire.specs.Text.{header_text, padded_text, attribute_text, body_text, message_text}
-use Rattle.stun_types_write.specs.Adding.{attr_of, after_add, IsBegun}
+use Rattle.stun_types_write.specs.Adding.{attr_of, after_add, IsStarted}
 use Rattle.stun_types_wire.specs.Registry.{greatest_size}
 use Rattle.stun_types_wire.specs.Covered.{with_length}
 use Rattle.stun_types_integrity.specs.Signing.{signing_refusal}
@@ -24,7 +24,7 @@ header_long bytes h =
       | inr not ↦ absurd (let p = rw (not) at h in cc)
     ]
 
-pub long_enough : (bytes : List ℕ) → IsBegun bytes → 20 ≤ length bytes
+pub long_enough : (bytes : List ℕ) → IsStarted bytes → 20 ≤ length bytes
 long_enough bytes h = header_long bytes h.header
 
 begins_of : (bytes : List ℕ) → header_refusal bytes ≡ None → may_begin bytes ≡ true
@@ -35,7 +35,8 @@ begins_of bytes h =
       | inr not ↦ absurd (let p = rw (not) at h in cc)
     ]
 
--- the bytes of a header with another length, and what follows, begin as before
+-- If the length field of a header changes and bytes are appended, the first bytes are still those of a
+-- message.
 begins_again : (bytes tail : List ℕ) (n : ℕ) → 20 ≤ length bytes → may_begin bytes ≡ true → may_begin (with_length bytes n ++ tail) ≡ true
 unfolding with_length
 begins_again (a ∷ b ∷ c ∷ d ∷ e ∷ f ∷ g ∷ h ∷ rest) tail n long begins = begins
@@ -64,17 +65,17 @@ length-with_length (a ∷ []) n h = absurd (omega arith)
 length-with_length (a ∷ b ∷ []) n h = absurd (omega arith)
 length-with_length (a ∷ b ∷ c ∷ []) n h = absurd (omega arith)
 
--- a length that is told again, over another
-pub told_again : (bytes : List ℕ) (m n : ℕ) → 20 ≤ length bytes → ((i : ℕ) → Fits w8 (get_or bytes i 0)) → m ≡ get_or bytes 2 0 * 256 + get_or bytes 3 0 → with_length (with_length bytes n) m ≡ bytes
+-- Writing back the old length field restores the bytes.
+pub decoded_again : (bytes : List ℕ) (m n : ℕ) → 20 ≤ length bytes → ((i : ℕ) → Fits w8 (get_or bytes i 0)) → m ≡ get_or bytes 2 0 * 256 + get_or bytes 3 0 → with_length (with_length bytes n) m ≡ bytes
 unfolding with_length
-told_again (a ∷ b ∷ c ∷ d ∷ rest) m n long small is =
+decoded_again (a ∷ b ∷ c ∷ d ∷ rest) m n long small is =
     let first : m / 256 % 256 ≡ c = omega (arith, small 2, small 3) in
     let second : m % 256 ≡ d = omega (arith, small 2, small 3) in
     rw (first, second) refl
-told_again [] m n long small is = absurd (omega arith)
-told_again (a ∷ []) m n long small is = absurd (omega arith)
-told_again (a ∷ b ∷ []) m n long small is = absurd (omega arith)
-told_again (a ∷ b ∷ c ∷ []) m n long small is = absurd (omega arith)
+decoded_again [] m n long small is = absurd (omega arith)
+decoded_again (a ∷ []) m n long small is = absurd (omega arith)
+decoded_again (a ∷ b ∷ []) m n long small is = absurd (omega arith)
+decoded_again (a ∷ b ∷ c ∷ []) m n long small is = absurd (omega arith)
 
 pub length-attribute_text : (a : Attr) → length (attribute_text a) ≡ attr_size a
 unfolding attribute_text padded_text
@@ -82,39 +83,39 @@ length-attribute_text a = omega (arith, length-append a.value (replicate (paddin
 
 -- ---- one add
 
--- what is pushed, and then told by the length, is what the add makes
-pub added : (bytes pushed after : List ℕ) (kind end : ℕ) (value : List ℕ) → IsBegun bytes → pushed ≡ bytes ++ attribute_text (attr_of kind value) → end ≡ length bytes + (4 + padded (length value)) → after ≡ with_length pushed (end - 20)
+-- Pushing an attribute and then setting the length field gives the bytes after the add.
+pub added : (bytes pushed after : List ℕ) (kind end : ℕ) (value : List ℕ) → IsStarted bytes → pushed ≡ bytes ++ attribute_text (attr_of kind value) → end ≡ length bytes + (4 + padded (length value)) → after ≡ with_length pushed (end - 20)
     → after ≡ after_add bytes (attr_of kind value)
 unfolding after_add
-added bytes pushed after kind end value begun pushed-is end-is after-is =
-    let long = long_enough bytes begun in
+added bytes pushed after kind end value started pushed-is end-is after-is =
+    let long = long_enough bytes started in
     let n : end - 20 ≡ length bytes - 20 + attr_size (attr_of kind value) = omega arith in
     after-is ∙ ap (λ (l : List ℕ). with_length l (end - 20)) pushed-is ∙ with_length-append bytes (attribute_text (attr_of kind value)) (end - 20) long
     ∙ ap (λ k. with_length bytes k ++ attribute_text (attr_of kind value)) n
 
-pub length-after_add : (bytes : List ℕ) (a : Attr) → IsBegun bytes → length (after_add bytes a) ≡ length bytes + attr_size a
+pub length-after_add : (bytes : List ℕ) (a : Attr) → IsStarted bytes → length (after_add bytes a) ≡ length bytes + attr_size a
 unfolding after_add
-length-after_add bytes a begun =
+length-after_add bytes a started =
     let n = length bytes - 20 + attr_size a in
-    omega (arith, length-append (with_length bytes n) (attribute_text a), length-with_length bytes n (long_enough bytes begun), length-attribute_text a)
+    omega (arith, length-append (with_length bytes n) (attribute_text a), length-with_length bytes n (long_enough bytes started), length-attribute_text a)
 
-pub add_begun : (bytes : List ℕ) (a : Attr) → IsBegun bytes → length bytes + attr_size a ≤ greatest_size → IsBegun (after_add bytes a)
+pub add_started : (bytes : List ℕ) (a : Attr) → IsStarted bytes → length bytes + attr_size a ≤ greatest_size → IsStarted (after_add bytes a)
 unfolding after_add header_refusal
-add_begun bytes a begun fits =
-    let long = long_enough bytes begun in
+add_started bytes a started fits =
+    let long = long_enough bytes started in
     let n = length bytes - 20 + attr_size a in
     let all = with_length bytes n ++ attribute_text a in
     let size : length all ≡ length bytes + attr_size a = omega (arith, length-append (with_length bytes n) (attribute_text a), length-with_length bytes n long, length-attribute_text a) in
     record {
-      header = rw (begins_again bytes (attribute_text a) n long (begins_of bytes begun.header), le-ltb (length all) 20 (omega (arith, size))) refl;
+      header = rw (begins_again bytes (attribute_text a) n long (begins_of bytes started.header), le-ltb (length all) 20 (omega (arith, size))) refl;
       size = omega (arith, size);
     }
 
-pub added_begun : (bytes pushed after : List ℕ) (kind end : ℕ) (value : List ℕ) → IsBegun bytes → pushed ≡ bytes ++ attribute_text (attr_of kind value) → end ≡ length bytes + (4 + padded (length value)) → end ≤ greatest_size
-    → after ≡ with_length pushed (end - 20) → IsBegun after
-added_begun bytes pushed after kind end value begun pushed-is end-is fits after-is =
-    let is = added bytes pushed after kind end value begun pushed-is end-is after-is in
-    rw is (add_begun bytes (attr_of kind value) begun (omega arith))
+pub added_started : (bytes pushed after : List ℕ) (kind end : ℕ) (value : List ℕ) → IsStarted bytes → pushed ≡ bytes ++ attribute_text (attr_of kind value) → end ≡ length bytes + (4 + padded (length value)) → end ≤ greatest_size
+    → after ≡ with_length pushed (end - 20) → IsStarted after
+added_started bytes pushed after kind end value started pushed-is end-is fits after-is =
+    let is = added bytes pushed after kind end value started pushed-is end-is after-is in
+    rw is (add_started bytes (attr_of kind value) started (omega arith))
 
 -- ---- a message text of one attribute more
 
@@ -143,27 +144,27 @@ one_more kind number adds a =
     rw (len, with_length-header_text kind (length body) (length (body_text (adds ++ a ∷ []))) number body)
     (append_assoc (header_text kind (length (body_text (adds ++ a ∷ []))) number) body text ∙ ap (λ (l : List ℕ). header_text kind (length (body_text (adds ++ a ∷ []))) number ++ l) (sym more))
 
-pub added_text : (bytes pushed after : List ℕ) (kind end : ℕ) (value : List ℕ) → IsBegun bytes → pushed ≡ bytes ++ attribute_text (attr_of kind value) → end ≡ length bytes + (4 + padded (length value)) → after ≡ with_length pushed (end - 20)
+pub added_text : (bytes pushed after : List ℕ) (kind end : ℕ) (value : List ℕ) → IsStarted bytes → pushed ≡ bytes ++ attribute_text (attr_of kind value) → end ≡ length bytes + (4 + padded (length value)) → after ≡ with_length pushed (end - 20)
     → (mtype number : ℕ) (adds : List Attr) → bytes ≡ message_text mtype number adds → after ≡ message_text mtype number (adds ++ attr_of kind value ∷ [])
-added_text bytes pushed after kind end value begun pushed-is end-is after-is mtype number adds text =
-    added bytes pushed after kind end value begun pushed-is end-is after-is ∙ ap (λ (l : List ℕ). after_add l (attr_of kind value)) text ∙ one_more mtype number adds (attr_of kind value)
+added_text bytes pushed after kind end value started pushed-is end-is after-is mtype number adds text =
+    added bytes pushed after kind end value started pushed-is end-is after-is ∙ ap (λ (l : List ℕ). after_add l (attr_of kind value)) text ∙ one_more mtype number adds (attr_of kind value)
 
--- ---- a message text that was begun
+-- ---- a message text that was started
 
-pub text_begun : (kind number : ℕ) → kind < 2 ^ 14 → IsBegun (message_text kind number [])
+pub text_started : (kind number : ℕ) → kind < 2 ^ 14 → IsStarted (message_text kind number [])
 unfolding header_refusal message_text body_text header_text
-text_begun kind number h = record {
+text_started kind number h = record {
   header = rw (lt-ltb (kind / 256 % 256) 64 (omega arith)) refl;
   size = omega arith;
 }
 
--- what is pushed to a message leaves its header there
-pub pushed_long : (bytes pushed text : List ℕ) → IsBegun bytes → pushed ≡ bytes ++ text → 20 ≤ length pushed
-pushed_long bytes pushed text begun is =
-    let long = long_enough bytes begun in
+-- The bytes still have a header after an attribute is pushed.
+pub pushed_long : (bytes pushed text : List ℕ) → IsStarted bytes → pushed ≡ bytes ++ text → 20 ≤ length pushed
+pushed_long bytes pushed text started is =
+    let long = long_enough bytes started in
     rw is (omega (arith, length-append bytes text))
 
--- what follows a header leaves it begun
+-- If bytes are appended to a header, the first bytes are still those of a message.
 begins_more : (bytes text : List ℕ) → 20 ≤ length bytes → may_begin bytes ≡ true → may_begin (bytes ++ text) ≡ true
 begins_more (a ∷ b ∷ c ∷ d ∷ e ∷ f ∷ g ∷ h ∷ rest) text long begins = begins
 begins_more [] text long begins = absurd (omega arith)
@@ -175,21 +176,21 @@ begins_more (a ∷ b ∷ c ∷ d ∷ e ∷ []) text long begins = absurd (omega 
 begins_more (a ∷ b ∷ c ∷ d ∷ e ∷ f ∷ []) text long begins = absurd (omega arith)
 begins_more (a ∷ b ∷ c ∷ d ∷ e ∷ f ∷ g ∷ []) text long begins = absurd (omega arith)
 
-pub pushed_begun : (bytes pushed : List ℕ) (a : Attr) → IsBegun bytes → pushed ≡ bytes ++ attribute_text a → length bytes + attr_size a ≤ greatest_size → IsBegun pushed
+pub pushed_started : (bytes pushed : List ℕ) (a : Attr) → IsStarted bytes → pushed ≡ bytes ++ attribute_text a → length bytes + attr_size a ≤ greatest_size → IsStarted pushed
 unfolding header_refusal
-pushed_begun bytes pushed a begun is fits =
-    let long = long_enough bytes begun in
+pushed_started bytes pushed a started is fits =
+    let long = long_enough bytes started in
     let all = bytes ++ attribute_text a in
     let size : length all ≡ length bytes + attr_size a = omega (arith, length-append bytes (attribute_text a), length-attribute_text a) in
     rw is (record {
-      header = rw (begins_more bytes (attribute_text a) long (begins_of bytes begun.header), le-ltb (length all) 20 (omega (arith, size))) refl;
+      header = rw (begins_more bytes (attribute_text a) long (begins_of bytes started.header), le-ltb (length all) 20 (omega (arith, size))) refl;
       size = omega (arith, size);
     })
 
--- The refusals of what is added, to be opened: to unfold this one is to unfold all that its line names.
+-- A group of errors for proofs: unfolding it unfolds all definitions named on its `unfolding` line.
 unfoldable pub refusals : Type 0
 unfolding add_refusal fingerprint_add_refusal signing_refusal
 refusals = Unit {0}
 
--- what is added is long enough
+-- A message that attributes are added to has a complete header.
 pub ruleset long = (long_enough)

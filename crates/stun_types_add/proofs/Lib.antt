@@ -1,7 +1,7 @@
 pub mod Turned
-pub mod FingerprintPieces
+pub mod FingerprintChunks
 pub mod Added
 pub mod Adds
-pub mod Begun
-pub mod Pieces
+pub mod Started
+pub mod Chunks
 pub mod Taken

@@ -1,4 +1,4 @@
 pub mod FingerprintValues
 pub mod Calls
--- What stands above this crate has these through it.
+-- Crates above this one reach these definitions through it.
 pub use Rattle.stun_types_integrity.specs as Integrity

@@ -22,10 +22,11 @@ use stun_types_write::attribute::{
     Attribute, AttributeFromRaw, AttributeStaticType, AttributeWrite,
 };
 use stun_types_write::reading::value_of;
-use stun_types_write::text::{front_told, write_attribute};
+use stun_types_write::text::{head_decoded, write_attribute};
 
-/// The CRC-32 of a message as it stands before the attribute, its length counted through the
-/// attribute (RFC 8489, section 14.7). Contracts see the CRC-32 as a number of 32 bits.
+/// The FINGERPRINT of a message: the CRC-32 of the bytes before the attribute, with the header's
+/// length field counting through the attribute (RFC 8489, section 14.7). Contracts see the CRC-32
+/// as a 32-bit number.
 #[derive(Debug, Drop)]
 pub struct Fingerprint {
     crc: u32,
@@ -40,7 +41,7 @@ impl Model for Fingerprint {
 }
 
 impl Fingerprint {
-    /// The FINGERPRINT of a CRC-32 as `compute` answers it, the highest byte first.
+    /// Creates the FINGERPRINT of a CRC-32 in big-endian order, as `compute` returns it.
     pub fn new(fingerprint: [u8; 4]) -> Fingerprint
         ensures { result ≡ big_number 4 fingerprint }
     {
@@ -49,7 +50,7 @@ impl Fingerprint {
         }
     }
 
-    /// The CRC-32 as `compute` answers it, the highest byte first.
+    /// Returns the CRC-32 in big-endian order, as `compute` returns it.
     #[tactic(auto, using(crate::proofs::Turned::number_again))]
     pub fn fingerprint(&self) -> [u8; 4]
         ensures bytes { result ≡ big_bytes 4 self.now }
@@ -58,14 +59,14 @@ impl Fingerprint {
         self.crc().to_be_bytes()
     }
 
-    /// The value in a message: the CRC-32 xor 0x5354554E, the highest byte first.
+    /// Returns the attribute's value in a message: the CRC-32 XOR 0x5354554E, in big-endian order.
     pub fn value(&self) -> [u8; 4]
         ensures { result ≡ turned_bytes self.now }
     {
         (self.crc() ^ registry::FINGERPRINT_MASK).to_be_bytes()
     }
 
-    /// Whether a value of four bytes is the value of this FINGERPRINT.
+    /// Returns whether four bytes are the attribute value of this FINGERPRINT.
     #[tactic(auto, using(crate::proofs::Turned::same_by_number))]
     pub fn has_value(&self, value: &[u8]) -> bool
         requires { length value.now ≡ 4 }
@@ -81,8 +82,8 @@ impl Fingerprint {
         self.crc
     }
 
-    /// The CRC-32 of a text, the highest byte first. The attribute that `new` makes of it has the
-    /// value of the text's FINGERPRINT.
+    /// Returns the CRC-32 of a text in big-endian order. `new` of the result is the text's
+    /// FINGERPRINT.
     #[tactic(auto, unfolding(crate::proofs::Turned::value_bytes))]
     pub fn compute(text: &[u8]) -> [u8; 4]
         ensures bytes { result ≡ crc_bytes text.now }
@@ -91,14 +92,15 @@ impl Fingerprint {
         bytes_of_crc(Crc32::checksum(text))
     }
 
-    /// The FINGERPRINT of a message, as if its header told this length (RFC 8489, section 14.7).
+    /// Returns the FINGERPRINT of a message as if its header's length field were `len` (RFC 8489,
+    /// section 14.7).
     pub fn of_message(bytes: &[u8], len: u16) -> Fingerprint
         requires { header_size ≤ length bytes.now }
         ensures { turned_bytes result ≡ fingerprint_value (with_length bytes.now len) }
     {
         let (_, tail) = bytes.split_at(4);
         Fingerprint {
-            crc: Crc32::of_pieces(front_told(bytes, len), tail),
+            crc: Crc32::of_chunks(head_decoded(bytes, len), tail),
         }
     }
 }
@@ -136,9 +138,13 @@ impl AttributeWrite for Fingerprint {
     }
 }
 
-/// The number in four bytes, the highest first, xor 0x5354554E. Refused, in this order:
-/// `WrongAttributeImplementation` where it is another type, `Truncated` where the value is shorter,
-/// `TooLarge` where it is longer.
+/// Decodes the CRC-32: the four bytes of the value as a big-endian number, XOR 0x5354554E.
+///
+/// # Errors
+///
+/// 1. `WrongAttributeImplementation`: the attribute has another type.
+/// 2. `Truncated`: the value has fewer than four bytes.
+/// 3. `TooLarge`: the value has more than four bytes.
 impl<'a, 'raw> TryFrom<&'raw RawAttribute<'a>> for Fingerprint {
     ghost use Rattle.std.specs.Prelude.{◌≡◌, MatchResult, Some, None, bit_xor};
     ghost use Rattle.stun_types_write.specs.ValueReading.{IsNamed};
@@ -160,7 +166,7 @@ impl<'a, 'raw> TryFrom<&'raw RawAttribute<'a>> for Fingerprint {
     }
 }
 
-/// Refused as `try_from` is; no memory is taken.
+/// Fails as `try_from` does. It allocates no memory.
 impl<'a> AttributeFromRaw<'a> for Fingerprint {
     ghost use Rattle.std.specs.Prelude.{false};
     ghost use Rattle.stun_types_write.specs.ValueReading.{value_refusal};
@@ -181,12 +187,12 @@ impl<'a> AttributeFromRaw<'a> for Fingerprint {
     }
 
     #[tactic(auto, using(crate::proofs::Turned::numbers))]
-    fn is_read_back(&self, read: &Fingerprint) {
+    fn proof_is_read_back(&self, read: &Fingerprint) {
         let _ = (self.crc(), read.crc());
     }
 }
 
-/// A CRC-32 in four bytes, the highest first.
+/// Returns a CRC-32 as four bytes in big-endian order.
 #[tactic(auto, using(crate::proofs::Turned::number_again))]
 fn bytes_of_crc(crc: u32) -> [u8; 4]
     ensures bytes { result ≡ big_bytes 4 crc }
@@ -195,7 +201,7 @@ fn bytes_of_crc(crc: u32) -> [u8; 4]
     crc.to_be_bytes()
 }
 
-/// The CRC-32 in the value of a FINGERPRINT. Refused as `try_from` is.
+/// Decodes the CRC-32 from the value of a FINGERPRINT. Fails as `try_from` does.
 fn crc_of(raw: &RawAttribute<'_>) -> Result<u32, StunParseError>
     ensures { MatchResult result (λ crc. (value_refusal fingerprint_kind 4 4 raw.now ≡ None)
         × (raw.now.kind ≡ fingerprint_kind) × (crc
@@ -207,11 +213,11 @@ fn crc_of(raw: &RawAttribute<'_>) -> Result<u32, StunParseError>
     Ok(turned_number(value))
 }
 
-/// The number in four bytes, the highest first, turned.
+/// Returns the big-endian number in four bytes, XOR 0x5354554E.
 #[tactic(auto, using(crate::proofs::Turned::bytes_again, crate::proofs::Turned::turned_again))]
 fn turned_number(value: &[u8]) -> u32
     requires { length value.now ≡ 4 }
-    ensures told { result ≡ bit_xor (big_number 4 value.now) fingerprint_mask }
+    ensures decoded { result ≡ bit_xor (big_number 4 value.now) fingerprint_mask }
     ensures again { turned_bytes result ≡ value.now }
 {
     BigEndian::read_u32(value) ^ registry::FINGERPRINT_MASK

@@ -1,4 +1,4 @@
-//! The header and the adds of a message that is written, over any writer.
+//! The header fields of a message being written, and the calls that add attributes, for any writer.
 
 ghost use Rattle.std.specs.Prelude.{◌≡◌, ◌↔◌, IsTrue, OnErr, OnOk, None};
 ghost use Rattle.stun_types_base.specs.Refusals.{RefusesFor};
@@ -7,7 +7,7 @@ ghost use Rattle.stun_types_wire.specs.Shape.{rank};
 ghost use Rattle.stun_types_wire.specs.Fingerprints.{fingerprint_of};
 ghost use Rattle.stun_types_wire.specs.Types.{class_of, method_of, is_response_class};
 ghost use Rattle.stun_types_wire.specs.Grammar.{header_at, header_refusal, number_at};
-ghost use Rattle.stun_types_write.specs.Adding.{attr_of, add_refusal, fingerprint_add_refusal, IsBegun};
+ghost use Rattle.stun_types_write.specs.Adding.{attr_of, add_refusal, fingerprint_add_refusal, IsStarted};
 ghost use Rattle.stun_types_write.specs.Outcomes.{TakesNoMemory, IsAdded};
 ghost use Rattle.stun_types_integrity.specs.Keys.{key_of};
 ghost use Rattle.stun_types_integrity.specs.Signing.{signature, signing_refusal};
@@ -25,50 +25,58 @@ use stun_types_wire::transaction::TransactionId;
 use stun_types_write::attribute::{Attribute, AttributeWrite};
 use stun_types_write::writer::MessageWrite;
 
-/// The header and the adds of a message that was begun. Every writer has them.
+/// Reads the header of a message that was started in a writer, and adds attributes to it. Every
+/// writer implements it.
 pub trait MessageWriteExt: MessageWrite {
     /// The type of the message.
     fn get_type(&self) -> MessageType
-        requires { IsBegun (Self.draft self.now).bytes }
+        requires { IsStarted (Self.draft self.now).bytes }
         ensures { result ≡ kind_at (Self.draft self.now).bytes };
 
     /// The class of the message.
     fn class(&self) -> MessageClass
-        requires { IsBegun (Self.draft self.now).bytes }
+        requires { IsStarted (Self.draft self.now).bytes }
         ensures { result ≡ class_of (kind_at (Self.draft self.now).bytes) };
 
-    /// Whether this is the class of the message.
+    /// Returns whether the message has this class.
     fn has_class(&self, class: MessageClass) -> bool
-        requires { IsBegun (Self.draft self.now).bytes }
+        requires { IsStarted (Self.draft self.now).bytes }
         ensures { IsTrue result ↔ (class_of (kind_at (Self.draft self.now).bytes) ≡ class) };
 
-    /// Whether the message answers a request.
+    /// Returns whether the message is a response.
     fn is_response(&self) -> bool
-        requires { IsBegun (Self.draft self.now).bytes }
+        requires { IsStarted (Self.draft self.now).bytes }
         ensures { result ≡ is_response_class (class_of (kind_at (Self.draft self.now).bytes)) };
 
     /// The method of the message.
     fn method(&self) -> Method
-        requires { IsBegun (Self.draft self.now).bytes }
+        requires { IsStarted (Self.draft self.now).bytes }
         ensures { result.0 ≡ method_of (kind_at (Self.draft self.now).bytes) };
 
-    /// Whether this is the method of the message.
+    /// Returns whether the message has this method.
     fn has_method(&self, method: Method) -> bool
-        requires { IsBegun (Self.draft self.now).bytes }
+        requires { IsStarted (Self.draft self.now).bytes }
         ensures { IsTrue result ↔ (method_of (kind_at (Self.draft self.now).bytes) ≡ method.0) };
 
-    /// The number of the transaction.
+    /// The transaction ID of the message.
     fn transaction_id(&self) -> TransactionId
-        requires { IsBegun (Self.draft self.now).bytes }
+        requires { IsStarted (Self.draft self.now).bytes }
         ensures { result ≡ number_at (Self.draft self.now).bytes };
 
-    /// Adds an attribute that isn't one of the four which end a message. A type may be added several
-    /// times. Refused, in this order: `FingerprintExists`, `MessageIntegrityExists` where one of these
-    /// was added, `TooLarge` where the length field would pass 65,535, `TooSmall` where the writer has
-    /// not the room; where memory is refused, `NoMemory`, which a writer with a greatest size never
-    /// answers. A refused add changes nothing.
+    /// Adds an attribute other than the three integrity attributes and FINGERPRINT. A type may be
+    /// added several times.
+    ///
+    /// # Errors
+    ///
+    /// A failed call changes nothing.
+    ///
+    /// 1. `FingerprintExists`: a FINGERPRINT was added.
+    /// 2. `MessageIntegrityExists`: an integrity attribute was added.
+    /// 3. `TooLarge`: the length field would exceed 65,535.
+    /// 4. `TooSmall`: the message would exceed the writer's maximum size.
+    /// 5. `NoMemory`: an allocation failed. A writer with a maximum size never returns it.
     fn add_attribute(&mut self, attribute: &dyn AttributeWrite) -> Result<(), StunWriteError>
-        requires begun { IsBegun (Self.draft self.old).bytes }
+        requires started { IsStarted (Self.draft self.old).bytes }
         requires ordinary { rank (kind attribute.now) ≡ 0 }
         ensures ok { OnOk result (IsAdded (attr_of (kind attribute.now) (value attribute.now))
             (Self.draft self.old) (Self.draft self.new)) }
@@ -77,17 +85,24 @@ pub trait MessageWriteExt: MessageWrite {
             (attr_size (attr_of (kind attribute.now) (value attribute.now)))) result }
         ensures lent { TakesNoMemory (Self.draft self.old) result };
 
-    /// Adds the integrity attribute of an algorithm: the HMAC of all that is written under a key
-    /// (RFC 8489, sections 14.5 and 14.6). Refused, in this order: `FingerprintExists`;
-    /// `AttributeExists` where that attribute was added; `MessageIntegrityExists` where that of a
-    /// stronger algorithm was; `IntegrityFailed` where the key was made for another algorithm; `TooLarge`, `TooSmall` and `NoMemory` as for `add_attribute`. A refused
-    /// add changes nothing.
+    /// Adds the integrity attribute of an algorithm: the HMAC under `key` of everything written so
+    /// far (RFC 8489, sections 14.5 and 14.6).
+    ///
+    /// # Errors
+    ///
+    /// A failed call changes nothing.
+    ///
+    /// 1. `FingerprintExists`: a FINGERPRINT was added.
+    /// 2. `AttributeExists`: the integrity attribute of this algorithm was added.
+    /// 3. `MessageIntegrityExists`: the integrity attribute of a stronger algorithm was added.
+    /// 4. `IntegrityFailed`: the key was made for another algorithm.
+    /// 5. `TooLarge`, `TooSmall`, `NoMemory`: as for `add_attribute`.
     fn add_message_integrity_with_key(
         &mut self,
         key: &IntegrityKey<'_>,
         algorithm: IntegrityAlgorithm,
     ) -> Result<(), StunWriteError>
-        requires begun { IsBegun (Self.draft self.old).bytes }
+        requires started { IsStarted (Self.draft self.old).bytes }
         ensures ok { OnOk result (IsAdded
             (signature algorithm key.now.bytes (Self.draft self.old).bytes)
             (Self.draft self.old) (Self.draft self.new)) }
@@ -96,14 +111,14 @@ pub trait MessageWriteExt: MessageWrite {
             (signing_refusal (Self.draft self.old) key.now.algorithm algorithm) result }
         ensures lent { TakesNoMemory (Self.draft self.old) result };
 
-    /// The same, under the key that credentials make for the algorithm. It is never refused with
-    /// `IntegrityFailed`.
+    /// Does what `add_message_integrity_with_key` does, with the key that the credentials make for
+    /// the algorithm. It never fails with `IntegrityFailed`.
     fn add_message_integrity(
         &mut self,
         credentials: &MessageIntegrityCredentials,
         algorithm: IntegrityAlgorithm,
     ) -> Result<(), StunWriteError>
-        requires begun { IsBegun (Self.draft self.old).bytes }
+        requires started { IsStarted (Self.draft self.old).bytes }
         ensures ok { OnOk result (IsAdded
             (signature algorithm (key_of credentials.now algorithm).bytes
             (Self.draft self.old).bytes)
@@ -113,11 +128,17 @@ pub trait MessageWriteExt: MessageWrite {
             (signing_refusal (Self.draft self.old) algorithm algorithm) result }
         ensures lent { TakesNoMemory (Self.draft self.old) result };
 
-    /// Adds the FINGERPRINT of all that is written: its CRC-32, combined with `STUN` (RFC 8489, section
-    /// 14.7). Nothing can be added behind it. Refused, in this order: `FingerprintExists`; `TooLarge`,
-    /// `TooSmall` and `NoMemory` as for `add_attribute`. A refused add changes nothing.
+    /// Adds the FINGERPRINT of everything written so far: its CRC-32 XOR 0x5354554E, the ASCII text
+    /// `STUN` (RFC 8489, section 14.7). Nothing can be added after it.
+    ///
+    /// # Errors
+    ///
+    /// A failed call changes nothing.
+    ///
+    /// 1. `FingerprintExists`: a FINGERPRINT was added before.
+    /// 2. `TooLarge`, `TooSmall`, `NoMemory`: as for `add_attribute`.
     fn add_fingerprint(&mut self) -> Result<(), StunWriteError>
-        requires begun { IsBegun (Self.draft self.old).bytes }
+        requires started { IsStarted (Self.draft self.old).bytes }
         ensures ok { OnOk result (IsAdded (fingerprint_of (Self.draft self.old).bytes)
             (Self.draft self.old) (Self.draft self.new)) }
         ensures err { OnErr result (Self.draft self.new ≡ Self.draft self.old) }
@@ -155,8 +176,8 @@ impl<W: MessageWrite> MessageWriteExt for W {
         header_of(self.data()).transaction_id()
     }
 
-    // Part of each caller, which knows the attribute's type: through the table of the `dyn` it is asked
-    // three times.
+    // Inlined into each caller, which knows the attribute's type. A call of its own would go
+    // through the table of the `dyn` three times.
     #[inline(always)]
     #[tactic(auto, using(crate::proofs::Adds::long), unfolding(crate::proofs::Adds::refusals))]
     fn add_attribute(&mut self, attribute: &dyn AttributeWrite) -> Result<(), StunWriteError> {
@@ -196,14 +217,14 @@ impl<W: MessageWrite> MessageWriteExt for W {
     }
 }
 
-/// `add_attribute` of an attribute whose type is known. The two are one value, as a `dyn` and as
-/// itself: contracts then know what is added by its own type.
+/// Calls `add_attribute` with an attribute whose type is known. `attribute` and `same` are one
+/// value, as a `dyn` and as itself, so contracts describe what is added by its own type.
 pub fn add_as<W: MessageWrite, A: AttributeWrite>(
     writer: &mut W,
     attribute: &dyn AttributeWrite,
     same: &A,
 ) -> Result<(), StunWriteError>
-    requires begun { IsBegun (W.draft writer.old).bytes }
+    requires started { IsStarted (W.draft writer.old).bytes }
     requires ordinary { rank (A.kind same.now) ≡ 0 }
     requires kind { (⟦<dyn AttributeWrite as Attribute>⟧ attribute.now.0).kind attribute.now.1
         ≡ A.kind same.now }
@@ -219,7 +240,7 @@ pub fn add_as<W: MessageWrite, A: AttributeWrite>(
     writer.add_attribute(attribute)
 }
 
-/// The header of a message that was begun.
+/// Returns the header of a message that was started.
 fn header_of(bytes: &[u8]) -> MessageHeader
     requires { header_refusal bytes.now ≡ None }
     ensures { result ≡ header_at bytes.now }

@@ -1,8 +1,8 @@
-//! FINGERPRINT, added at the end of a message (RFC 8489, section 14.7).
+//! Adds FINGERPRINT at the end of a message (RFC 8489, section 14.7).
 
 ghost use Rattle.std.specs.Prelude.{◌≡◌, OnOk, OnErr};
 ghost use Rattle.stun_types_wire.specs.Fingerprints.{fingerprint_of};
-ghost use Rattle.stun_types_write.specs.Adding.{IsBegun, fingerprint_add_refusal};
+ghost use Rattle.stun_types_write.specs.Adding.{IsStarted, fingerprint_add_refusal};
 ghost use Rattle.stun_types_write.specs.Outcomes.{TakesNoMemory, IsAdded};
 ghost use Rattle.stun_types_base.specs.Refusals.{RefusesFor};
 
@@ -14,10 +14,10 @@ use stun_types_wire::header::MessageHeader;
 use stun_types_wire::registry::FINGERPRINT_SIZE;
 use stun_types_write::writer::MessageWrite;
 
-/// Adds a FINGERPRINT. What it refuses stands at `MessageWriteExt::add_fingerprint`.
+/// Adds a FINGERPRINT. Its errors are listed at `MessageWriteExt::add_fingerprint`.
 #[tactic(auto, using(crate::proofs::Adds::long), unfolding(crate::proofs::Adds::refusals))]
 pub(crate) fn mark<W: MessageWrite>(writer: &mut W) -> Result<(), StunWriteError>
-    requires begun { IsBegun (W.draft writer.old).bytes }
+    requires started { IsStarted (W.draft writer.old).bytes }
     ensures ok { OnOk result (IsAdded (fingerprint_of (W.draft writer.old).bytes)
         (W.draft writer.old) (W.draft writer.new)) }
     ensures err { OnErr result (W.draft writer.new ≡ W.draft writer.old) }

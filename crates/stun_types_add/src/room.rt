@@ -1,4 +1,4 @@
-//! What may be added to a message, and how long it may grow.
+//! Checks on what may be added to a message, and how long it may grow.
 
 ghost use Rattle.std.specs.Prelude.{◌≡◌, ◌≢◌, ◌*◌, ◌≤◌, length, IfErr, MatchResult, None, Some};
 ghost use Rattle.stun_types_wire.specs.Registry.{greatest_size};
@@ -13,10 +13,14 @@ use stun_types_wire::registry::{MAX_DATA_LENGTH, MAX_MESSAGE_LENGTH};
 use stun_types_write::ended::Ended;
 use stun_types_write::writer::MessageWrite;
 
-/// Where a message ends to which so many bytes are added. Refused with `TooLarge` where its length
-/// field can't tell that, and with `TooSmall` where the writer has not the room.
+/// Returns the length of the message after `size` more bytes.
+///
+/// # Errors
+///
+/// 1. `TooLarge`: the length field would exceed 65,535.
+/// 2. `TooSmall`: the message would exceed the writer's maximum size.
 pub fn end_of_add<W: MessageWrite>(writer: &W, size: usize) -> Result<usize, StunWriteError>
-    requires begun { length (W.draft writer.now).bytes ≤ greatest_size }
+    requires started { length (W.draft writer.now).bytes ≤ greatest_size }
     requires small { size ≤ 2 * greatest_size }
     ensures { MatchResult result (Fits (W.draft writer.now) size)
         (IsTooLong (W.draft writer.now) size) }
@@ -39,9 +43,14 @@ pub fn end_of_add<W: MessageWrite>(writer: &W, size: usize) -> Result<usize, Stu
     Ok(end)
 }
 
-/// Whether the integrity attribute of an algorithm may follow what was added (RFC 8489, sections 14.5
-/// to 14.7). Refused, in this order: `FingerprintExists`; `AttributeExists` where that attribute was
-/// added; `MessageIntegrityExists` where that of a stronger algorithm was.
+/// Checks that the integrity attribute of an algorithm may follow what was added (RFC 8489,
+/// sections 14.5 to 14.7).
+///
+/// # Errors
+///
+/// 1. `FingerprintExists`: a FINGERPRINT was added.
+/// 2. `AttributeExists`: the integrity attribute of this algorithm was added.
+/// 3. `MessageIntegrityExists`: the integrity attribute of a stronger algorithm was added.
 #[tactic(auto, unfolding(stun_types_integrity::specs::Signing::order_refusal))]
 pub fn may_sign(ended: Ended, algorithm: IntegrityAlgorithm) -> Result<(), StunWriteError>
     ensures order { MatchResult result (λ _. order_refusal ended algorithm ≡ None)

@@ -1,9 +1,9 @@
-//! The integrity attribute, added at the end of a message (RFC 8489, sections 14.5 and 14.6).
+//! Adds an integrity attribute at the end of a message (RFC 8489, sections 14.5 and 14.6).
 
 ghost use Rattle.std.specs.Prelude.{◌≡◌, ◌≤◌, ℕ, length, OnOk, OnErr, IsOk, IsSome};
 ghost use Rattle.stun_types_wire.specs.Attributes.{attr_size};
 ghost use Rattle.stun_types_wire.specs.Covered.{with_length};
-ghost use Rattle.stun_types_write.specs.Adding.{attr_of, IsBegun};
+ghost use Rattle.stun_types_write.specs.Adding.{attr_of, IsStarted};
 ghost use Rattle.stun_types_wire.specs.Registry.{greatest_size, header_size};
 ghost use Rattle.stun_types_integrity.specs.Signing.{signature, signing_refusal};
 ghost use Rattle.stun_types_write.specs.Drafts.{HasRoom, pushed_attribute};
@@ -21,7 +21,7 @@ use stun_types_wire::header::MessageHeader;
 use stun_types_write::attribute::{Attribute, AttributeWrite};
 use stun_types_write::writer::MessageWrite;
 
-/// Adds the integrity attribute of an algorithm under a key. What it refuses stands at
+/// Adds the integrity attribute of an algorithm under a key. Its errors are listed at
 /// `MessageWriteExt::add_message_integrity_with_key`.
 #[tactic(auto, using(crate::proofs::Adds::long), unfolding(crate::proofs::Adds::refusals))]
 pub(crate) fn sign<W: MessageWrite>(
@@ -29,7 +29,7 @@ pub(crate) fn sign<W: MessageWrite>(
     key: &IntegrityKey<'_>,
     algorithm: IntegrityAlgorithm,
 ) -> Result<(), StunWriteError>
-    requires begun { IsBegun (W.draft writer.old).bytes }
+    requires started { IsStarted (W.draft writer.old).bytes }
     ensures ok { OnOk result (IsAdded (signature algorithm key.now.bytes (W.draft writer.old).bytes)
         (W.draft writer.old) (W.draft writer.new)) }
     ensures err { OnErr result (W.draft writer.new ≡ W.draft writer.old) }
@@ -42,29 +42,29 @@ pub(crate) fn sign<W: MessageWrite>(
         return Err(StunWriteError::IntegrityFailed);
     }
     let end = end_of_add(&*writer, 4 + hmac_length(algorithm))?;
-    let told = length_told(writer.data());
+    let decoded = length_decoded(writer.data());
     writer.set_length((end - MessageHeader::LENGTH) as u16);
     let hmac = key.hmac(writer.data(), &[], &[]);
     let attribute = RawAttribute::new(attribute_type(algorithm), hmac.as_slice());
     match push_as(writer, &attribute, &attribute) {
         Ok(()) => Ok(()),
         Err(_) => {
-            writer.set_length(told);
+            writer.set_length(decoded);
             Err(StunWriteError::NoMemory)
         }
     }
 }
 
-/// The length that the header of a message tells: to write it again undoes that another was written.
-fn length_told(bytes: &[u8]) -> u16
+/// Returns the length field of a message's header. Writing it back undoes a change of the field.
+fn length_decoded(bytes: &[u8]) -> u16
     requires { header_size ≤ length bytes.now }
     ensures { (n : ℕ) → with_length (with_length bytes.now n) result ≡ bytes.now }
 {
     u16::from_be_bytes([bytes[2], bytes[3]])
 }
 
-/// `push_attribute_unchecked` of an attribute whose type is known. The two are one value, as a `dyn`
-/// and as itself.
+/// Calls `push_attribute_unchecked` with an attribute whose type is known. `attribute` and `same`
+/// are one value, as a `dyn` and as itself.
 pub(crate) fn push_as<W: MessageWrite, A: AttributeWrite>(
     writer: &mut W,
     attribute: &dyn AttributeWrite,

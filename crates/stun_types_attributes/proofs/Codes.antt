@@ -1,4 +1,4 @@
--- What an ERROR-CODE writes is read as that code and reason.
+-- An encoded ERROR-CODE is decoded as the same code and reason phrase.
 use Rattle.std.proofs.Common.{◌≡◌, ℕ, ◌+◌, ◌*◌, ◌/◌, ◌%◌, ◌≤◌, length, None, sym, ap, ◌∙◌, arith}
 use Rattle.std.proofs.lemmas.Grind.{common_steps}
 use Rattle.stun_types_write.specs.Adding.{attr_of}
@@ -6,20 +6,20 @@ use Rattle.stun_types_write.specs.ValueReading.{utf8_refusal}
 use Rattle.stun_types_write.proofs.Values.{value_is_accepted}
 use Rattle.stun_types_wire.specs.Registry.{longest_text}
 use Rattle.stun_types_attributes.specs.ErrorCodes.{CodeAndReason, error_value}
-use Rattle.stun_types_attributes.specs.ErrorCodeReading.{code_refusal, error_told, error_read_refusal}
+use Rattle.stun_types_attributes.specs.ErrorCodeReading.{code_refusal, error_decoded, error_read_refusal}
 
 code_again : (n : ℕ) → 100 * (n / 100) + n % 100 ≡ n
 code_again n = omega arith
 
--- a value tells the code and the reason that were written
-pub told_again : (e : CodeAndReason) → error_told (error_value e) ≡ e
-told_again e = ap (λ n. let told : CodeAndReason = record { code = n; reason = e.reason } in told) (code_again e.code)
+-- Decoding an encoded ERROR-CODE gives its code and its reason phrase.
+pub decoded_again : (e : CodeAndReason) → error_decoded (error_value e) ≡ e
+decoded_again e = ap (λ n. let decoded : CodeAndReason = record { code = n; reason = e.reason } in decoded) (code_again e.code)
 
--- two with one value are one
+-- Two ERROR-CODEs with the same value are equal.
 pub same_error : (d e : CodeAndReason) → error_value d ≡ error_value e → d ≡ e
-same_error d e h = sym (told_again d) ∙ ap error_told h ∙ told_again e
+same_error d e h = sym (decoded_again d) ∙ ap error_decoded h ∙ decoded_again e
 
--- a code in its range is not refused
+-- A code from 300 to 699 is not refused.
 pub code_is_accepted : (e : CodeAndReason) → 300 ≤ e.code → e.code ≤ 699 → code_refusal (error_value e) ≡ None
 unfolding code_refusal
 code_is_accepted e least most =
@@ -28,11 +28,11 @@ code_is_accepted e least most =
     let d : e.code % 100 ≤ 99 = omega arith in
     grind (arith, common_steps, a, b, d)
 
--- what is written is not refused
+-- An encoded ERROR-CODE is not refused.
 pub error_is_accepted : (e : CodeAndReason) → 300 ≤ e.code → e.code ≤ 699 → length e.reason ≤ longest_text → utf8_refusal e.reason ≡ None → error_read_refusal (attr_of 9 (error_value e)) ≡ None
 unfolding error_read_refusal
 error_is_accepted e least most short text =
     rw (value_is_accepted 9 4 (4 + longest_text) (error_value e) (omega arith) (omega arith)) (rw (code_is_accepted e least most) text)
 
--- an error is written, and read
-pub ruleset error_values = (error_is_accepted, told_again, same_error)
+-- The rules for encoding an ERROR-CODE and decoding it.
+pub ruleset error_values = (error_is_accepted, decoded_again, same_error)

@@ -1,4 +1,4 @@
--- Addresses in bytes (RFC 8489, section 14.1).
+-- Encoded addresses (RFC 8489, section 14.1).
 use Rattle.std.specs.Prelude.{ℕ, ◌==◌, not, nat_lt, List, ◌∷◌, ◌++◌, length, drop, slice_index, Option, Some, None, if◌then◌else◌}
 use Rattle.std.specs.declared.net.socket_addr.SocketAddr.{SocketAddr}
 use Rattle.std.specs.declared.net.socket_addr.SocketAddr.TheVariants.{V4, V6}
@@ -10,20 +10,20 @@ use Rattle.stun_types_wire.specs.declared.error.StunParseError.TheVariants.{Trun
 use Rattle.stun_types_wire.specs.Attributes.{Attr}
 use Rattle.stun_types_wire.specs.Registry.{ipv4_family, ipv4_value_size, ipv6_family, ipv6_value_size}
 
--- a zero, the family, the port, the octets of the address
+-- A zero, the family, the port, the octets of the address.
 abbrev pub value_of_parts : ℕ → ℕ → List ℕ → List ℕ
 value_of_parts family port octets = 0 ∷ family ∷ (big_bytes 2 port ++ octets)
 
--- the value of an address
+-- The encoding of an address.
 abbrev pub address_value : SocketAddr → List ℕ
 address_value (V4 a) = value_of_parts ipv4_family (v4_port a) (ipv4_octets (v4_ip a))
 address_value (V6 a) = value_of_parts ipv6_family (v6_port a) (ipv6_octets (v6_ip a))
 
--- the address of IPv4 behind the family
+-- The IPv4 address and port that follow the family.
 abbrev pub v4_of : List ℕ → SocketAddr
 v4_of value = V4 (record { ip = record { octets = drop 4 value }; port = big_number 2 (drop 2 value) })
 
--- the address of IPv6 behind the family, with no flow information and no scope
+-- The IPv6 address and port that follow the family, with flow information and scope 0.
 abbrev pub v6_of : List ℕ → SocketAddr
 v6_of value = V6 (record {
   ip = record { segments = segments_of (drop 4 value) };
@@ -32,26 +32,26 @@ v6_of value = V6 (record {
   scope_id = 0;
 })
 
--- the address that a value tells: none where the family is none
+-- The address decoded from a value: none if the family is unknown.
 abbrev pub address_of : List ℕ → Option SocketAddr
 address_of value =
     if slice_index value 1 == ipv4_family then Some (v4_of value)
     else if slice_index value 1 == ipv6_family then Some (v6_of value)
     else None
 
--- an address without the flow information and the scope, which have no bytes
+-- An address with flow information and scope 0, which are not encoded.
 abbrev pub on_the_wire : SocketAddr → SocketAddr
 on_the_wire (V4 a) = V4 a
 on_the_wire (V6 a) = V6 (record { ip = v6_ip a; port = v6_port a; flowinfo = 0; scope_id = 0 })
 
--- why a value has not exactly so many bytes
+-- Why a value doesn't have exactly n bytes.
 abbrev pub length_refusal : ℕ → List ℕ → Option StunParseError
 length_refusal n value =
     if nat_lt (length value) n then Some (Truncated n (length value))
     else if nat_lt n (length value) then Some (TooLarge n (length value))
     else None
 
--- why a value is no address: the family, which stands in the first four bytes, tells the length
+-- Why a value is not an address. The family, in the first four bytes, determines the length.
 unfoldable pub address_refusal : List ℕ → Option StunParseError
 address_refusal value =
     if nat_lt (length value) 4 then Some (Truncated 4 (length value))
@@ -59,11 +59,11 @@ address_refusal value =
     else if slice_index value 1 == ipv6_family then length_refusal ipv6_value_size value
     else Some InvalidAttributeData
 
--- why a type and a value are not an address of this type
+-- Why an attribute is not an address of this type.
 unfoldable pub address_read_refusal : ℕ → Attr → Option StunParseError
 address_read_refusal kind a = if not (a.kind == kind) then Some WrongAttributeImplementation
     else address_refusal a.value
 
--- a value as it is written again: the first byte is not looked at
+-- A value as it is encoded again after decoding, which ignores the first byte.
 abbrev pub address_again : List ℕ → List ℕ
 address_again value = 0 ∷ drop 1 value

@@ -1,31 +1,31 @@
--- Error codes and their reasons (RFC 8489, section 14.8; RFC 8656, section 19).
+-- Error codes and their reason phrases (RFC 8489, section 14.8; RFC 8656, section 19).
 use Rattle.std.specs.Prelude.{ℕ, ◌/◌, ◌%◌, ◌==◌, ◌||◌, nat_lt, List, ◌∷◌, codes, Option, Some, unwrap_or, if◌then◌else◌}
 use Rattle.stun_types_wire.specs.declared.error.StunWriteError.{StunWriteError}
 use Rattle.stun_types_wire.specs.declared.error.StunWriteError.TheVariants.{OutOfRange}
 use Rattle.stun_types_auth_attributes.specs.Texts.{text_refusal}
 use Rattle.stun_types_wire.specs.Registry.{longest_text, allocation_mismatch_code, bad_request_code, connection_exists_code, connection_failure_code, family_mismatch_code, family_not_supported_code, forbidden_code, greatest_code, insufficient_capacity_code, least_code, quota_reached_code, role_conflict_code, server_error_code, stale_nonce_code, try_alternate_code, unauthorized_code, unknown_attribute_code, unsupported_transport_code, wrong_credentials_code}
 
--- a code and the bytes of its reason
+-- A code and the bytes of its reason phrase.
 pub record CodeAndReason : Type 0 where
   pub code : ℕ
   pub reason : List ℕ
 
--- a code, and another reason than the one that goes with it
+-- A code, and a reason phrase that replaces the default one, if there is one.
 pub record CodeAndOther : Type 0 where
   pub code : ℕ
   pub reason : Option (List ℕ)
 
--- the value: two zeros, the hundreds of the code, the rest of it, the reason
+-- The value: two zeros, the hundreds of the code, the rest of it, the reason phrase.
 abbrev pub error_value : CodeAndReason → List ℕ
 error_value e = 0 ∷ 0 ∷ (e.code / 100) ∷ (e.code % 100) ∷ e.reason
 
--- why no attribute is made of a code and a reason: the code's cause comes first
+-- Why an ERROR-CODE can't be made of a code and a reason phrase. The code is checked first.
 unfoldable pub error_refusal : ℕ → List ℕ → Option StunWriteError
 error_refusal code reason = if nat_lt code least_code || nat_lt greatest_code code
     then Some (OutOfRange code least_code greatest_code)
     else text_refusal longest_text reason
 
--- the reason that goes with a code
+-- The default reason phrase of a code.
 abbrev pub reason_for : ℕ → List ℕ
 reason_for code =
     if code == try_alternate_code then codes "Try Alternate"
@@ -47,6 +47,6 @@ reason_for code =
     else if code == insufficient_capacity_code then codes "Insufficient Capacity"
     else codes "Unknown"
 
--- the reason that is told
+-- The reason phrase that is used: the other one, or else the default of the code.
 abbrev pub reason_of : CodeAndOther → List ℕ
-reason_of told = unwrap_or told.reason (reason_for told.code)
+reason_of decoded = unwrap_or decoded.reason (reason_for decoded.code)

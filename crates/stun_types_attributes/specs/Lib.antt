@@ -4,5 +4,5 @@ pub mod ErrorCodes
 pub mod ErrorCodeReading
 pub mod TypeMarks
 pub mod UnknownTypes
--- What stands above this crate has these through it.
+-- Crates that depend on this one use these definitions through it.
 pub use Rattle.stun_types_auth_attributes.specs as AuthAttributes

@@ -18,7 +18,7 @@ use stun_types_write::attribute::{
     Attribute, AttributeFromRaw, AttributeStaticType, AttributeWrite,
 };
 
-/// The address of another server that the client should try, in plain (RFC 8489, section 14.15).
+/// The address of another server that the client should try, not xored (RFC 8489, section 14.15).
 /// Contracts see the bytes of the value.
 #[derive(Debug, Drop)]
 pub struct AlternateServer {
@@ -34,7 +34,8 @@ impl Model for AlternateServer {
 }
 
 impl AlternateServer {
-    /// The attribute of an address. Flow information and scope have no bytes.
+    /// Makes an ALTERNATE-SERVER of an address. The flow information and the scope of an IPv6
+    /// address are not encoded.
     pub fn new(server: SocketAddr) -> AlternateServer
         ensures { result ≡ address_value server }
     {
@@ -43,9 +44,9 @@ impl AlternateServer {
         }
     }
 
-    /// The address, with no flow information and no scope.
+    /// Returns the address, with flow information and scope 0.
     pub fn server(&self) -> SocketAddr
-        ensures told { Some result ≡ address_of self.now }
+        ensures decoded { Some result ≡ address_of self.now }
         ensures value { address_value result ≡ self.now }
     {
         self.addr.addr()
@@ -82,10 +83,16 @@ impl AttributeWrite for AlternateServer {
     }
 }
 
-/// A plain address. Its first byte is not looked at. Refused, in this order:
-/// `WrongAttributeImplementation` where it is another type, `Truncated` where the value has fewer than
-/// four bytes, `InvalidAttributeData` where the family is unknown, `Truncated` or `TooLarge` where it
-/// has not the 8 bytes of IPv4 or the 20 of IPv6.
+/// Decodes an address that is not xored. The first byte of the value is ignored.
+///
+/// # Errors
+///
+/// In this order:
+///
+/// - `WrongAttributeImplementation`: the type is another one.
+/// - `Truncated`: the value has fewer than four bytes.
+/// - `InvalidAttributeData`: the family is unknown.
+/// - `Truncated` or `TooLarge`: the length of the value is not 8 bytes for IPv4, or 20 for IPv6.
 impl<'a, 'raw> TryFrom<&'raw RawAttribute<'a>> for AlternateServer {
     ghost use Rattle.std.specs.Prelude.{◌≡◌, MatchResult, Some, None};
     ghost use Rattle.stun_types_write.specs.ValueReading.{IsNamed};
@@ -104,7 +111,7 @@ impl<'a, 'raw> TryFrom<&'raw RawAttribute<'a>> for AlternateServer {
     }
 }
 
-/// Refused as `try_from` is; no memory is taken.
+/// Decodes the attribute as `try_from` does, with the same errors. It allocates nothing.
 impl<'a> AttributeFromRaw<'a> for AlternateServer {
     ghost use Rattle.std.specs.Prelude.{false};
     ghost use Rattle.stun_types_attributes.specs.Addresses.{address_again, address_read_refusal};
@@ -127,7 +134,7 @@ impl<'a> AttributeFromRaw<'a> for AlternateServer {
         AlternateServer::from_raw_ref(alloc, &raw)
     }
 
-    fn is_read_back(&self, _read: &AlternateServer) {
-        self.addr.is_read_back();
+    fn proof_is_read_back(&self, _read: &AlternateServer) {
+        self.addr.proof_is_read_back();
     }
 }

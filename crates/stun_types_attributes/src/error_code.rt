@@ -6,7 +6,7 @@ ghost use Rattle.stun_types_base.specs.Refusals.{RefusesFor};
 ghost use Rattle.stun_types_write.specs.ValueReading.{IsNamed};
 ghost use Rattle.stun_types_wire.specs.Registry.{longest_text, error_code_kind, greatest_code, least_code};
 ghost use Rattle.stun_types_attributes.specs.ErrorCodes.{CodeAndReason, error_refusal, reason_for, reason_of};
-ghost use Rattle.stun_types_attributes.specs.ErrorCodeReading.{code_refusal, error_read_refusal, error_told};
+ghost use Rattle.stun_types_attributes.specs.ErrorCodeReading.{code_refusal, error_read_refusal, error_decoded};
 ghost use Rattle.stun_types_write.specs.ValueReading.{utf8_refusal};
 
 use std::alloc::Global;
@@ -18,10 +18,10 @@ use stun_types_wire::registry;
 use stun_types_write::attribute::{
     Attribute, AttributeFromRaw, AttributeStaticType, AttributeWrite,
 };
-use stun_types_write::reading::{read_text, text_is_read, value_of};
+use stun_types_write::reading::{proof_text_is_read, read_text, value_of};
 use stun_types_write::text::write_attribute_in_two;
 
-/// Why a request is refused: a code from 300 to 699, and a reason of at most 763 bytes.
+/// Why a request is rejected: a code from 300 to 699, and a reason phrase of at most 763 bytes.
 #[derive(Debug, Drop)]
 pub struct ErrorCode {
     code: u16,
@@ -50,45 +50,51 @@ impl ErrorCode {
     pub const BAD_REQUEST: u16 = registry::BAD_REQUEST;
     /// The request lacks the right credentials.
     pub const UNAUTHORIZED: u16 = registry::UNAUTHORIZED;
-    /// The request is right, and not allowed.
+    /// The request is valid but not permitted.
     pub const FORBIDDEN: u16 = registry::FORBIDDEN;
-    /// The request has an attribute that has to be understood, and is not.
+    /// The request has a comprehension-required attribute that the server does not understand.
     pub const UNKNOWN_ATTRIBUTE: u16 = registry::UNKNOWN_ATTRIBUTE;
-    /// There is no allocation where one is needed, or the other way round.
+    /// There is no allocation where one is needed, or there is one where none may be.
     pub const ALLOCATION_MISMATCH: u16 = registry::ALLOCATION_MISMATCH;
     /// The nonce is no longer valid.
     pub const STALE_NONCE: u16 = registry::STALE_NONCE;
-    /// The server has no addresses of the family.
+    /// The server has no addresses of the requested family.
     pub const ADDRESS_FAMILY_NOT_SUPPORTED: u16 = registry::ADDRESS_FAMILY_NOT_SUPPORTED;
     /// The credentials are not those of the allocation.
     pub const WRONG_CREDENTIALS: u16 = registry::WRONG_CREDENTIALS;
-    /// The transport is not supported.
+    /// The requested transport is not supported.
     pub const UNSUPPORTED_TRANSPORT_PROTOCOL: u16 = registry::UNSUPPORTED_TRANSPORT_PROTOCOL;
     /// The peer is of another family than the allocation.
     pub const PEER_ADDRESS_FAMILY_MISMATCH: u16 = registry::PEER_ADDRESS_FAMILY_MISMATCH;
-    /// There is a connection to the peer already.
+    /// There already is a connection to the peer.
     pub const CONNECTION_ALREADY_EXISTS: u16 = registry::CONNECTION_ALREADY_EXISTS;
     /// The connection to the peer failed.
     pub const CONNECTION_TIMEOUT_OR_FAILURE: u16 = registry::CONNECTION_TIMEOUT_OR_FAILURE;
-    /// The user has as many allocations as are allowed.
+    /// The user has as many allocations as the server permits.
     pub const ALLOCATION_QUOTA_REACHED: u16 = registry::ALLOCATION_QUOTA_REACHED;
-    /// Both ICE agents have one role.
+    /// Both ICE agents have the same role.
     pub const ROLE_CONFLICT: u16 = registry::ROLE_CONFLICT;
     /// The server failed.
     pub const SERVER_ERROR: u16 = registry::SERVER_ERROR;
-    /// The server lacks what the request needs.
+    /// The server lacks the capacity for the request.
     pub const INSUFFICIENT_CAPACITY: u16 = registry::INSUFFICIENT_CAPACITY;
 
     /// The least code.
     pub const MIN_CODE: u16 = registry::MIN_ERROR_CODE;
     /// The greatest code.
     pub const MAX_CODE: u16 = registry::MAX_ERROR_CODE;
-    /// How many bytes a reason has at most.
+    /// The maximum length of a reason phrase in bytes.
     pub const MAX_REASON_LEN: usize = registry::MAX_TEXT_LENGTH;
 
-    /// An ERROR-CODE of a code and a reason. Refused, in this order: `OutOfRange` where the code is
-    /// not from 300 to 699, `TooLarge` where the reason has more than 763 bytes; where memory is
-    /// refused, `NoMemory`.
+    /// Makes an ERROR-CODE of a code and a reason phrase.
+    ///
+    /// # Errors
+    ///
+    /// In this order:
+    ///
+    /// - `OutOfRange`: the code is not from 300 to 699.
+    /// - `TooLarge`: the reason phrase has more than 763 bytes.
+    /// - `NoMemory`: an allocation failed.
     #[tactic(auto, unfolding(crate::specs::ErrorCodes::error_refusal))]
     pub fn new(alloc: Global, code: u16, reason: &str) -> Result<ErrorCode, StunWriteError>
         ensures ok { IfOk result (λ made. (made.code ≡ code) × (made.reason ≡ reason.now)
@@ -114,7 +120,7 @@ impl ErrorCode {
         })
     }
 
-    /// A builder of an ERROR-CODE with this code, and the reason that goes with it.
+    /// Returns a builder of an ERROR-CODE with this code and its default reason phrase.
     pub fn builder<'reason>(code: u16) -> ErrorCodeBuilder<'reason>
         ensures code { result.code ≡ code }
         ensures reason { result.reason ≡ None }
@@ -122,7 +128,7 @@ impl ErrorCode {
         ErrorCodeBuilder { code, reason: None }
     }
 
-    /// The code, from 300 to 699.
+    /// Returns the code, from 300 to 699.
     pub fn code(&self) -> u16
         ensures value { result ≡ self.now.code }
         ensures least { least_code ≤ result }
@@ -131,7 +137,7 @@ impl ErrorCode {
         self.code
     }
 
-    /// The reason.
+    /// Returns the reason phrase.
     pub fn reason(&self) -> &str
         ensures value { result.now ≡ self.now.reason }
         ensures short { length result.now ≤ longest_text }
@@ -139,7 +145,7 @@ impl ErrorCode {
         self.reason.as_str()
     }
 
-    /// The reason that goes with a code: `Unknown` for a code that has none.
+    /// Returns the default reason phrase of a code, or `Unknown` for a code that has none.
     pub fn default_reason_for_code(code: u16) -> &'static str
         ensures { result.now ≡ reason_for code }
     {
@@ -166,7 +172,7 @@ impl ErrorCode {
     }
 }
 
-/// Makes an ERROR-CODE of a code, with the reason that goes with it or another.
+/// Builds an ERROR-CODE of a code, with its default reason phrase or another one.
 #[derive(Debug, Drop)]
 pub struct ErrorCodeBuilder<'reason> {
     code: u16,
@@ -183,7 +189,7 @@ impl<'reason> Model for ErrorCodeBuilder<'reason> {
 }
 
 impl<'reason> ErrorCodeBuilder<'reason> {
-    /// The same code with another reason.
+    /// Replaces the reason phrase.
     pub fn reason(self, reason: &'reason str) -> ErrorCodeBuilder<'reason>
         ensures code { result.code ≡ self.entry.code }
         ensures reason { result.reason ≡ Some reason.now }
@@ -194,7 +200,7 @@ impl<'reason> ErrorCodeBuilder<'reason> {
         }
     }
 
-    /// The ERROR-CODE. Refused as `ErrorCode::new` is.
+    /// Makes the ERROR-CODE. Fails as `ErrorCode::new` does.
     pub fn build(self, alloc: Global) -> Result<ErrorCode, StunWriteError>
         ensures ok { IfOk result (λ made. (made.code ≡ self.entry.code)
             × (made.reason ≡ reason_of self.entry) ×
@@ -250,16 +256,26 @@ impl AttributeWrite for ErrorCode {
     }
 }
 
-/// A code and a reason. The first two bytes are not looked at; the third is the hundreds of the code,
-/// whole. A value of fewer than 4 bytes is `Truncated`, one of more than 767 `TooLarge`, and a code
-/// outside its range or a reason that is not UTF-8 `InvalidAttributeData`.
+/// Decodes a code and a reason phrase. The first two bytes of the value are ignored. The third
+/// byte, all eight bits of it, is the hundreds of the code, from 3 to 6. The fourth is the rest,
+/// from 0 to 99.
+///
+/// # Errors
+///
+/// In this order:
+///
+/// - `WrongAttributeImplementation`: the type is another one.
+/// - `Truncated`: the value has fewer than 4 bytes.
+/// - `TooLarge`: the value has more than 767 bytes.
+/// - `InvalidAttributeData`: the code is out of range, or the reason phrase is not UTF-8.
+/// - `NoMemory`: an allocation failed.
 impl<'a> AttributeFromRaw<'a> for ErrorCode {
     ghost use Rattle.stun_types_attributes.specs.ErrorCodes.{error_value};
-    ghost use Rattle.stun_types_attributes.specs.ErrorCodeReading.{error_read_refusal, error_told};
+    ghost use Rattle.stun_types_attributes.specs.ErrorCodeReading.{error_read_refusal, error_decoded};
 
     ghost read_refusal = { error_read_refusal };
 
-    ghost read_value = { λ value. error_value (error_told value) };
+    ghost read_value = { λ value. error_value (error_decoded value) };
 
     #[tactic(auto, unfolding(crate::specs::ErrorCodeReading::error_read_refusal))]
     fn from_raw_ref(alloc: Global, raw: &RawAttribute<'_>) -> Result<ErrorCode, StunParseError> {
@@ -276,21 +292,21 @@ impl<'a> AttributeFromRaw<'a> for ErrorCode {
     }
 
     #[tactic(auto, using(crate::proofs::Codes::error_values))]
-    fn is_read_back(&self, _read: &ErrorCode) {
-        text_is_read(self.reason(), ErrorCode::MAX_REASON_LEN);
+    fn proof_is_read_back(&self, _read: &ErrorCode) {
+        proof_text_is_read(self.reason(), ErrorCode::MAX_REASON_LEN);
         let _ = self.code();
     }
 }
 
-/// The code and the reason in a value of at least four bytes. Refused with `InvalidAttributeData` where
-/// the code is outside its range or the reason is not UTF-8.
+/// Decodes the code and the reason phrase of a value of at least four bytes. Fails with
+/// `InvalidAttributeData` if the code is out of range or the reason phrase is not UTF-8.
 #[tactic(auto, unfolding(crate::specs::ErrorCodeReading::code_refusal))]
 fn read_code(value: &[u8]) -> Result<(u16, &str), StunParseError>
     requires { 4 ≤ length value.now }
-    ensures { MatchResult result (λ told. (code_refusal value.now ≡ None)
-        × (utf8_refusal (drop 4 value.now) ≡ None) × (told.0 ≡ (error_told value.now).code)
-        × (told.1.now ≡ (error_told value.now).reason) × (least_code ≤ told.0)
-        × (told.0 ≤ greatest_code))
+    ensures { MatchResult result (λ decoded. (code_refusal value.now ≡ None)
+        × (utf8_refusal (drop 4 value.now) ≡ None) × (decoded.0 ≡ (error_decoded value.now).code)
+        × (decoded.1.now ≡ (error_decoded value.now).reason) × (least_code ≤ decoded.0)
+        × (decoded.0 ≤ greatest_code))
         (IsNamed (option_or (code_refusal value.now) (utf8_refusal (drop 4 value.now)))) }
 {
     let (hundreds, rest) = (value[2], value[3]);
@@ -302,12 +318,12 @@ fn read_code(value: &[u8]) -> Result<(u16, &str), StunParseError>
 }
 
 impl ErrorCode {
-    /// The code that an attribute tells, from 300 to 699, whatever its reason says. Takes no memory.
-    /// Refused as reading the attribute is.
+    /// Decodes the code alone, from 300 to 699. Fails as decoding the whole attribute does, but
+    /// allocates nothing.
     #[tactic(auto, unfolding(crate::specs::ErrorCodeReading::error_read_refusal))]
     pub fn code_of(raw: &RawAttribute<'_>) -> Result<u16, StunParseError>
         ensures { MatchResult result (λ code. (error_read_refusal raw.now ≡ None)
-            × (code ≡ (error_told raw.now.value).code))
+            × (code ≡ (error_decoded raw.now.value).code))
             (IsNamed (error_read_refusal raw.now)) }
     {
         let value = value_of(raw, ErrorCode::TYPE, 4, 4 + ErrorCode::MAX_REASON_LEN)?;
@@ -315,7 +331,8 @@ impl ErrorCode {
         Ok(code)
     }
 
-    /// The value before the reason: two zeros, the hundreds of the code, the rest of it.
+    /// Returns the part of the value before the reason phrase: two zeros, the hundreds of the code,
+    /// and the rest of it.
     fn code_bytes(&self) -> [u8; 4]
         ensures { result ≡ 0 ∷ 0 ∷ (self.now.code / 100) ∷ (self.now.code % 100) ∷ [] }
     {

@@ -1,5 +1,5 @@
-//! Attributes of STUN (RFC 8489, section 14; RFC 5780): those that hold an address, plain or
-//! xored, ERROR-CODE and UNKNOWN-ATTRIBUTES.
+//! STUN attributes (RFC 8489, section 14; RFC 5780): those that hold an address, xored or not,
+//! ERROR-CODE and UNKNOWN-ATTRIBUTES.
 #![tactic(auto)]
 
 pub mod alternate_server;

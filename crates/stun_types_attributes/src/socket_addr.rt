@@ -1,4 +1,4 @@
-//! Plain and xored addresses.
+//! Encoded addresses, xored or not.
 
 ghost use Rattle.std.specs.Prelude.{◌≡◌, ◌+◌, ◌≤◌, ◌++◌, ℕ, length, drop, None, Some, IfOk, MatchResult};
 ghost use Rattle.stun_types_write.specs.ValueReading.{IsNamed};
@@ -8,7 +8,9 @@ ghost use Rattle.stun_types_write.specs.Adding.{attr_of};
 ghost use Rattle.stun_types_attributes.specs.Addresses.{address_again, address_of, address_read_refusal, address_refusal, address_value, on_the_wire};
 ghost use Rattle.stun_types_attributes.specs.Xor.{xored};
 
-use crate::octets::{front_of, read_address, segments_are_told, without_scope, xor_address};
+use crate::octets::{
+    head_of, proof_segments_are_decoded, read_address, without_scope, xor_address,
+};
 use std::alloc::Global;
 use std::marker::Model;
 use std::net::SocketAddr;
@@ -19,9 +21,9 @@ use stun_types_wire::registry::{IPV4_FAMILY, IPV6_FAMILY};
 use stun_types_wire::transaction::TransactionId;
 use stun_types_write::text::write_attribute_in_two;
 
-/// An address and a port as they stand in an attribute: a zero, the family, the port, and the 4 or 16
-/// bytes of the address (RFC 8489, section 14.1). Flow information and scope have no bytes. Contracts
-/// see the bytes.
+/// An address and a port as encoded in an attribute: a zero, the family, the port, and the 4 or 16
+/// bytes of the address (RFC 8489, section 14.1). The flow information and the scope of an IPv6
+/// address are not encoded. Contracts see the bytes.
 #[derive(Debug, Drop)]
 pub struct MappedSocketAddr {
     addr: SocketAddr,
@@ -40,7 +42,7 @@ impl Model for MappedSocketAddr {
 }
 
 impl MappedSocketAddr {
-    /// The value of an address.
+    /// Encodes an address.
     pub fn new(addr: SocketAddr) -> MappedSocketAddr
         ensures { result ≡ address_value addr }
     {
@@ -49,10 +51,16 @@ impl MappedSocketAddr {
         }
     }
 
-    /// The address in the value of an attribute of any type. Its first byte is not looked at. Refused,
-    /// in this order: `Truncated` where it has fewer than four bytes, `InvalidAttributeData` where the
-    /// family is not 1 or 2, `Truncated` or `TooLarge` where it has not the 8 bytes of IPv4 or the 20
-    /// of IPv6.
+    /// Decodes the address in an attribute of any type. The first byte of the value is ignored.
+    ///
+    /// # Errors
+    ///
+    /// In this order:
+    ///
+    /// - `Truncated`: the value has fewer than four bytes.
+    /// - `InvalidAttributeData`: the family is not 1 or 2.
+    /// - `Truncated` or `TooLarge`: the length of the value is not 8 bytes for IPv4, or 20 for
+    ///   IPv6.
     pub fn from_raw(raw: &RawAttribute<'_>) -> Result<MappedSocketAddr, StunParseError>
         ensures { MatchResult result (λ read. (address_refusal raw.now.value ≡ None)
             × (read ≡ address_again raw.now.value)) (IsNamed (address_refusal raw.now.value)) }
@@ -61,8 +69,8 @@ impl MappedSocketAddr {
         Ok(MappedSocketAddr { addr })
     }
 
-    /// The address in the value of an attribute of this type. Refused with
-    /// `WrongAttributeImplementation` where it has another type, and then as `from_raw` is.
+    /// Decodes the address in an attribute of this type. Fails with `WrongAttributeImplementation`
+    /// if the attribute has another type, and then as `from_raw` does.
     #[tactic(auto, unfolding(crate::specs::Addresses::address_read_refusal))]
     pub fn from_raw_of_type(
         raw: &RawAttribute<'_>,
@@ -78,15 +86,15 @@ impl MappedSocketAddr {
         MappedSocketAddr::from_raw(raw)
     }
 
-    /// The address, with no flow information and no scope.
+    /// Returns the address, with flow information and scope 0.
     pub fn addr(&self) -> SocketAddr
-        ensures told { Some result ≡ address_of self.now }
+        ensures decoded { Some result ≡ address_of self.now }
         ensures value { address_value result ≡ self.now }
     {
         self.addr
     }
 
-    /// The length of the value in bytes, 8 or 20.
+    /// Returns the length of the value in bytes, 8 or 20.
     pub fn length(&self) -> u16
         ensures { result ≡ length self.now }
     {
@@ -96,7 +104,8 @@ impl MappedSocketAddr {
         }
     }
 
-    /// The value as an attribute of a type. Where memory is refused, `NoMemory`.
+    /// Returns an attribute of a type with this value. Fails only with `NoMemory`, if an allocation
+    /// fails.
     pub fn to_raw<'b>(
         &self,
         alloc: Global,
@@ -107,19 +116,19 @@ impl MappedSocketAddr {
         let mut value = Vec::with_capacity(alloc, self.length() as usize)?;
         match self.addr {
             SocketAddr::V4(v4) => {
-                value.extend_from_slice(&front_of(IPV4_FAMILY, v4.port()))?;
+                value.extend_from_slice(&head_of(IPV4_FAMILY, v4.port()))?;
                 value.extend_from_slice(&v4.ip().octets())?;
             }
             SocketAddr::V6(v6) => {
-                value.extend_from_slice(&front_of(IPV6_FAMILY, v6.port()))?;
+                value.extend_from_slice(&head_of(IPV6_FAMILY, v6.port()))?;
                 value.extend_from_slice(&v6.ip().octets())?;
             }
         }
         Ok(RawAttribute::new_owned(atype, value.into_boxed_slice()))
     }
 
-    /// Writes an attribute of this type and value to the front of bytes that are enough, padding
-    /// included.
+    /// Writes an attribute of a type with this value to the first bytes of `dest`, padding
+    /// included. `dest` must have room for it.
     pub fn write_into_unchecked(&self, atype: AttributeType, dest: &mut [u8])
         requires { 4 + padded (length self.now) ≤ length dest.old }
         ensures { dest.new ≡ attribute_text (attr_of atype.0 self.now)
@@ -129,7 +138,7 @@ impl MappedSocketAddr {
             SocketAddr::V4(v4) => {
                 write_attribute_in_two(
                     atype,
-                    &front_of(IPV4_FAMILY, v4.port()),
+                    &head_of(IPV4_FAMILY, v4.port()),
                     &v4.ip().octets(),
                     dest,
                 );
@@ -137,7 +146,7 @@ impl MappedSocketAddr {
             SocketAddr::V6(v6) => {
                 write_attribute_in_two(
                     atype,
-                    &front_of(IPV6_FAMILY, v6.port()),
+                    &head_of(IPV6_FAMILY, v6.port()),
                     &v6.ip().octets(),
                     dest,
                 );
@@ -145,20 +154,20 @@ impl MappedSocketAddr {
         }
     }
 
-    /// Says that the value is read as itself. It does nothing.
-    #[tactic(auto, using(crate::proofs::Bytes::value_kept, crate::proofs::Bytes::value_accepted))]
-    pub fn is_read_back(&self)
+    /// Proof only. Decoding accepts the value and leaves it unchanged.
+    #[tactic(auto, using(crate::proofs::Bytes::value_stored, crate::proofs::Bytes::value_accepted))]
+    pub fn proof_is_read_back(&self)
         ensures value { address_refusal self.now ≡ None }
         ensures accepted { (kind : ℕ) → address_read_refusal kind (attr_of kind self.now) ≡ None }
-        ensures kept { address_again self.now ≡ self.now }
+        ensures stored { address_again self.now ≡ self.now }
     {
         let _ = &self.addr;
     }
 }
 
-/// An address xored with the cookie, and for IPv6 the number of the transaction behind it; its port is
-/// xored with the top half of the cookie (RFC 8489, section 14.2). Contracts see the bytes, as they
-/// stand in an attribute.
+/// A xored address (RFC 8489, section 14.2). An IPv4 address is xored with the magic cookie, an
+/// IPv6 address with the magic cookie followed by the transaction ID, and the port with the top 16
+/// bits of the cookie. Contracts see the bytes as they are encoded in an attribute.
 #[derive(Debug, Drop)]
 pub struct XorSocketAddr {
     masked: MappedSocketAddr,
@@ -173,38 +182,38 @@ impl Model for XorSocketAddr {
 }
 
 impl XorSocketAddr {
-    /// The value of an address under a number.
-    pub fn new(addr: SocketAddr, number: TransactionId) -> XorSocketAddr
-        ensures { result ≡ xored number (address_value addr) }
+    /// Encodes an address, xored for a transaction ID.
+    pub fn new(addr: SocketAddr, transaction_id: TransactionId) -> XorSocketAddr
+        ensures { result ≡ xored transaction_id (address_value addr) }
     {
         XorSocketAddr {
-            masked: MappedSocketAddr::new(XorSocketAddr::xor_addr(addr, number)),
+            masked: MappedSocketAddr::new(XorSocketAddr::xor_addr(addr, transaction_id)),
         }
     }
 
-    /// The address under a number, with no flow information and no scope.
-    pub fn addr(&self, number: TransactionId) -> SocketAddr
-        ensures told { Some result ≡ address_of (xored number self.now) }
-        ensures value { address_value result ≡ xored number self.now }
+    /// Returns the address for a transaction ID, with flow information and scope 0.
+    pub fn addr(&self, transaction_id: TransactionId) -> SocketAddr
+        ensures decoded { Some result ≡ address_of (xored transaction_id self.now) }
+        ensures value { address_value result ≡ xored transaction_id self.now }
     {
-        XorSocketAddr::xor_addr(self.masked.addr(), number)
+        XorSocketAddr::xor_addr(self.masked.addr(), transaction_id)
     }
 
-    /// An address xored under a number. The same again is the address, without flow information and
-    /// scope.
-    pub fn xor_addr(addr: SocketAddr, number: TransactionId) -> SocketAddr
-        ensures told { Some result ≡ address_of (xored number (address_value addr)) }
-        ensures value { address_value result ≡ xored number (address_value addr) }
-        ensures undone { address_of (xored number (address_value result))
+    /// Xors an address for a transaction ID. Doing so twice gives the address again, with flow
+    /// information and scope 0.
+    pub fn xor_addr(addr: SocketAddr, transaction_id: TransactionId) -> SocketAddr
+        ensures decoded { Some result ≡ address_of (xored transaction_id (address_value addr)) }
+        ensures value { address_value result ≡ xored transaction_id (address_value addr) }
+        ensures undone { address_of (xored transaction_id (address_value result))
             ≡ Some (on_the_wire addr) }
     {
-        value_is_told(addr);
-        xor_is_undone(addr, number);
-        xor_address(addr, number)
+        value_is_decoded(addr);
+        xor_is_undone(addr, transaction_id);
+        xor_address(addr, transaction_id)
     }
 
-    /// The xored address in the value of an attribute of any type. Refused as
-    /// `MappedSocketAddr::from_raw` is.
+    /// Decodes the xored address in an attribute of any type. Fails as `MappedSocketAddr::from_raw`
+    /// does.
     pub fn from_raw(raw: &RawAttribute<'_>) -> Result<XorSocketAddr, StunParseError>
         ensures { MatchResult result (λ read. (address_refusal raw.now.value ≡ None)
             × (read ≡ address_again raw.now.value)) (IsNamed (address_refusal raw.now.value)) }
@@ -213,8 +222,8 @@ impl XorSocketAddr {
         Ok(XorSocketAddr { masked })
     }
 
-    /// The xored address in the value of an attribute of this type. Refused as
-    /// `MappedSocketAddr::from_raw_of_type` is.
+    /// Decodes the xored address in an attribute of this type. Fails as
+    /// `MappedSocketAddr::from_raw_of_type` does.
     pub fn from_raw_of_type(
         raw: &RawAttribute<'_>,
         atype: AttributeType,
@@ -227,14 +236,15 @@ impl XorSocketAddr {
         Ok(XorSocketAddr { masked })
     }
 
-    /// The length of the value in bytes, 8 or 20.
+    /// Returns the length of the value in bytes, 8 or 20.
     pub fn length(&self) -> u16
         ensures { result ≡ length self.now }
     {
         self.masked.length()
     }
 
-    /// The value as an attribute of a type. Where memory is refused, `NoMemory`.
+    /// Returns an attribute of a type with this value. Fails only with `NoMemory`, if an allocation
+    /// fails.
     pub fn to_raw<'b>(
         &self,
         alloc: Global,
@@ -245,8 +255,8 @@ impl XorSocketAddr {
         self.masked.to_raw(alloc, atype)
     }
 
-    /// Writes an attribute of this type and value to the front of bytes that are enough, padding
-    /// included.
+    /// Writes an attribute of a type with this value to the first bytes of `dest`, padding
+    /// included. `dest` must have room for it.
     pub fn write_into_unchecked(&self, atype: AttributeType, dest: &mut [u8])
         requires { 4 + padded (length self.now) ≤ length dest.old }
         ensures { dest.new ≡ attribute_text (attr_of atype.0 self.now)
@@ -255,27 +265,27 @@ impl XorSocketAddr {
         self.masked.write_into_unchecked(atype, dest);
     }
 
-    /// Says that the value is read as itself. It does nothing.
-    pub fn is_read_back(&self)
+    /// Proof only. Decoding accepts the value and leaves it unchanged.
+    pub fn proof_is_read_back(&self)
         ensures value { address_refusal self.now ≡ None }
         ensures accepted { (kind : ℕ) → address_read_refusal kind (attr_of kind self.now) ≡ None }
-        ensures kept { address_again self.now ≡ self.now }
+        ensures stored { address_again self.now ≡ self.now }
     {
-        self.masked.is_read_back();
+        self.masked.proof_is_read_back();
     }
 }
 
-/// Says that the xor of a value is its own inverse under one number. It does nothing.
+/// Proof only. Xoring an encoded address twice for the same transaction ID gives it again.
 #[tactic(auto, using(crate::proofs::Masks::xored_again))]
-pub fn xor_is_undone(addr: SocketAddr, number: TransactionId)
-    ensures { xored number (xored number (address_value addr)) ≡ address_value addr }
+pub fn xor_is_undone(addr: SocketAddr, transaction_id: TransactionId)
+    ensures { xored transaction_id (xored transaction_id (address_value addr)) ≡ address_value addr }
 {
     let _ = without_scope(addr);
 }
 
-/// Says that a value tells its address, but for flow information and scope. It does nothing.
+/// Proof only. Decoding an encoded address gives that address, with flow information and scope 0.
 #[tactic(auto, using(crate::proofs::Bytes::port_again))]
-pub fn value_is_told(addr: SocketAddr)
+pub fn value_is_decoded(addr: SocketAddr)
     ensures { address_of (address_value addr) ≡ Some (on_the_wire addr) }
 {
     match addr {
@@ -284,7 +294,7 @@ pub fn value_is_told(addr: SocketAddr)
         }
         SocketAddr::V6(v6) => {
             let _ = v6.port();
-            segments_are_told(&v6.ip().segments());
+            proof_segments_are_decoded(&v6.ip().segments());
         }
     }
 }

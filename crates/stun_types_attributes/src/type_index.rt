@@ -1,4 +1,4 @@
-//! Types of attributes, marked so that one is looked up without a walk over all.
+//! A set of attribute types in which a type is looked up without iterating over the others.
 
 ghost use Rattle.std.specs.Prelude.{◌≡◌, ◌==◌, ◌||◌, ℕ, false, IfOk};
 ghost use Rattle.stun_types_attributes.specs.TypeMarks.{is_marked};
@@ -8,13 +8,13 @@ use std::marker::Model;
 use stun_types_base::memory::NoMemory;
 use stun_types_wire::attribute::AttributeType;
 
-/// How many types a word marks.
+/// The number of types that one word marks.
 const WORD_TYPES: usize = 64;
 
-/// How many words mark every type: a type has sixteen bits.
+/// The number of words that mark every type: a type has sixteen bits.
 const WORDS: usize = 65_536 / WORD_TYPES;
 
-/// Marks of types of attributes, a bit for each type that there is. Contracts see the words.
+/// A set of attribute types, one bit for each possible type. Contracts see the words.
 #[derive(Drop)]
 pub struct TypeIndex {
     words: Vec<u64>,
@@ -32,7 +32,7 @@ impl Model for TypeIndex {
 }
 
 impl TypeIndex {
-    /// An index that marks no type. Where memory is refused, `NoMemory`.
+    /// Makes an empty set. Fails only with `NoMemory`, if an allocation fails.
     pub fn new(alloc: Global) -> Result<TypeIndex, NoMemory>
         ensures { IfOk result (λ index. (kind : ℕ) → is_marked index kind ≡ false) }
     {
@@ -41,20 +41,20 @@ impl TypeIndex {
         })
     }
 
-    /// Whether a type is marked.
+    /// Returns whether a type is in the set.
     pub fn has(&self, atype: AttributeType) -> bool
         ensures { result ≡ is_marked self.now atype.0 }
     {
-        let place = usize::from(atype.value());
-        self.words[place / WORD_TYPES] & (1 << (place % WORD_TYPES)) != 0
+        let bit_index = usize::from(atype.value());
+        self.words[bit_index / WORD_TYPES] & (1 << (bit_index % WORD_TYPES)) != 0
     }
 
-    /// Marks a type. Every other stays as it was.
+    /// Adds a type to the set.
     pub fn mark(&mut self, atype: AttributeType)
         ensures { (kind : ℕ) → is_marked self.new kind
             ≡ (atype.0 == kind || is_marked self.old kind) }
     {
-        let place = usize::from(atype.value());
-        self.words[place / WORD_TYPES] |= 1 << (place % WORD_TYPES);
+        let bit_index = usize::from(atype.value());
+        self.words[bit_index / WORD_TYPES] |= 1 << (bit_index % WORD_TYPES);
     }
 }

@@ -5,7 +5,7 @@ ghost use Rattle.stun_types_base.specs.Refusals.{RefusesFor};
 ghost use Rattle.stun_types_write.specs.ValueReading.{IsNamed};
 ghost use Rattle.stun_types_write.specs.Adding.{has_kind};
 ghost use Rattle.stun_types_attributes.specs.TypeMarks.{IsIndexed};
-ghost use Rattle.stun_types_attributes.specs.UnknownTypes.{types_read_refusal, types_refusal, types_told, types_value, with_type};
+ghost use Rattle.stun_types_attributes.specs.UnknownTypes.{types_read_refusal, types_refusal, types_decoded, types_value, with_type};
 ghost use Rattle.stun_types_wire.specs.Registry.{longest_value, unknown_attributes_kind};
 
 use crate::type_index::TypeIndex;
@@ -22,40 +22,44 @@ use stun_types_write::attribute::{
 use stun_types_write::reading::value_of;
 use stun_types_write::text::write_attribute;
 
-/// The types of attributes that a server had to understand and did not (RFC 8489, section 14.13): as
-/// many as a value of 65,535 bytes holds, at two bytes each. Contracts see the list of their numbers.
+/// The comprehension-required attribute types that a server did not understand (RFC 8489, section
+/// 14.13). A value of at most 65,535 bytes holds them, at two bytes each. Contracts see the list of
+/// their numbers.
 #[derive(Drop)]
 pub struct UnknownAttributes {
     bytes: Vec<u8>,
-    // an index of the types that the bytes tell, made when one is added to many
+    // An index of the types in `bytes`, made when a type is added to a long list.
     index: Option<TypeIndex>,
 }
 
 impl Model for UnknownAttributes {
     ghost use Rattle.std.specs.Prelude.{◌≡◌, ℕ, ◌%◌, ◌≤◌, List, length};
     ghost use Rattle.stun_types_attributes.specs.TypeMarks.{IsIndexed};
-    ghost use Rattle.stun_types_attributes.specs.UnknownTypes.{types_told};
+    ghost use Rattle.stun_types_attributes.specs.UnknownTypes.{types_decoded};
     ghost use Rattle.stun_types_wire.specs.Registry.{longest_value};
 
     ghost Value = { List ℕ };
 
-    ghost view = { λ a. types_told a.bytes.items };
+    ghost view = { λ a. types_decoded a.bytes.items };
 
     ghost invariant = { λ a. (length a.bytes.items % 2 ≡ 0)
         × (length a.bytes.items ≤ longest_value)
-        × IsIndexed a.index (types_told a.bytes.items) };
+        × IsIndexed a.index (types_decoded a.bytes.items) };
 }
 
-/// From how many bytes of the value on an index is made, when a type is added: those of 32 types.
+/// The length of the value, in bytes, from which adding a type makes an index: that of 32 types.
 const INDEXED_LEN: usize = 64;
 
 impl UnknownAttributes {
-    /// How many bytes the value has at most.
+    /// The maximum length of the value in bytes.
     pub const MAX_LEN: usize = registry::MAX_VALUE_LENGTH;
 
-    /// The UNKNOWN-ATTRIBUTES of these types, in their order and as often as they stand there. Refused
-    /// with `TooLarge` where their value would have more than 65,535 bytes; where memory is refused,
-    /// with `NoMemory`.
+    /// Makes an UNKNOWN-ATTRIBUTES of these types, in their order. Duplicates are kept.
+    ///
+    /// # Errors
+    ///
+    /// - `TooLarge`: the value would have more than 65,535 bytes.
+    /// - `NoMemory`: an allocation failed.
     pub fn new(alloc: Global, types: &[AttributeType]) -> Result<UnknownAttributes, StunWriteError>
         ensures ok { IfOk result (λ made. (made ≡ map (λ t. t.0) types.now)
             × (types_refusal (length types.now) ≡ None)) }
@@ -73,21 +77,28 @@ impl UnknownAttributes {
         Ok(UnknownAttributes { bytes, index: None })
     }
 
-    /// Whether a type is among them.
+    /// Returns whether a type is in the list.
     pub fn has_attribute(&self, atype: AttributeType) -> bool
         ensures { result ≡ has_kind atype.0 self.now }
     {
         match &self.index {
             Some(index) => index.has(atype),
-            None => tells_type(self.bytes.as_slice(), atype),
+            None => decodes_type(self.bytes.as_slice(), atype),
         }
     }
 
-    /// Adds a type at the end, if it is not there. Refused with `TooLarge` where the value would then
-    /// have more than 65,535 bytes; where memory is refused, with `NoMemory`. Either refusal leaves
-    /// the types as they were. Once there are many, a type is looked up in an index, and no longer by
-    /// going over all; where memory for the index is refused, they are gone over as before.
-    #[tactic(auto, using(crate::proofs::TypeLists::told_length))]
+    /// Adds a type at the end, unless it is in the list already.
+    ///
+    /// A list of 32 types or more gets an index in which types are looked up. If the allocation of
+    /// the index fails, the call goes on without one and searches the list.
+    ///
+    /// # Errors
+    ///
+    /// The list is unchanged after each.
+    ///
+    /// - `TooLarge`: the value would have more than 65,535 bytes.
+    /// - `NoMemory`: an allocation failed.
+    #[tactic(auto, using(crate::proofs::TypeLists::decoded_length))]
     pub fn add_attribute(&mut self, atype: AttributeType) -> Result<(), StunWriteError>
         ensures added { OnOk result (self.new ≡ with_type atype.0 self.old) }
         ensures cause { RefusesFor StunWriteError.NoMemory
@@ -110,7 +121,7 @@ impl UnknownAttributes {
         Ok(())
     }
 
-    /// Makes the index, if there are types enough for one. Where memory is refused there is none.
+    /// Makes the index if the list is long enough for one. If an allocation fails, there is none.
     fn index_types(&mut self)
         ensures { self.new ≡ self.old }
     {
@@ -119,22 +130,22 @@ impl UnknownAttributes {
         }
     }
 
-    /// The bytes of the value.
-    #[tactic(auto, using(crate::proofs::TypeLists::told_length))]
+    /// Returns the bytes of the value.
+    #[tactic(auto, using(crate::proofs::TypeLists::decoded_length))]
     fn value(&self) -> &[u8]
         ensures value { result.now ≡ types_value self.now }
-        ensures told { types_told result.now ≡ self.now }
+        ensures decoded { types_decoded result.now ≡ self.now }
         ensures count { 2 * length self.now ≡ length result.now }
         ensures even { length result.now % 2 ≡ 0 }
         ensures short { length result.now ≤ longest_value }
     {
-        types_are_told(self.bytes.as_slice());
+        proof_types_are_decoded(self.bytes.as_slice());
         self.bytes.as_slice()
     }
 }
 
 impl fmt::Debug for UnknownAttributes {
-    /// Shows the bytes of the value, and nothing of how types are looked up in it.
+    /// Prints the bytes of the value, and not the index.
     fn fmt<W: fmt::Write>(&self, f: &mut fmt::Formatter<W>) -> fmt::Result {
         f.debug_struct("UnknownAttributes")
             .field("bytes", &self.bytes)
@@ -178,9 +189,16 @@ impl AttributeWrite for UnknownAttributes {
     }
 }
 
-/// Types in two bytes each, the highest first. Refused, in this order: `WrongAttributeImplementation`
-/// where it is another type, `InvalidAttributeData` where the value has an odd number of bytes, since no
-/// length is laid down of which it could be short; where memory is refused, `NoMemory`.
+/// Decodes types of two bytes each, the high byte first.
+///
+/// # Errors
+///
+/// In this order:
+///
+/// - `WrongAttributeImplementation`: the type is another one.
+/// - `InvalidAttributeData`: the value has an odd number of bytes. This is not `Truncated`, because
+///   no length is prescribed.
+/// - `NoMemory`: an allocation failed.
 impl<'a> AttributeFromRaw<'a> for UnknownAttributes {
     ghost use Rattle.stun_types_attributes.specs.UnknownTypes.{types_read_refusal};
 
@@ -204,39 +222,40 @@ impl<'a> AttributeFromRaw<'a> for UnknownAttributes {
     }
 
     #[tactic(auto, using(crate::proofs::TypeLists::lists))]
-    fn is_read_back(&self, read: &UnknownAttributes) {
+    fn proof_is_read_back(&self, read: &UnknownAttributes) {
         let _ = self.value();
         let _ = read.value();
     }
 }
 
-/// The value of an UNKNOWN-ATTRIBUTES. Refused as the attribute is, but for memory.
+/// Returns the value of an UNKNOWN-ATTRIBUTES. Fails as decoding the attribute does, but allocates
+/// nothing.
 #[tactic(auto, unfolding(crate::proofs::TypeLists::refusals))]
 fn even_value_of<'raw>(raw: &'raw RawAttribute<'_>) -> Result<&'raw [u8], StunParseError>
     ensures { MatchResult result (λ value. (types_read_refusal raw.now ≡ None)
         × (raw.now.kind ≡ unknown_attributes_kind) × (value.now ≡ raw.now.value)
         × (length value.now % 2 ≡ 0)
-        × (length value.now ≤ longest_value) × (types_value (types_told value.now) ≡ value.now))
+        × (length value.now ≤ longest_value) × (types_value (types_decoded value.now) ≡ value.now))
         (IsNamed (types_read_refusal raw.now)) }
 {
     let value = value_of(raw, UnknownAttributes::TYPE, 0, UnknownAttributes::MAX_LEN)?;
     if value.len() % 2 != 0 {
         return Err(StunParseError::InvalidAttributeData);
     }
-    types_are_told(value);
+    proof_types_are_decoded(value);
     Ok(value)
 }
 
-/// Says that the types which an even number of bytes tells have these bytes. It does nothing.
-fn types_are_told(bytes: &[u8])
+/// Proof only. Encoding the types in an even number of bytes gives these bytes again.
+fn proof_types_are_decoded(bytes: &[u8])
     requires { length bytes.now % 2 ≡ 0 }
-    ensures { types_value (types_told bytes.now) ≡ bytes.now }
+    ensures { types_value (types_decoded bytes.now) ≡ bytes.now }
 {}
 
-/// The value that tells these types.
-#[tactic(auto, using(crate::proofs::TypeLists::none_told))]
+/// Encodes types as a value. Fails only with `NoMemory`, if an allocation fails.
+#[tactic(auto, using(crate::proofs::TypeLists::none_decoded))]
 fn bytes_of(alloc: Global, types: &[AttributeType]) -> Result<Vec<u8>, NoMemory>
-    ensures told { IfOk result (λ bytes. types_told bytes.items ≡ map (λ t. t.0) types.now) }
+    ensures decoded { IfOk result (λ bytes. types_decoded bytes.items ≡ map (λ t. t.0) types.now) }
     ensures length { IfOk result (λ bytes. length bytes.items ≡ 2 * length types.now) }
 {
     let mut bytes = Vec::with_capacity(alloc, 2 * types.len())?;
@@ -246,12 +265,13 @@ fn bytes_of(alloc: Global, types: &[AttributeType]) -> Result<Vec<u8>, NoMemory>
     Ok(bytes)
 }
 
-/// Adds a type to a value of an even number of bytes. Where memory is refused, `NoMemory`, and the
-/// bytes are as they were.
-#[tactic(auto, using(crate::proofs::TypeLists::told_more))]
+/// Adds a type to a value of an even number of bytes. Fails only with `NoMemory`, if an allocation
+/// fails; the bytes are unchanged then.
+#[tactic(auto, using(crate::proofs::TypeLists::decoded_more))]
 fn push_type(bytes: &mut Vec<u8>, atype: AttributeType) -> Result<(), NoMemory>
     requires { length bytes.old.items % 2 ≡ 0 }
-    ensures told { OnOk result (types_told bytes.new.items ≡ types_told bytes.old.items ++ atype.0
+    ensures decoded { OnOk result (types_decoded bytes.new.items ≡ types_decoded bytes.old.items ++
+        atype.0
         ∷ []) }
     ensures length { OnOk result (length bytes.new.items ≡ length bytes.old.items + 2) }
     ensures unchanged { OnErr result (bytes.new.items ≡ bytes.old.items) }
@@ -260,9 +280,9 @@ fn push_type(bytes: &mut Vec<u8>, atype: AttributeType) -> Result<(), NoMemory>
     Ok(())
 }
 
-/// An index of the types that a value tells. Where memory is refused, `NoMemory`.
+/// Makes an index of the types in a value. Fails only with `NoMemory`, if an allocation fails.
 fn index_of(alloc: Global, bytes: &[u8]) -> Result<TypeIndex, NoMemory>
-    ensures { IfOk result (λ index. IsIndexed (Some index) (types_told bytes.now)) }
+    ensures { IfOk result (λ index. IsIndexed (Some index) (types_decoded bytes.now)) }
 {
     let mut index = TypeIndex::new(alloc)?;
     let mut left = bytes;
@@ -273,21 +293,21 @@ fn index_of(alloc: Global, bytes: &[u8]) -> Result<TypeIndex, NoMemory>
     Ok(index)
 }
 
-/// Marks one type more in an index, if there is one.
+/// Adds a type to an index, if there is one.
 fn mark_type(index: &mut Option<TypeIndex>, atype: AttributeType)
     ensures marked { (kinds : List ℕ) → IsIndexed index.old kinds
         → IsIndexed index.new (kinds ++ atype.0 ∷ []) }
-    ensures kept { is_some index.new ≡ is_some index.old }
+    ensures stored { is_some index.new ≡ is_some index.old }
 {
     if let Some(index) = index {
         index.mark(atype);
     }
 }
 
-/// Whether a value tells a type.
-#[tactic(auto, using(crate::proofs::TypeLists::none), unfolding(crate::proofs::TypeLists::told))]
-fn tells_type(bytes: &[u8], atype: AttributeType) -> bool
-    ensures { result ≡ has_kind atype.0 (types_told bytes.now) }
+/// Returns whether a type is in a value.
+#[tactic(auto, using(crate::proofs::TypeLists::none), unfolding(crate::proofs::TypeLists::decoded))]
+fn decodes_type(bytes: &[u8], atype: AttributeType) -> bool
+    ensures { result ≡ has_kind atype.0 (types_decoded bytes.now) }
 {
     let mut left = bytes;
     while let Some((pair, rest)) = left.split_first_chunk::<2>() {

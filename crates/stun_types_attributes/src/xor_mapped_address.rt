@@ -20,7 +20,8 @@ use stun_types_write::attribute::{
     Attribute, AttributeFromRaw, AttributeStaticType, AttributeWrite,
 };
 
-/// The address from which a server saw a request come, xored. Contracts see the bytes of the value.
+/// The address from which the server received the request, xored. Contracts see the bytes of the
+/// value.
 #[derive(Debug, Drop)]
 pub struct XorMappedAddress {
     addr: XorSocketAddr,
@@ -35,22 +36,23 @@ impl Model for XorMappedAddress {
 }
 
 impl XorMappedAddress {
-    /// The attribute of an address under the number of the message that is to hold it.
-    pub fn new(addr: SocketAddr, number: TransactionId) -> XorMappedAddress
-        ensures { result ≡ xored number (address_value addr) }
+    /// Makes a XOR-MAPPED-ADDRESS of an address and the transaction ID of the message that will
+    /// hold it.
+    pub fn new(addr: SocketAddr, transaction_id: TransactionId) -> XorMappedAddress
+        ensures { result ≡ xored transaction_id (address_value addr) }
     {
         XorMappedAddress {
-            addr: XorSocketAddr::new(addr, number),
+            addr: XorSocketAddr::new(addr, transaction_id),
         }
     }
 
-    /// The address, under the number of the message that holds it, with no flow information and no
-    /// scope.
-    pub fn addr(&self, number: TransactionId) -> SocketAddr
-        ensures told { Some result ≡ address_of (xored number self.now) }
-        ensures value { address_value result ≡ xored number self.now }
+    /// Returns the address, for the transaction ID of the message that holds it, with flow
+    /// information and scope 0.
+    pub fn addr(&self, transaction_id: TransactionId) -> SocketAddr
+        ensures decoded { Some result ≡ address_of (xored transaction_id self.now) }
+        ensures value { address_value result ≡ xored transaction_id self.now }
     {
-        self.addr.addr(number)
+        self.addr.addr(transaction_id)
     }
 }
 
@@ -84,9 +86,16 @@ impl AttributeWrite for XorMappedAddress {
     }
 }
 
-/// A xored address. Its first byte is not looked at. `Truncated` where the value has fewer than four
-/// bytes, `InvalidAttributeData` where the family is unknown, `Truncated` or `TooLarge` where it has
-/// not the 8 bytes of IPv4 or the 20 of IPv6.
+/// Decodes a xored address. The first byte of the value is ignored.
+///
+/// # Errors
+///
+/// In this order:
+///
+/// - `WrongAttributeImplementation`: the type is another one.
+/// - `Truncated`: the value has fewer than four bytes.
+/// - `InvalidAttributeData`: the family is unknown.
+/// - `Truncated` or `TooLarge`: the length of the value is not 8 bytes for IPv4, or 20 for IPv6.
 impl<'a, 'raw> TryFrom<&'raw RawAttribute<'a>> for XorMappedAddress {
     ghost use Rattle.std.specs.Prelude.{◌≡◌, MatchResult, Some, None};
     ghost use Rattle.stun_types_write.specs.ValueReading.{IsNamed};
@@ -105,7 +114,7 @@ impl<'a, 'raw> TryFrom<&'raw RawAttribute<'a>> for XorMappedAddress {
     }
 }
 
-/// Refused as `try_from` is; no memory is taken.
+/// Decodes the attribute as `try_from` does, with the same errors. It allocates nothing.
 impl<'a> AttributeFromRaw<'a> for XorMappedAddress {
     ghost use Rattle.std.specs.Prelude.{false};
     ghost use Rattle.stun_types_attributes.specs.Addresses.{address_again, address_read_refusal};
@@ -128,7 +137,7 @@ impl<'a> AttributeFromRaw<'a> for XorMappedAddress {
         XorMappedAddress::from_raw_ref(alloc, &raw)
     }
 
-    fn is_read_back(&self, _read: &XorMappedAddress) {
-        self.addr.is_read_back();
+    fn proof_is_read_back(&self, _read: &XorMappedAddress) {
+        self.addr.proof_is_read_back();
     }
 }

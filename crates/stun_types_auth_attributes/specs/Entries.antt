@@ -1,4 +1,4 @@
--- Values that hold one algorithm or several (RFC 8489, sections 14.11 and 14.12).
+-- Values that encode one password algorithm or several (RFC 8489, sections 14.11 and 14.12).
 use Rattle.std.specs.Prelude.{ℕ, ◌+◌, ◌*◌, ◌%◌, ◌==◌, ◌&&◌, min, nat_lt, List, [], ◌∷◌, ◌++◌, length, map, Option, Some, None, if◌then◌else◌}
 use Rattle.std.specs.Option.{option_or}
 use Rattle.std.specs.List.{list_all}
@@ -14,57 +14,57 @@ use Rattle.stun_types_auth_attributes.specs.declared.algorithm.PasswordAlgorithm
 use Rattle.stun_types_auth_attributes.specs.PasswordAlgorithmNumbers.{number_of, is_known, number_refusal}
 use Rattle.stun_types_wire.specs.Registry.{password_algorithm_kind, password_algorithms_kind, most_algorithms}
 
--- an entry: the number of an algorithm, and the length of its parameters, of which there are none
+-- An entry: the number of an algorithm, and 0 as the length of its parameters.
 abbrev pub entry : ℕ → List ℕ
 entry number = big_bytes 2 number ++ big_bytes 2 0
 
--- the value of a PASSWORD-ALGORITHM
+-- The value of a PASSWORD-ALGORITHM.
 abbrev pub algorithm_value : PasswordAlgorithmValue → List ℕ
 algorithm_value algorithm = entry (number_of algorithm)
 
--- the number that the value of a PASSWORD-ALGORITHM tells: the length of the parameters is not looked at
-unfoldable pub number_told : List ℕ → ℕ
-number_told value = big_number 2 value
+-- The number decoded from the value of a PASSWORD-ALGORITHM. The length of the parameters is ignored.
+unfoldable pub number_decoded : List ℕ → ℕ
+number_decoded value = big_number 2 value
 
--- why a type and a value are no PASSWORD-ALGORITHM
+-- Why an attribute is not a valid PASSWORD-ALGORITHM.
 unfoldable pub algorithm_read_refusal : Attr → Option StunParseError
 algorithm_read_refusal a = option_or (value_refusal password_algorithm_kind 4 4 a)
-    (number_refusal (number_told a.value))
+    (number_refusal (number_decoded a.value))
 
--- entries one behind another
+-- The concatenation of the entries of these numbers.
 unfoldable pub entries : List ℕ → List ℕ
 entries [] = []
 entries (number ∷ numbers) = entry number ++ entries numbers
 
--- the value of a PASSWORD-ALGORITHMS
+-- The value of a PASSWORD-ALGORITHMS.
 abbrev pub algorithms_value : List PasswordAlgorithmValue → List ℕ
 algorithms_value algorithms = entries (map number_of algorithms)
 
--- the numbers that entries tell, in their order: fewer than four bytes tell none
-unfoldable pub numbers_told : List ℕ → List ℕ
-numbers_told [] = []
-numbers_told (a ∷ []) = []
-numbers_told (a ∷ b ∷ []) = []
-numbers_told (a ∷ b ∷ c ∷ []) = []
-numbers_told (a ∷ b ∷ c ∷ d ∷ rest) = (a * 256 + b) ∷ numbers_told rest
+-- The numbers decoded from entries, in their order. Fewer than four bytes at the end are ignored.
+unfoldable pub numbers_decoded : List ℕ → List ℕ
+numbers_decoded [] = []
+numbers_decoded (a ∷ []) = []
+numbers_decoded (a ∷ b ∷ []) = []
+numbers_decoded (a ∷ b ∷ c ∷ []) = []
+numbers_decoded (a ∷ b ∷ c ∷ d ∷ rest) = (a * 256 + b) ∷ numbers_decoded rest
 
--- a value that is not made of entries, each of a known algorithm
+-- Why a value is not a list of entries of known algorithms.
 unfoldable pub entries_refusal : List ℕ → Option StunParseError
-entries_refusal value = if length value % 4 == 0 && list_all is_known (numbers_told value) then None
+entries_refusal value = if length value % 4 == 0 && list_all is_known (numbers_decoded value) then None
     else Some InvalidAttributeData
 
--- why a type and a value are no PASSWORD-ALGORITHMS
+-- Why an attribute is not a valid PASSWORD-ALGORITHMS.
 unfoldable pub algorithms_read_refusal : Attr → Option StunParseError
 algorithms_read_refusal a = option_or (value_refusal password_algorithms_kind 4 (4 * most_algorithms) a)
     (entries_refusal a.value)
 
--- why the value of a PASSWORD-ALGORITHMS is not read: that of no algorithm is too short
-abbrev pub none_told_refusal : List PasswordAlgorithmValue → Option StunParseError
-none_told_refusal [] = Some (Truncated 4 0)
-none_told_refusal (algorithm ∷ algorithms) = None
+-- Why a PASSWORD-ALGORITHMS isn't decoded after it was encoded: the value of an empty list is too short.
+abbrev pub none_decoded_refusal : List PasswordAlgorithmValue → Option StunParseError
+none_decoded_refusal [] = Some (Truncated 4 0)
+none_decoded_refusal (algorithm ∷ algorithms) = None
 
--- why no PASSWORD-ALGORITHMS is made of so many algorithms: the bytes of its value are told, as far
--- as a `usize` holds them
+-- Why a PASSWORD-ALGORITHMS can't have `count` algorithms. The error has the length of the value in bytes, or
+-- the greatest `usize` if that is less.
 abbrev pub count_refusal : ℕ → Option StunWriteError
 count_refusal count = if nat_lt most_algorithms count then Some
     (TooLarge (4 * most_algorithms) (min (4 * count) greatest_len)) else None

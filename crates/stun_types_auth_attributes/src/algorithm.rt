@@ -3,7 +3,7 @@
 ghost use Rattle.std.specs.Prelude.{◌≡◌, ◌≤◌, length, MatchResult, None, Some};
 ghost use Rattle.stun_types_write.specs.ValueReading.{IsNamed};
 ghost use Rattle.stun_types_auth_attributes.specs.PasswordAlgorithmNumbers.{integrity_of, number_of, number_refusal};
-ghost use Rattle.stun_types_auth_attributes.specs.Entries.{algorithm_value, number_told};
+ghost use Rattle.stun_types_auth_attributes.specs.Entries.{algorithm_value, number_decoded};
 
 use byteorder::{BigEndian, ByteOrder};
 use std::fmt;
@@ -11,20 +11,21 @@ use stun_types_wire::algorithm::IntegrityAlgorithm;
 use stun_types_wire::error::StunParseError;
 use stun_types_wire::registry::{MD5_NUMBER, SHA256_NUMBER, SHA512_NUMBER};
 
-/// An algorithm by which a key is made of a name, a realm and a password (RFC 8489, section 18.5).
+/// An algorithm that derives a key from a user name, a realm and a password (RFC 8489, section
+/// 18.5).
 #[derive(Clone, Copy, Debug, PartialEq, Eq)]
 pub enum PasswordAlgorithmValue {
-    /// MD5, which has the number 1.
+    /// MD5, number 1.
     MD5,
-    /// SHA-256, which has the number 2.
+    /// SHA-256, number 2.
     SHA256,
-    /// SHA-512, which has the number 0xFF12. It is this project's: no RFC has it.
+    /// SHA-512, number 0xFF12, an extension of this project that no RFC defines.
     SHA512,
 }
 
 impl PasswordAlgorithmValue {
-    /// The algorithm of message integrity for which a key is made by this one: `Sha1` for `MD5`,
-    /// `Sha256` for `SHA256` and `Sha512` for `SHA512`.
+    /// Returns the message integrity algorithm for which this algorithm derives a key: `Sha1` for
+    /// `MD5`, `Sha256` for `SHA256`, and `Sha512` for `SHA512`.
     pub fn as_integrity(self) -> IntegrityAlgorithm
         ensures { result ≡ integrity_of self }
     {
@@ -35,7 +36,7 @@ impl PasswordAlgorithmValue {
         }
     }
 
-    /// The number of the algorithm.
+    /// Returns the number of the algorithm.
     fn number(self) -> u16
         ensures { result ≡ number_of self }
     {
@@ -46,7 +47,8 @@ impl PasswordAlgorithmValue {
         }
     }
 
-    /// The algorithm of a number. Refused with `InvalidAttributeData` where it is that of none.
+    /// Returns the algorithm with this number. Fails with `InvalidAttributeData` if no algorithm
+    /// has it.
     #[tactic(auto, unfolding(crate::proofs::Algorithms::known))]
     fn of_number(number: u16) -> Result<PasswordAlgorithmValue, StunParseError>
         ensures { MatchResult result (λ algorithm. (number_of algorithm ≡ number)
@@ -60,7 +62,7 @@ impl PasswordAlgorithmValue {
         }
     }
 
-    /// The four bytes that tell the algorithm: its number, and a length of its parameters of 0.
+    /// Encodes the algorithm in four bytes: its number, and 0 as the length of its parameters.
     pub(crate) fn to_bytes(self) -> [u8; 4]
         ensures { result ≡ algorithm_value self }
     {
@@ -68,14 +70,14 @@ impl PasswordAlgorithmValue {
         [high, low, 0, 0]
     }
 
-    /// The algorithm that four bytes tell. The last two are not looked at. Refused with
-    /// `InvalidAttributeData` where its number is that of none.
-    #[tactic(auto, unfolding(crate::specs::Entries::number_told))]
+    /// Decodes the algorithm from four bytes. The last two are ignored. Fails with
+    /// `InvalidAttributeData` if no algorithm has the number.
+    #[tactic(auto, unfolding(crate::specs::Entries::number_decoded))]
     pub(crate) fn from_bytes(bytes: &[u8]) -> Result<PasswordAlgorithmValue, StunParseError>
         requires { 4 ≤ length bytes.now }
-        ensures { MatchResult result (λ algorithm. (number_of algorithm ≡ number_told bytes.now)
-            × (number_refusal (number_told bytes.now) ≡ None))
-            (IsNamed (number_refusal (number_told bytes.now))) }
+        ensures { MatchResult result (λ algorithm. (number_of algorithm ≡ number_decoded bytes.now)
+            × (number_refusal (number_decoded bytes.now) ≡ None))
+            (IsNamed (number_refusal (number_decoded bytes.now))) }
     {
         PasswordAlgorithmValue::of_number(BigEndian::read_u16(bytes))
     }

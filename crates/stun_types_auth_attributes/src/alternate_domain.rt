@@ -14,10 +14,10 @@ use stun_types_wire::registry;
 use stun_types_write::attribute::{
     Attribute, AttributeFromRaw, AttributeStaticType, AttributeWrite,
 };
-use stun_types_write::reading::{text_is_read, text_of};
+use stun_types_write::reading::{proof_text_is_read, text_of};
 use stun_types_write::text::write_attribute;
 
-/// The domain of another server that the client should try: the name that its certificate has to show
+/// The domain of another server that the client should try: the name that its certificate must have
 /// (RFC 8489, section 14.16). It has at most 255 bytes. Contracts see the bytes of the text.
 #[derive(Debug, Drop)]
 pub struct AlternateDomain {
@@ -37,11 +37,15 @@ impl Model for AlternateDomain {
 }
 
 impl AlternateDomain {
-    /// How many bytes the text has at most.
+    /// The maximum length of the text in bytes.
     pub const MAX_LEN: usize = registry::MAX_DOMAIN_LENGTH;
 
-    /// The ALTERNATE-DOMAIN of a text. Refused with `TooLarge` where the text has more than 255 bytes;
-    /// where memory is refused, with `NoMemory`.
+    /// Makes an ALTERNATE-DOMAIN.
+    ///
+    /// # Errors
+    ///
+    /// - `TooLarge`: the text has more than 255 bytes.
+    /// - `NoMemory`: an allocation failed.
     pub fn new(alloc: Global, domain: &str) -> Result<AlternateDomain, StunWriteError>
         ensures ok { IfOk result (λ made. (made ≡ domain.now)
             × (text_refusal longest_domain domain.now ≡ None)) }
@@ -59,7 +63,7 @@ impl AlternateDomain {
         })
     }
 
-    /// The text.
+    /// Returns the text.
     pub fn domain(&self) -> &str
         ensures value { result.now ≡ self.now }
         ensures short { length result.now ≤ longest_domain }
@@ -102,8 +106,16 @@ impl AttributeWrite for AlternateDomain {
     }
 }
 
-/// A text of at most 255 bytes. Refused, in this order: `WrongAttributeImplementation` where it is
-/// another type, `TooLarge` where the value is longer, `InvalidAttributeData` where it is not UTF-8.
+/// Decodes a text of at most 255 bytes.
+///
+/// # Errors
+///
+/// In this order:
+///
+/// - `WrongAttributeImplementation`: the type is another one.
+/// - `TooLarge`: the value is longer.
+/// - `InvalidAttributeData`: the value is not UTF-8.
+/// - `NoMemory`: an allocation failed.
 impl<'a> AttributeFromRaw<'a> for AlternateDomain {
     ghost use Rattle.stun_types_write.specs.ValueReading.{text_read_refusal};
 
@@ -125,7 +137,7 @@ impl<'a> AttributeFromRaw<'a> for AlternateDomain {
         AlternateDomain::from_raw_ref(alloc, &raw)
     }
 
-    fn is_read_back(&self, _read: &AlternateDomain) {
-        text_is_read(self.domain(), AlternateDomain::MAX_LEN);
+    fn proof_is_read_back(&self, _read: &AlternateDomain) {
+        proof_text_is_read(self.domain(), AlternateDomain::MAX_LEN);
     }
 }

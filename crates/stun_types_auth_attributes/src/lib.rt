@@ -1,5 +1,5 @@
-//! The attributes by which a message is authenticated (RFC 8489, sections 14.3, 14.4 and 14.9 to
-//! 14.12), and the two other texts, SOFTWARE and ALTERNATE-DOMAIN, which are made in the same way.
+//! The attributes that authenticate a message (RFC 8489, sections 14.3, 14.4 and 14.9 to 14.12),
+//! and two other text attributes that work in the same way, SOFTWARE and ALTERNATE-DOMAIN.
 #![tactic(auto)]
 
 pub mod algorithm;

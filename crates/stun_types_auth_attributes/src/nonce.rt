@@ -14,11 +14,11 @@ use stun_types_wire::registry;
 use stun_types_write::attribute::{
     Attribute, AttributeFromRaw, AttributeStaticType, AttributeWrite,
 };
-use stun_types_write::reading::{text_is_read, text_of};
+use stun_types_write::reading::{proof_text_is_read, text_of};
 use stun_types_write::text::write_attribute;
 
-/// The nonce of a challenge, which a request repeats. It has at most 763 bytes. Contracts see the bytes
-/// of the text.
+/// The nonce of a challenge, which the client repeats in its requests. It has at most 763 bytes.
+/// Contracts see the bytes of the text.
 #[derive(Debug, Drop)]
 pub struct Nonce {
     nonce: String,
@@ -37,11 +37,15 @@ impl Model for Nonce {
 }
 
 impl Nonce {
-    /// How many bytes the text has at most.
+    /// The maximum length of the text in bytes.
     pub const MAX_LEN: usize = registry::MAX_TEXT_LENGTH;
 
-    /// The NONCE of a text. Refused with `TooLarge` where the text has more than 763 bytes; where
-    /// memory is refused, with `NoMemory`.
+    /// Makes a NONCE.
+    ///
+    /// # Errors
+    ///
+    /// - `TooLarge`: the text has more than 763 bytes.
+    /// - `NoMemory`: an allocation failed.
     pub fn new(alloc: Global, nonce: &str) -> Result<Nonce, StunWriteError>
         ensures ok { IfOk result (λ made. (made ≡ nonce.now)
             × (text_refusal longest_text nonce.now ≡ None)) }
@@ -59,7 +63,7 @@ impl Nonce {
         })
     }
 
-    /// The text.
+    /// Returns the text.
     pub fn nonce(&self) -> &str
         ensures value { result.now ≡ self.now }
         ensures short { length result.now ≤ longest_text }
@@ -102,8 +106,16 @@ impl AttributeWrite for Nonce {
     }
 }
 
-/// A text of at most 763 bytes. A longer value is `TooLarge`, one that is not UTF-8
-/// `InvalidAttributeData`.
+/// Decodes a text of at most 763 bytes.
+///
+/// # Errors
+///
+/// In this order:
+///
+/// - `WrongAttributeImplementation`: the type is another one.
+/// - `TooLarge`: the value is longer.
+/// - `InvalidAttributeData`: the value is not UTF-8.
+/// - `NoMemory`: an allocation failed.
 impl<'a> AttributeFromRaw<'a> for Nonce {
     ghost use Rattle.stun_types_write.specs.ValueReading.{text_read_refusal};
 
@@ -122,7 +134,7 @@ impl<'a> AttributeFromRaw<'a> for Nonce {
         Nonce::from_raw_ref(alloc, &raw)
     }
 
-    fn is_read_back(&self, _read: &Nonce) {
-        text_is_read(self.nonce(), Nonce::MAX_LEN);
+    fn proof_is_read_back(&self, _read: &Nonce) {
+        proof_text_is_read(self.nonce(), Nonce::MAX_LEN);
     }
 }

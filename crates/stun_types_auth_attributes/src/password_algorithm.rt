@@ -3,7 +3,7 @@
 ghost use Rattle.std.specs.Prelude.{◌≡◌, None, MatchResult};
 ghost use Rattle.stun_types_write.specs.ValueReading.{IsNamed};
 ghost use Rattle.stun_types_auth_attributes.specs.PasswordAlgorithmNumbers.{number_of};
-ghost use Rattle.stun_types_auth_attributes.specs.Entries.{algorithm_read_refusal, number_told};
+ghost use Rattle.stun_types_auth_attributes.specs.Entries.{algorithm_read_refusal, number_decoded};
 ghost use Rattle.stun_types_wire.specs.Registry.{password_algorithm_kind};
 
 use crate::algorithm::PasswordAlgorithmValue;
@@ -20,7 +20,7 @@ use stun_types_write::attribute::{
 use stun_types_write::reading::value_of;
 use stun_types_write::text::write_attribute;
 
-/// The password algorithm that a client chose among those of the server (RFC 8489, section 14.12).
+/// The password algorithm that a client chose from those of the server (RFC 8489, section 14.12).
 /// Contracts see the algorithm.
 #[derive(Debug, Drop)]
 pub struct PasswordAlgorithm {
@@ -36,14 +36,14 @@ impl Model for PasswordAlgorithm {
 }
 
 impl PasswordAlgorithm {
-    /// The PASSWORD-ALGORITHM of an algorithm.
+    /// Makes a PASSWORD-ALGORITHM.
     pub fn new(algorithm: PasswordAlgorithmValue) -> PasswordAlgorithm
         ensures { result ≡ algorithm }
     {
         PasswordAlgorithm { algorithm }
     }
 
-    /// The algorithm.
+    /// Returns the algorithm.
     pub fn algorithm(&self) -> PasswordAlgorithmValue
         ensures { result ≡ self.now }
     {
@@ -84,21 +84,28 @@ impl AttributeWrite for PasswordAlgorithm {
     }
 }
 
-/// The algorithm of the first two of four bytes. The other two, the length of the parameters, are not
-/// looked at. Refused, in this order: `WrongAttributeImplementation` where it is another type,
-/// `Truncated` where the value is shorter, `TooLarge` where it is longer, `InvalidAttributeData` where
-/// the number is that of no algorithm.
+/// Decodes the algorithm from the first two of four bytes. The other two, the length of the
+/// parameters, are ignored.
+///
+/// # Errors
+///
+/// In this order:
+///
+/// - `WrongAttributeImplementation`: the type is another one.
+/// - `Truncated`: the value is shorter than four bytes.
+/// - `TooLarge`: the value is longer than four bytes.
+/// - `InvalidAttributeData`: no algorithm has the number.
 impl<'a, 'raw> TryFrom<&'raw RawAttribute<'a>> for PasswordAlgorithm {
     ghost use Rattle.std.specs.Prelude.{◌≡◌, MatchResult, Some, None};
     ghost use Rattle.stun_types_write.specs.ValueReading.{IsNamed};
     ghost use Rattle.stun_types_auth_attributes.specs.PasswordAlgorithmNumbers.{number_of};
-    ghost use Rattle.stun_types_auth_attributes.specs.Entries.{algorithm_read_refusal, number_told};
+    ghost use Rattle.stun_types_auth_attributes.specs.Entries.{algorithm_read_refusal, number_decoded};
 
     type Error = StunParseError;
 
     ghost try_from_gives = { λ raw result. MatchResult result
         (λ read. (algorithm_read_refusal raw.now ≡ None)
-        × (number_of read ≡ number_told raw.now.value))
+        × (number_of read ≡ number_decoded raw.now.value))
         (IsNamed (algorithm_read_refusal raw.now)) };
 
     fn try_from(raw: &'raw RawAttribute<'a>) -> Result<PasswordAlgorithm, StunParseError> {
@@ -107,14 +114,14 @@ impl<'a, 'raw> TryFrom<&'raw RawAttribute<'a>> for PasswordAlgorithm {
     }
 }
 
-/// Refused as `try_from` is; no memory is taken.
+/// Decodes the attribute as `try_from` does, with the same errors. It allocates nothing.
 impl<'a> AttributeFromRaw<'a> for PasswordAlgorithm {
     ghost use Rattle.std.specs.Prelude.{false};
-    ghost use Rattle.stun_types_auth_attributes.specs.Entries.{algorithm_read_refusal, entry, number_told};
+    ghost use Rattle.stun_types_auth_attributes.specs.Entries.{algorithm_read_refusal, entry, number_decoded};
 
     ghost read_refusal = { algorithm_read_refusal };
 
-    ghost read_value = { λ value. entry (number_told value) };
+    ghost read_value = { λ value. entry (number_decoded value) };
 
     ghost reading_takes_memory = { false };
 
@@ -131,15 +138,15 @@ impl<'a> AttributeFromRaw<'a> for PasswordAlgorithm {
     }
 
     #[tactic(auto, using(crate::proofs::Algorithms::algorithms))]
-    fn is_read_back(&self, _read: &PasswordAlgorithm) {}
+    fn proof_is_read_back(&self, _read: &PasswordAlgorithm) {}
 }
 
-/// The algorithm in the value of a PASSWORD-ALGORITHM. Refused as `try_from` is.
+/// Decodes the algorithm in a PASSWORD-ALGORITHM. Fails as `try_from` does.
 #[tactic(auto, unfolding(crate::specs::Entries::algorithm_read_refusal))]
 fn algorithm_of(raw: &RawAttribute<'_>) -> Result<PasswordAlgorithmValue, StunParseError>
     ensures { MatchResult result (λ algorithm. (algorithm_read_refusal raw.now ≡ None)
         × (raw.now.kind ≡ password_algorithm_kind) × (number_of algorithm
-        ≡ number_told raw.now.value))
+        ≡ number_decoded raw.now.value))
         (IsNamed (algorithm_read_refusal raw.now)) }
 {
     let value = value_of(raw, PasswordAlgorithm::TYPE, 4, 4)?;

@@ -5,7 +5,7 @@ ghost use Rattle.stun_types_base.specs.Refusals.{RefusesFor};
 ghost use Rattle.stun_types_write.specs.ValueReading.{IsNamed};
 ghost use Rattle.std.specs.List.{list_all};
 ghost use Rattle.stun_types_auth_attributes.specs.PasswordAlgorithmNumbers.{is_known, number_of};
-ghost use Rattle.stun_types_auth_attributes.specs.Entries.{algorithms_read_refusal, algorithms_value, count_refusal, numbers_told};
+ghost use Rattle.stun_types_auth_attributes.specs.Entries.{algorithms_read_refusal, algorithms_value, count_refusal, numbers_decoded};
 ghost use Rattle.stun_types_wire.specs.Registry.{most_algorithms, password_algorithms_kind};
 
 use crate::algorithm::PasswordAlgorithmValue;
@@ -21,9 +21,10 @@ use stun_types_write::attribute::{
 use stun_types_write::reading::value_of;
 use stun_types_write::text::write_attribute;
 
-/// The password algorithms that a server supports, at most eight, in the order of its preference
-/// (RFC 8489, section 14.11). A list of none can be made and written, but it is not read. Contracts see
-/// the list.
+/// The password algorithms that a server supports, at most eight, in its order of preference (RFC
+/// 8489, section 14.11). Contracts see the list.
+///
+/// An empty list can be made and encoded, but decoding rejects it.
 #[derive(Debug, Drop)]
 pub struct PasswordAlgorithms {
     algorithms: Vec<PasswordAlgorithmValue>,
@@ -42,15 +43,18 @@ impl Model for PasswordAlgorithms {
 }
 
 impl PasswordAlgorithms {
-    /// How many algorithms there are at most.
+    /// The maximum number of algorithms.
     pub const MAX_COUNT: usize = registry::MAX_PASSWORD_ALGORITHMS;
-    /// How many bytes the value has at most.
+    /// The maximum length of the value in bytes.
     pub const MAX_LEN: usize = 4 * registry::MAX_PASSWORD_ALGORITHMS;
 
-    /// The PASSWORD-ALGORITHMS of these algorithms, in their order and as often as they stand there.
-    /// Refused with `TooLarge` where there are more than eight: `actual` is then the length that the
-    /// value would have, four bytes for each, or the greatest `usize` where that is less. Where memory
-    /// is refused, `NoMemory`.
+    /// Makes a PASSWORD-ALGORITHMS of these algorithms, in their order. Duplicates are kept.
+    ///
+    /// # Errors
+    ///
+    /// - `TooLarge`: there are more than eight algorithms. `actual` is the length that the value
+    ///   would have, four bytes for each algorithm, or the greatest `usize` if that is less.
+    /// - `NoMemory`: an allocation failed.
     pub fn new(
         alloc: Global,
         algorithms: &[PasswordAlgorithmValue],
@@ -71,7 +75,7 @@ impl PasswordAlgorithms {
         })
     }
 
-    /// The algorithms.
+    /// Returns the algorithms.
     pub fn algorithms(&self) -> &[PasswordAlgorithmValue]
         ensures value { result.now ≡ self.now }
         ensures short { length result.now ≤ most_algorithms }
@@ -79,7 +83,7 @@ impl PasswordAlgorithms {
         self.algorithms.as_slice()
     }
 
-    /// How many bytes the value has: four for each algorithm.
+    /// Returns the length of the value in bytes: four for each algorithm.
     #[tactic(auto, using(crate::proofs::Lists::value_length))]
     fn value_len(&self) -> usize
         ensures count { result ≡ 4 * length self.now }
@@ -89,7 +93,7 @@ impl PasswordAlgorithms {
         4 * self.algorithms().len()
     }
 
-    /// The value, at the front of as many bytes as the longest has.
+    /// Returns a buffer of the maximum length that begins with the value.
     #[tactic(auto, using(crate::proofs::Lists::value_length))]
     fn value(&self) -> [u8; 32]
         ensures { take (4 * length self.now) result ≡ algorithms_value self.now }
@@ -100,7 +104,7 @@ impl PasswordAlgorithms {
     }
 }
 
-/// Writes what tells some algorithms to the front of bytes that are enough.
+/// Encodes the algorithms in the first bytes of `dest`, which must have room for them.
 #[tactic(auto, using(crate::proofs::Lists::written), unfolding(crate::specs::Entries::entries))]
 fn write_entries(algorithms: &[PasswordAlgorithmValue], dest: &mut [u8])
     requires { 4 * length algorithms.now ≤ length dest.old }
@@ -108,9 +112,9 @@ fn write_entries(algorithms: &[PasswordAlgorithmValue], dest: &mut [u8])
         ++ drop (4 * length algorithms.now) dest.old }
 {
     if let Some((first, rest)) = algorithms.split_first() {
-        let (entry, behind) = dest.split_at_mut(4);
+        let (entry, following) = dest.split_at_mut(4);
         entry.copy_from_slice(&first.to_bytes());
-        write_entries(rest, behind);
+        write_entries(rest, following);
     }
 }
 
@@ -151,19 +155,27 @@ impl AttributeWrite for PasswordAlgorithms {
     }
 }
 
-/// One to eight algorithms in four bytes each, of which the last two, the length of the parameters, are
-/// not looked at. Refused, in this order: `WrongAttributeImplementation` where it is another type,
-/// `Truncated` where the value has fewer than four bytes, `TooLarge` where it has more than 32,
-/// `InvalidAttributeData` where its length is no multiple of four or a number is that of no algorithm;
-/// where memory is refused, `NoMemory`.
+/// Decodes one to eight algorithms of four bytes each. The last two bytes of each, the length of
+/// the parameters, are ignored.
+///
+/// # Errors
+///
+/// In this order:
+///
+/// - `WrongAttributeImplementation`: the type is another one.
+/// - `Truncated`: the value has fewer than four bytes.
+/// - `TooLarge`: the value has more than 32 bytes.
+/// - `InvalidAttributeData`: the length of the value is not a multiple of four, or no algorithm has
+///   one of the numbers.
+/// - `NoMemory`: an allocation failed.
 impl<'a> AttributeFromRaw<'a> for PasswordAlgorithms {
-    ghost use Rattle.stun_types_auth_attributes.specs.Entries.{algorithms_read_refusal, entries, none_told_refusal, numbers_told};
+    ghost use Rattle.stun_types_auth_attributes.specs.Entries.{algorithms_read_refusal, entries, none_decoded_refusal, numbers_decoded};
 
     ghost read_refusal = { algorithms_read_refusal };
 
-    ghost read_value = { λ value. entries (numbers_told value) };
+    ghost read_value = { λ value. entries (numbers_decoded value) };
 
-    ghost written_refusal = { none_told_refusal };
+    ghost written_refusal = { none_decoded_refusal };
 
     fn from_raw_ref(
         alloc: Global,
@@ -182,20 +194,20 @@ impl<'a> AttributeFromRaw<'a> for PasswordAlgorithms {
     }
 
     #[tactic(auto, using(crate::proofs::Lists::lists))]
-    fn is_read_back(&self, _read: &PasswordAlgorithms) {
+    fn proof_is_read_back(&self, _read: &PasswordAlgorithms) {
         let _ = self.algorithms();
     }
 }
 
 impl PasswordAlgorithms {
-    /// The value of an attribute that is a PASSWORD-ALGORITHMS: four bytes for each algorithm, at least
-    /// one and at most eight, each of them known. Takes no memory. Refused as reading the attribute is.
+    /// Returns the value of a PASSWORD-ALGORITHMS: four bytes for each algorithm, from one to eight
+    /// algorithms, each of them known. Fails as decoding the attribute does, but allocates nothing.
     #[tactic(auto, using(crate::proofs::Lists::counts), unfolding(crate::proofs::Lists::refusals))]
     pub fn entries_of<'raw>(raw: &'raw RawAttribute<'_>) -> Result<&'raw [u8], StunParseError>
         ensures { MatchResult result (λ value. (algorithms_read_refusal raw.now ≡ None)
             × (raw.now.kind ≡ password_algorithms_kind) × (value.now ≡ raw.now.value)
-            × (length (numbers_told value.now) ≤ most_algorithms)
-            × (list_all is_known (numbers_told value.now) ≡ true))
+            × (length (numbers_decoded value.now) ≤ most_algorithms)
+            × (list_all is_known (numbers_decoded value.now) ≡ true))
             (IsNamed (algorithms_read_refusal raw.now)) }
     {
         let value = value_of(
@@ -204,17 +216,17 @@ impl PasswordAlgorithms {
             4,
             PasswordAlgorithms::MAX_LEN,
         )?;
-        if value.len() % 4 != 0 || !tell_known(value) {
+        if value.len() % 4 != 0 || !decode_known(value) {
             return Err(StunParseError::InvalidAttributeData);
         }
         Ok(value)
     }
 }
 
-/// Whether each entry tells a known algorithm.
-#[tactic(auto, using(crate::proofs::Lists::told))]
-fn tell_known(value: &[u8]) -> bool
-    ensures { result ≡ list_all is_known (numbers_told value.now) }
+/// Returns whether the algorithm of each entry is known.
+#[tactic(auto, using(crate::proofs::Lists::decoded))]
+fn decode_known(value: &[u8]) -> bool
+    ensures { result ≡ list_all is_known (numbers_decoded value.now) }
 {
     let mut left = value;
     while let Some((entry, rest)) = left.split_first_chunk::<4>() {
@@ -226,12 +238,13 @@ fn tell_known(value: &[u8]) -> bool
     true
 }
 
-/// The algorithms that entries tell, each of which is known. Where memory is refused, `NoMemory`.
-#[tactic(auto, using(crate::proofs::Lists::told))]
+/// Decodes the algorithms of entries, each of which is known. Fails only with `NoMemory`, if an
+/// allocation fails.
+#[tactic(auto, using(crate::proofs::Lists::decoded))]
 fn algorithms_of(alloc: Global, value: &[u8]) -> Result<Vec<PasswordAlgorithmValue>, StunParseError>
-    requires { list_all is_known (numbers_told value.now) ≡ true }
-    ensures told { IfOk result (λ algorithms. map number_of algorithms.items
-        ≡ numbers_told value.now) }
+    requires { list_all is_known (numbers_decoded value.now) ≡ true }
+    ensures decoded { IfOk result (λ algorithms. map number_of algorithms.items
+        ≡ numbers_decoded value.now) }
     ensures refused { IfErr result (λ error. error ≡ StunParseError.NoMemory) }
 {
     let mut algorithms = Vec::with_capacity(alloc, value.len() / 4)?;

@@ -14,11 +14,11 @@ use stun_types_wire::registry;
 use stun_types_write::attribute::{
     Attribute, AttributeFromRaw, AttributeStaticType, AttributeWrite,
 };
-use stun_types_write::reading::{text_is_read, text_of};
+use stun_types_write::reading::{proof_text_is_read, text_of};
 use stun_types_write::text::write_attribute;
 
-/// The realm in which a user name and a password count. It has at most 763 bytes. Contracts see the bytes
-/// of the text.
+/// The realm in which a user name and a password are valid. It has at most 763 bytes. Contracts see
+/// the bytes of the text.
 #[derive(Debug, Drop)]
 pub struct Realm {
     realm: String,
@@ -37,11 +37,15 @@ impl Model for Realm {
 }
 
 impl Realm {
-    /// How many bytes the text has at most.
+    /// The maximum length of the text in bytes.
     pub const MAX_LEN: usize = registry::MAX_TEXT_LENGTH;
 
-    /// The REALM of a text. Refused with `TooLarge` where the text has more than 763 bytes; where
-    /// memory is refused, with `NoMemory`.
+    /// Makes a REALM.
+    ///
+    /// # Errors
+    ///
+    /// - `TooLarge`: the text has more than 763 bytes.
+    /// - `NoMemory`: an allocation failed.
     pub fn new(alloc: Global, realm: &str) -> Result<Realm, StunWriteError>
         ensures ok { IfOk result (λ made. (made ≡ realm.now)
             × (text_refusal longest_text realm.now ≡ None)) }
@@ -59,7 +63,7 @@ impl Realm {
         })
     }
 
-    /// The text.
+    /// Returns the text.
     pub fn realm(&self) -> &str
         ensures value { result.now ≡ self.now }
         ensures short { length result.now ≤ longest_text }
@@ -102,8 +106,16 @@ impl AttributeWrite for Realm {
     }
 }
 
-/// A text of at most 763 bytes. A longer value is `TooLarge`, one that is not UTF-8
-/// `InvalidAttributeData`.
+/// Decodes a text of at most 763 bytes.
+///
+/// # Errors
+///
+/// In this order:
+///
+/// - `WrongAttributeImplementation`: the type is another one.
+/// - `TooLarge`: the value is longer.
+/// - `InvalidAttributeData`: the value is not UTF-8.
+/// - `NoMemory`: an allocation failed.
 impl<'a> AttributeFromRaw<'a> for Realm {
     ghost use Rattle.stun_types_write.specs.ValueReading.{text_read_refusal};
 
@@ -122,7 +134,7 @@ impl<'a> AttributeFromRaw<'a> for Realm {
         Realm::from_raw_ref(alloc, &raw)
     }
 
-    fn is_read_back(&self, _read: &Realm) {
-        text_is_read(self.realm(), Realm::MAX_LEN);
+    fn proof_is_read_back(&self, _read: &Realm) {
+        proof_text_is_read(self.realm(), Realm::MAX_LEN);
     }
 }

@@ -14,10 +14,10 @@ use stun_types_wire::registry;
 use stun_types_write::attribute::{
     Attribute, AttributeFromRaw, AttributeStaticType, AttributeWrite,
 };
-use stun_types_write::reading::{text_is_read, text_of};
+use stun_types_write::reading::{proof_text_is_read, text_of};
 use stun_types_write::text::write_attribute;
 
-/// What a sender says of the software that it runs, to help in finding faults (RFC 8489, section 14.14).
+/// The sender's description of its software, which helps to find faults (RFC 8489, section 14.14).
 /// It has at most 763 bytes. Contracts see the bytes of the text.
 #[derive(Debug, Drop)]
 pub struct Software {
@@ -37,11 +37,15 @@ impl Model for Software {
 }
 
 impl Software {
-    /// How many bytes the text has at most.
+    /// The maximum length of the text in bytes.
     pub const MAX_LEN: usize = registry::MAX_SOFTWARE_LENGTH;
 
-    /// The SOFTWARE of a text. Refused with `TooLarge` where the text has more than 763 bytes; where
-    /// memory is refused, with `NoMemory`.
+    /// Makes a SOFTWARE.
+    ///
+    /// # Errors
+    ///
+    /// - `TooLarge`: the text has more than 763 bytes.
+    /// - `NoMemory`: an allocation failed.
     pub fn new(alloc: Global, software: &str) -> Result<Software, StunWriteError>
         ensures ok { IfOk result (λ made. (made ≡ software.now)
             × (text_refusal longest_software software.now ≡ None)) }
@@ -59,7 +63,7 @@ impl Software {
         })
     }
 
-    /// The text.
+    /// Returns the text.
     pub fn software(&self) -> &str
         ensures value { result.now ≡ self.now }
         ensures short { length result.now ≤ longest_software }
@@ -102,8 +106,16 @@ impl AttributeWrite for Software {
     }
 }
 
-/// A text of at most 763 bytes. Refused, in this order: `WrongAttributeImplementation` where it is
-/// another type, `TooLarge` where the value is longer, `InvalidAttributeData` where it is not UTF-8.
+/// Decodes a text of at most 763 bytes.
+///
+/// # Errors
+///
+/// In this order:
+///
+/// - `WrongAttributeImplementation`: the type is another one.
+/// - `TooLarge`: the value is longer.
+/// - `InvalidAttributeData`: the value is not UTF-8.
+/// - `NoMemory`: an allocation failed.
 impl<'a> AttributeFromRaw<'a> for Software {
     ghost use Rattle.stun_types_write.specs.ValueReading.{text_read_refusal};
 
@@ -122,7 +134,7 @@ impl<'a> AttributeFromRaw<'a> for Software {
         Software::from_raw_ref(alloc, &raw)
     }
 
-    fn is_read_back(&self, _read: &Software) {
-        text_is_read(self.software(), Software::MAX_LEN);
+    fn proof_is_read_back(&self, _read: &Software) {
+        proof_text_is_read(self.software(), Software::MAX_LEN);
     }
 }

@@ -20,8 +20,8 @@ use stun_types_write::attribute::{
 use stun_types_write::reading::value_of;
 use stun_types_write::text::write_attribute;
 
-/// A hash of a user's name and realm, which tells the user to the server and to nobody else (RFC 8489,
-/// section 14.4). Contracts see its 32 bytes.
+/// A hash of a user's name and realm, which identifies the user to the server and to nobody else
+/// (RFC 8489, section 14.4). Contracts see its 32 bytes.
 #[derive(Debug, Drop)]
 pub struct Userhash {
     hash: [u8; 32],
@@ -39,14 +39,14 @@ impl Model for Userhash {
 }
 
 impl Userhash {
-    /// The USERHASH of a hash.
+    /// Makes a USERHASH of a hash.
     pub fn new(hash: [u8; 32]) -> Userhash
         ensures { result ≡ hash }
     {
         Userhash { hash }
     }
 
-    /// The hash.
+    /// Returns the hash.
     pub fn hash(&self) -> &[u8; 32]
         ensures value { result.now ≡ self.now }
         ensures length { length result.now ≡ userhash_length }
@@ -54,8 +54,8 @@ impl Userhash {
         &self.hash
     }
 
-    /// The hash of a user's name in a realm: the SHA-256 of the name, a colon and the realm, as they
-    /// stand.
+    /// Computes the hash of a user's name in a realm: the SHA-256 of the name, a colon and the
+    /// realm, with both texts taken unchanged.
     pub fn compute(username: &str, realm: &str) -> [u8; 32]
         ensures { result ≡ userhash_of username.now realm.now }
     {
@@ -101,8 +101,15 @@ impl AttributeWrite for Userhash {
     }
 }
 
-/// The 32 bytes of a hash. Refused, in this order: `WrongAttributeImplementation` where it is another
-/// type, `Truncated` where the value is shorter, `TooLarge` where it is longer.
+/// Decodes the 32 bytes of a hash.
+///
+/// # Errors
+///
+/// In this order:
+///
+/// - `WrongAttributeImplementation`: the type is another one.
+/// - `Truncated`: the value is shorter.
+/// - `TooLarge`: the value is longer.
 impl<'a, 'raw> TryFrom<&'raw RawAttribute<'a>> for Userhash {
     ghost use Rattle.std.specs.Prelude.{◌≡◌, MatchResult, Some, None};
     ghost use Rattle.stun_types_write.specs.ValueReading.{IsNamed};
@@ -128,7 +135,7 @@ impl<'a, 'raw> TryFrom<&'raw RawAttribute<'a>> for Userhash {
     }
 }
 
-/// Refused as `try_from` is; no memory is taken.
+/// Decodes the attribute as `try_from` does, with the same errors. It allocates nothing.
 impl<'a> AttributeFromRaw<'a> for Userhash {
     ghost use Rattle.std.specs.Prelude.{false};
     ghost use Rattle.stun_types_write.specs.ValueReading.{value_refusal};
@@ -148,7 +155,7 @@ impl<'a> AttributeFromRaw<'a> for Userhash {
     }
 
     #[tactic(auto, using(stun_types_write::proofs::Values::value_is_accepted))]
-    fn is_read_back(&self, _read: &Userhash) {
+    fn proof_is_read_back(&self, _read: &Userhash) {
         let _ = self.hash();
     }
 }

@@ -14,7 +14,7 @@ use stun_types_wire::registry;
 use stun_types_write::attribute::{
     Attribute, AttributeFromRaw, AttributeStaticType, AttributeWrite,
 };
-use stun_types_write::reading::{text_is_read, text_of};
+use stun_types_write::reading::{proof_text_is_read, text_of};
 use stun_types_write::text::write_attribute;
 
 /// The name of a user. It has at most 513 bytes. Contracts see the bytes of the text.
@@ -36,11 +36,15 @@ impl Model for Username {
 }
 
 impl Username {
-    /// How many bytes the text has at most.
+    /// The maximum length of the text in bytes.
     pub const MAX_LEN: usize = registry::MAX_USERNAME_LENGTH;
 
-    /// The USERNAME of a text. Refused with `TooLarge` where the text has more than 513 bytes; where
-    /// memory is refused, with `NoMemory`.
+    /// Makes a USERNAME.
+    ///
+    /// # Errors
+    ///
+    /// - `TooLarge`: the text has more than 513 bytes.
+    /// - `NoMemory`: an allocation failed.
     pub fn new(alloc: Global, username: &str) -> Result<Username, StunWriteError>
         ensures ok { IfOk result (λ made. (made ≡ username.now)
             × (text_refusal longest_username username.now ≡ None)) }
@@ -58,7 +62,7 @@ impl Username {
         })
     }
 
-    /// The text.
+    /// Returns the text.
     pub fn username(&self) -> &str
         ensures value { result.now ≡ self.now }
         ensures short { length result.now ≤ longest_username }
@@ -101,8 +105,16 @@ impl AttributeWrite for Username {
     }
 }
 
-/// A text of at most 513 bytes. A longer value is `TooLarge`, one that is not UTF-8
-/// `InvalidAttributeData`.
+/// Decodes a text of at most 513 bytes.
+///
+/// # Errors
+///
+/// In this order:
+///
+/// - `WrongAttributeImplementation`: the type is another one.
+/// - `TooLarge`: the value is longer.
+/// - `InvalidAttributeData`: the value is not UTF-8.
+/// - `NoMemory`: an allocation failed.
 impl<'a> AttributeFromRaw<'a> for Username {
     ghost use Rattle.stun_types_write.specs.ValueReading.{text_read_refusal};
 
@@ -121,7 +133,7 @@ impl<'a> AttributeFromRaw<'a> for Username {
         Username::from_raw_ref(alloc, &raw)
     }
 
-    fn is_read_back(&self, _read: &Username) {
-        text_is_read(self.username(), Username::MAX_LEN);
+    fn proof_is_read_back(&self, _read: &Username) {
+        proof_text_is_read(self.username(), Username::MAX_LEN);
     }
 }

@@ -1,4 +1,4 @@
--- A std map by order seen as a finite map, its keys by one view and its values by another.
+-- A std map as a finite map. One function views its keys, and another its values.
 use Rattle.std.specs.Prelude.{◌≡◌, true, false, List, [], ◌∷◌, map, Option, Some, None}
 use Rattle.std.proofs.Common.{refl, sym, ap, ◌∙◌, cond}
 use Rattle.std.specs.declared.cmp.Ordering.{Ordering}
@@ -10,7 +10,7 @@ use Rattle.std.specs.FinMap as finite
 use Rattle.std.specs.Cmp.{IsTotalOrder, eq_by_cmp_equiv}
 
 module _ {K L X Y : Type 0} (key_view : K → L) {order : L → L → Ordering} (total : IsTotalOrder order) (value_view : X → Y) where
-  -- a search among the viewed entries is one among the entries
+  -- Searching the viewed entries for a key finds the view of the value that searching the entries finds.
   find-map : (key : L) (entries : List (K × X))
       → finite.find order key (map (λ e. (key_view e.0, value_view e.1)) entries) ≡ option_map value_view (lookup (λ k. is_eq (order key (key_view k))) entries)
   find-map key [] = refl
@@ -21,19 +21,19 @@ module _ {K L X Y : Type 0} (key_view : K → L) {order : L → L → Ordering} 
         | false ↦ find-map key entries
       ]
 
-  -- the finite map that a std map shows
+  -- The finite map that is the view of a std map.
   abbrev pub finite_map : BTreeMap K X → finite.FinMap order Y
   finite_map tree = finite.from_entries (map (λ e. (key_view e.0, value_view e.1)) tree.entries)
 
-  -- what a std map answers at a viewed key
+  -- The value that a std map has for a viewed key.
   abbrev pub value_at : BTreeMap K X → L → Option X
   value_at tree key = get_by (λ k. order key (key_view k)) tree
 
-  -- a look-up in the std map is one in the finite map
+  -- Looking up a key in the finite map gives the view of its value in the std map.
   pub get-finite_map : (tree : BTreeMap K X) (key : L) → finite.get (finite_map tree) key ≡ option_map value_view (value_at tree key)
   get-finite_map tree key = finite.get-from_entries total (map (λ e. (key_view e.0, value_view e.1)) tree.entries) key ∙ find-map key tree.entries
 
-  -- an insertion into the std map is one into the finite map
+  -- Inserting into the std map inserts into the finite map.
   pub insert-finite_map : finite.IsAntisymmetric order → (old new : BTreeMap K X) (key : L) (value : X)
       → ((q : L) → value_at new q ≡ cond (is_eq (order key q)) (Some value) (value_at old q)) → finite_map new ≡ finite.insert (finite_map old) key (value_view value)
   insert-finite_map same old new key value updates =
@@ -45,7 +45,7 @@ module _ {K L X Y : Type 0} (key_view : K → L) {order : L → L → Ordering} 
       ∙ ap (λ tie. cond tie (Some (value_view value)) (finite.get (finite_map old) q)) ((eq_by_cmp_equiv total).symm key q)
       ∙ sym (finite.get-insert total (finite_map old) key (value_view value) q))
 
-  -- a removal from the std map is one from the finite map
+  -- Removing from the std map removes from the finite map.
   pub remove-finite_map : finite.IsAntisymmetric order → (old new : BTreeMap K X) (key : L)
       → ((q : L) → value_at new q ≡ cond (is_eq (order key q)) None (value_at old q)) → finite_map new ≡ finite.remove (finite_map old) key
   remove-finite_map same old new key updates =

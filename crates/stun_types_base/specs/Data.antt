@@ -8,7 +8,7 @@ abbrev pub data_bytes : Data → List ℕ
 data_bytes (Borrowed slice) = slice.0.now
 data_bytes (Owned owned) = boxed_slice_items owned.0
 
--- whether they are owned
+-- Whether the bytes are owned.
 abbrev pub is_owned : Data → Bool
 is_owned (Borrowed _) = false
 is_owned (Owned _) = true

@@ -15,7 +15,7 @@ abbrev pub family_of_ip : IpAddr → AddressFamily
 family_of_ip (IpV4 _) = IPV4
 family_of_ip (IpV6 _) = IPV6
 
--- the text of a family
+-- The name of a family, as it is printed.
 abbrev pub name_of_family : AddressFamily → List ℕ
 name_of_family IPV4 = codes "IPV4"
 name_of_family IPV6 = codes "IPV6"

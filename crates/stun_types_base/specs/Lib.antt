@@ -5,4 +5,4 @@ pub mod GeneratorWords
 pub mod Data
 pub mod Family
 pub mod Transport
-pub mod Moments
+pub mod Times

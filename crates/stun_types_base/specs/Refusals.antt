@@ -1,16 +1,19 @@
--- Why a call is refused. Want of memory is the last cause: it is told only where there is no other.
+-- The error that a call returns. A failed allocation is the last to be checked: it is the error only if no
+-- other applies.
 use Rattle.std.specs.Prelude.{◌≡◌, ◌≢◌, Option, Some, None, Result, MatchResult}
 
--- an error is the cause; the one that tells want of memory comes only where there is no cause
+-- `error` is the error of a call whose first refusal is `refusal`. It is `memory`, for a failed allocation,
+-- only if there is no refusal.
 pub record IsCause {E : Type 0} (memory : E) (refusal : Option E) (error : E) : Type 0 where
   pub named : error ≢ memory → refusal ≡ Some error
   pub last : error ≡ memory → refusal ≡ None
 
--- an error is the cause, and is not the one that tells want of memory: the call takes none
+-- `error` is the refusal, and is not the error of a failed allocation: the call allocates nothing.
 pub record IsNamed {E : Type 0} (memory : E) (refusal : Option E) (error : E) : Type 0 where
   pub cause : refusal ≡ Some error
   pub named : error ≢ memory
 
--- a result is refused for this cause alone, or where there is none for want of memory
+-- A call succeeds only if there is no refusal. It fails with the refusal or, if there is none, because an
+-- allocation failed.
 abbrev pub RefusesFor : {A E : Type 0} → E → Option E → Result A E → Type 0
 RefusesFor memory refusal result = MatchResult result (λ _. refusal ≡ None) (IsCause memory refusal)

@@ -1,4 +1,4 @@
--- The order of std's socket addresses, which a map by addresses is kept in.
+-- The order of std's socket addresses, by which maps keyed by address are sorted.
 use Rattle.std.specs.Prelude.{◌≡◌, refl}
 use Rattle.std.specs.Ordering.{nat_cmp, ordering_then}
 use Rattle.std.specs.Cmp.{IsTotalOrder}
@@ -16,31 +16,31 @@ use Rattle.std.specs.contracts.net.socket_addr.SocketAddrOrd.TheImpl as order
 use Rattle.std.specs.contracts.net.socket_addr.SocketAddrOrd.TheImpl.Laws as order_laws
 use Rattle.std.proofs.Common.{ap}
 
--- what `cmp` answers at two addresses
+-- The result of `cmp` for two addresses.
 abbrev pub socket_addr_cmp : SocketAddr → SocketAddr → Ordering
 socket_addr_cmp = (order.cmp-value).it
 
--- the order is total
+-- The order is total.
 pub socket_addr_cmp_total : IsTotalOrder socket_addr_cmp
 socket_addr_cmp_total = order_laws.total-law
 
--- where one comparison after another says equal, both do
+-- If one comparison followed by another gives equal, each of them gives equal.
 both_equal : (first then : Ordering) → ordering_then first then ≡ Equal → (first ≡ Equal) × (then ≡ Equal)
 both_equal Equal then tie = (refl, tie)
 both_equal Less then tie = absurd (Prim.cc tie)
 both_equal Greater then tie = absurd (Prim.cc tie)
 
--- an IPv4 socket address is its octets and its port
+-- IPv4 socket addresses are equal if their octets and their ports are.
 same_v4 : (a b : SocketAddrV4) → ipv4_octets (v4_ip a) ≡ ipv4_octets (v4_ip b) → v4_port a ≡ v4_port b → a ≡ b
 same_v4 a b octets port i = record { ip = record { octets = octets i }; port = port i }
 
--- an IPv6 socket address is its segments, its port, its flow information and its scope
+-- IPv6 socket addresses are equal if their segments, ports, flow information and scopes are.
 same_v6 : (a b : SocketAddrV6) → ipv6_segments (v6_ip a) ≡ ipv6_segments (v6_ip b) → v6_port a ≡ v6_port b
     → v6_flowinfo a ≡ v6_flowinfo b → v6_scope_id a ≡ v6_scope_id b → a ≡ b
 same_v6 a b segments port flowinfo scope_id i =
     record { ip = record { segments = segments i }; port = port i; flowinfo = flowinfo i; scope_id = scope_id i }
 
--- only equal addresses tie
+-- Only equal addresses compare as equal.
 pub socket_addr_cmp-IsAntisymmetric : IsAntisymmetric socket_addr_cmp
 socket_addr_cmp-IsAntisymmetric (V4 a) (V4 b) tie =
     let parts = both_equal (slice_cmp nat_cmp (ipv4_octets (v4_ip a)) (ipv4_octets (v4_ip b)))

@@ -4,12 +4,12 @@ use Rattle.stun_types_base.specs.declared.transport.TransportType.{TransportType
 use Rattle.stun_types_base.specs.declared.transport.TransportType.TheVariants.{Udp, Tcp}
 use Rattle.stun_types_base.specs.declared.transport.ParseTransportTypeError.{ParseTransportTypeError}
 
--- the text of a transport
+-- The name of a transport.
 abbrev pub name_of_transport : TransportType → List ℕ
 name_of_transport Udp = codes "UDP"
 name_of_transport Tcp = codes "TCP"
 
--- a text is read as the transport that it names, and refused where it names none
+-- A text is parsed as the transport that it names. Parsing fails if it names none.
 abbrev pub ReadsTransport : List ℕ → Result TransportType ParseTransportTypeError → Type 0
 ReadsTransport text result = MatchResult result (λ transport. text ≡ name_of_transport transport)
     (λ _. (text ≢ codes "UDP") × (text ≢ codes "TCP"))

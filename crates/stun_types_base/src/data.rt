@@ -14,21 +14,21 @@ use std::convert::AsSlice;
 pub struct DataSlice<'a>(&'a [u8]);
 
 impl<'a> DataSlice<'a> {
-    /// The bytes, for as long as they are borrowed.
+    /// Returns the bytes with the lifetime of their borrow.
     pub fn take(self) -> &'a [u8]
         ensures { result.now ≡ self.entry.0.now }
     {
         self.0
     }
 
-    /// The bytes.
+    /// Returns the bytes.
     pub fn as_slice(&self) -> &[u8]
         ensures { result.now ≡ self.now.0.now }
     {
         self.0
     }
 
-    /// A copy of the bytes. Where memory is refused, `NoMemory`.
+    /// Copies the bytes. Fails only with `NoMemory`, if an allocation fails.
     pub fn to_owned(&self, alloc: Global) -> Result<DataOwned, NoMemory>
         ensures { IfOk result (λ owned. boxed_slice_items owned.0 ≡ self.now.0.now) }
     {
@@ -36,7 +36,7 @@ impl<'a> DataSlice<'a> {
     }
 }
 
-/// The bytes, borrowed.
+/// Wraps borrowed bytes.
 impl<'a> From<&'a [u8]> for DataSlice<'a> {
     ghost use Rattle.std.specs.Prelude.{◌≡◌};
 
@@ -47,7 +47,7 @@ impl<'a> From<&'a [u8]> for DataSlice<'a> {
     }
 }
 
-/// The bytes, for as long as they are borrowed.
+/// Returns the bytes with the lifetime of their borrow.
 impl<'a> From<DataSlice<'a>> for &'a [u8] {
     ghost use Rattle.std.specs.Prelude.{◌≡◌};
 
@@ -63,14 +63,14 @@ impl<'a> From<DataSlice<'a>> for &'a [u8] {
 pub struct DataOwned(BoxedSlice<u8>);
 
 impl DataOwned {
-    /// The bytes, in their box.
+    /// Returns the box that holds the bytes.
     pub fn take(self) -> BoxedSlice<u8>
         ensures { result ≡ self.0 }
     {
         self.0
     }
 
-    /// The bytes.
+    /// Returns the bytes.
     pub fn as_slice(&self) -> &[u8]
         ensures { result.now ≡ boxed_slice_items self.now.0 }
     {
@@ -78,7 +78,7 @@ impl DataOwned {
     }
 }
 
-/// The bytes, which stay in their box.
+/// Wraps the box without copying its bytes.
 impl From<BoxedSlice<u8>> for DataOwned {
     ghost use Rattle.std.specs.Prelude.{◌≡◌};
 
@@ -89,7 +89,7 @@ impl From<BoxedSlice<u8>> for DataOwned {
     }
 }
 
-/// The bytes, in their box.
+/// Returns the box that holds the bytes.
 impl From<DataOwned> for BoxedSlice<u8> {
     ghost use Rattle.std.specs.Prelude.{◌≡◌};
 
@@ -100,7 +100,7 @@ impl From<DataOwned> for BoxedSlice<u8> {
     }
 }
 
-/// Bytes that are borrowed or owned. Equality tells borrowed from owned.
+/// Bytes that are borrowed or owned. A borrowed value never equals an owned one.
 #[derive(Debug, PartialEq, Eq, Drop)]
 pub enum Data<'a> {
     /// Borrowed bytes.
@@ -110,7 +110,7 @@ pub enum Data<'a> {
 }
 
 impl<'a> Data<'a> {
-    /// The bytes.
+    /// Returns the bytes.
     pub fn as_slice(&self) -> &[u8]
         ensures { result.now ≡ data_bytes self.now }
     {
@@ -120,8 +120,8 @@ impl<'a> Data<'a> {
         }
     }
 
-    /// The same bytes, owned: those that are borrowed are copied, and those that are owned stay in
-    /// their box, which asks for no memory. Where memory is refused, `NoMemory`.
+    /// Returns the bytes as owned ones. Borrowed bytes are copied. Owned bytes stay in their box,
+    /// which allocates nothing. Fails only with `NoMemory`, if an allocation fails.
     pub fn into_owned<'b>(self, alloc: Global) -> Result<Data<'b>, NoMemory>
         ensures bytes { IfOk result (λ owned. data_bytes owned ≡ data_bytes self.entry) }
         ensures owned { IfOk result (λ owned. is_owned owned ≡ true) }
@@ -134,7 +134,7 @@ impl<'a> Data<'a> {
     }
 }
 
-/// The bytes, for a bound that asks for an owner of bytes.
+/// Borrows the bytes, so that a `Data` can be passed where an owner of bytes is required.
 impl<'a> AsSlice<u8> for Data<'a> {
     ghost use Rattle.stun_types_base.specs.Data.{data_bytes};
 
@@ -145,7 +145,7 @@ impl<'a> AsSlice<u8> for Data<'a> {
     }
 }
 
-/// Borrowed bytes.
+/// Makes a borrowed value.
 impl<'a> From<DataSlice<'a>> for Data<'a> {
     ghost use Rattle.std.specs.Prelude.{◌≡◌};
     ghost use Rattle.stun_types_base.specs.declared.data.Data.TheVariants.{Borrowed};
@@ -157,7 +157,7 @@ impl<'a> From<DataSlice<'a>> for Data<'a> {
     }
 }
 
-/// Owned bytes.
+/// Makes an owned value.
 impl<'a> From<DataOwned> for Data<'a> {
     ghost use Rattle.std.specs.Prelude.{◌≡◌};
     ghost use Rattle.stun_types_base.specs.declared.data.Data.TheVariants.{Owned};
@@ -169,7 +169,7 @@ impl<'a> From<DataOwned> for Data<'a> {
     }
 }
 
-/// Borrowed bytes.
+/// Makes a borrowed value.
 impl<'a> From<&'a [u8]> for Data<'a> {
     ghost use Rattle.std.specs.Prelude.{◌≡◌, false};
     ghost use Rattle.stun_types_base.specs.Data.{data_bytes, is_owned};
@@ -181,7 +181,7 @@ impl<'a> From<&'a [u8]> for Data<'a> {
     }
 }
 
-/// Owned bytes.
+/// Makes an owned value.
 impl<'a> From<BoxedSlice<u8>> for Data<'a> {
     ghost use Rattle.std.specs.Prelude.{◌≡◌, true};
     ghost use Rattle.std.specs.Box.{boxed_slice_items};

@@ -1,4 +1,4 @@
-//! Families of addresses.
+//! Address families.
 
 use std::fmt;
 use std::net::{IpAddr, Ipv4Addr, Ipv6Addr, SocketAddr, SocketAddrV4, SocketAddrV6};

@@ -1,14 +1,14 @@
-//! Moments, in nanoseconds.
+//! Points in time, in nanoseconds.
 
 ghost use Rattle.std.specs.Prelude.{◌≡◌, ◌↔◌, ◌+◌, ◌-◌, ◌≤◌, IsSome, IfSome};
 ghost use Rattle.std.specs.Duration.{as_nanos};
-ghost use Rattle.stun_types_base.specs.Moments.{greatest_moment, moment_after};
+ghost use Rattle.stun_types_base.specs.Times.{greatest_time, time_after};
 
 use std::marker::Model;
 use std::time::Duration;
 
-/// A moment, as the nanoseconds since a start that the caller chooses, at most 2^64 - 1. Contracts
-/// see that number.
+/// A point in time: the nanoseconds since a start that the caller chooses, at most 2^64 - 1.
+/// Contracts see an `Instant` as that number.
 #[derive(Clone, Copy, Debug, PartialEq, Eq, PartialOrd, Ord, Hash)]
 pub struct Instant {
     nanos: u64,
@@ -25,27 +25,27 @@ impl Model for Instant {
 }
 
 impl Instant {
-    /// The start.
+    /// The start: 0 nanoseconds.
     pub const ZERO: Instant = Instant { nanos: 0 };
 
-    /// The moment that many nanoseconds after the start.
+    /// Returns the time `nanos` nanoseconds after the start.
     pub fn from_nanos(nanos: u64) -> Self
         ensures { result ≡ nanos }
     {
         Instant { nanos }
     }
 
-    /// The nanoseconds since the start.
+    /// Returns the nanoseconds since the start.
     pub fn as_nanos(self) -> u64
         ensures { result ≡ self }
     {
         self.nanos
     }
 
-    /// The moment that much later, or `None` where no `Instant` is so late. A duration may be
-    /// longer than all the time that an `Instant` covers.
+    /// Adds a duration. Returns `None` if the sum is later than the greatest `Instant`. A duration
+    /// may be longer than the whole range of an `Instant`.
     pub fn checked_add(self, duration: Duration) -> Option<Instant>
-        ensures variant { IsSome result ↔ (self + as_nanos duration ≤ greatest_moment) }
+        ensures variant { IsSome result ↔ (self + as_nanos duration ≤ greatest_time) }
         ensures sum { IfSome result (λ later. later ≡ self + as_nanos duration) }
     {
         let nanos = u64::try_from(duration.as_nanos()).ok()?;
@@ -54,9 +54,9 @@ impl Instant {
         })
     }
 
-    /// The moment that much later, or the greatest `Instant`, where none is so late.
+    /// Adds a duration. Returns the greatest `Instant` if the sum would be later than that.
     pub fn saturating_add(self, duration: Duration) -> Instant
-        ensures { result ≡ moment_after self (as_nanos duration) }
+        ensures { result ≡ time_after self (as_nanos duration) }
     {
         match self.checked_add(duration) {
             Some(later) => later,
@@ -64,7 +64,7 @@ impl Instant {
         }
     }
 
-    /// How much later this moment is than another: nothing, where it isn't later.
+    /// Returns the time that passed since `earlier`, or zero if `earlier` is not before this time.
     pub fn duration_since(self, earlier: Instant) -> Duration
         ensures { as_nanos result ≡ self - earlier }
     {

@@ -1,6 +1,12 @@
-//! What every layer needs, and no protocol: lists seen as their elements, `NoMemory`, bytes that are
-//! borrowed or owned, addresses and their families, transports, what is sent between two addresses, moments,
-//! and the words of a random generator.
+//! Types that every layer needs and that know no protocol:
+//!
+//! - lists that contracts see as their elements ([`list`]);
+//! - [`memory::NoMemory`], the error of a failed allocation;
+//! - bytes that are borrowed or owned ([`data`]);
+//! - address families, transports, and the order of socket addresses;
+//! - [`transmit::Transmit`], bytes on their way between two addresses;
+//! - [`instant::Instant`], points in time;
+//! - the words of a random number generator ([`words`]).
 #![tactic(auto)]
 
 pub mod data;

@@ -1,4 +1,4 @@
-//! A growing list whose capacity is no part of its value.
+//! A growable list whose capacity is not part of its value.
 
 ghost use Rattle.std.specs.Prelude.{◌≡◌, ◌==◌, ◌<◌, List, [], ◌∷◌, ◌++◌, Some, length, remove, slice_get, OnOk, OnErr, option_to_list};
 ghost use Rattle.std.specs.Borrow.{sem};
@@ -10,11 +10,11 @@ use crate::memory::NoMemory;
 use std::alloc::Global;
 use std::marker::Model;
 
-/// The most elements that a list holds.
+/// The maximum number of elements in a list.
 const MOST: usize = (1 << 32) - 1;
 
-/// A growing list of fewer than 2^32 elements. Contracts see the list of its elements, so that two lists
-/// with the same elements are one value, whatever room each has.
+/// A growable list of fewer than 2^32 elements. Contracts see it as the list of its elements, so
+/// two lists with equal elements are one value, whatever capacity each has.
 #[derive(Debug, Drop)]
 pub struct ListOf<T> {
     items: Vec<T>,
@@ -31,7 +31,7 @@ impl<T> Model for ListOf<T> {
 }
 
 impl<T> ListOf<T> {
-    /// An empty list, which holds no memory yet.
+    /// Makes an empty list. It allocates nothing until an element is added.
     pub fn new(alloc: Global) -> Self
         ensures { result ≡ [] }
     {
@@ -40,35 +40,35 @@ impl<T> ListOf<T> {
         }
     }
 
-    /// How many elements there are.
+    /// Returns the number of elements.
     pub fn len(&self) -> usize
         ensures { result ≡ length self.now }
     {
         self.items.len()
     }
 
-    /// How many elements there are, which 32 bits hold.
+    /// Returns the number of elements as a `u32`, in which it always fits.
     pub fn count(&self) -> u32
         ensures { result ≡ length self.now }
     {
         self.items.len() as u32
     }
 
-    /// Whether there is no element.
+    /// Returns whether the list is empty.
     pub fn is_empty(&self) -> bool
         ensures { result ≡ (length self.now == 0) }
     {
         self.items.is_empty()
     }
 
-    /// The elements.
+    /// Returns the elements.
     pub fn as_slice(&self) -> &[T]
         ensures { result.now ≡ self.now }
     {
         self.items.as_slice()
     }
 
-    /// The element at an index, to be changed.
+    /// Returns a mutable reference to the element at `index`.
     pub fn at_mut(&mut self, index: usize) -> &mut T
         requires { index < length self.old }
         ensures* writes_back { sem 𝓛 (LendsElement T.row self.entry index result) }
@@ -77,7 +77,7 @@ impl<T> ListOf<T> {
         &mut self.items[index]
     }
 
-    /// The elements, to be changed.
+    /// Returns the elements as a mutable slice.
     pub fn as_mut_slice(&mut self) -> &mut [T]
         ensures* writes_back { sem 𝓛 (LendsSlice T.row self.entry result) }
         ensures value { result.now ≡ self.old }
@@ -85,7 +85,7 @@ impl<T> ListOf<T> {
         self.items.as_mut_slice()
     }
 
-    /// Takes the last element, where there is one.
+    /// Removes the last element and returns it, or `None` if the list is empty.
     pub fn pop(&mut self) -> Option<T>
         ensures items { self.old ≡ self.new ++ option_to_list result }
         ensures undone { (xs : List T) (x : T) → self.old ≡ xs ++ x ∷ [] → self.new ≡ xs }
@@ -93,7 +93,7 @@ impl<T> ListOf<T> {
         self.items.pop()
     }
 
-    /// Takes out the element at an index; those behind it close up.
+    /// Removes the element at `index` and returns it. The elements after it move up by one.
     pub fn remove(&mut self, index: usize) -> T
         requires { index < length self.old }
         ensures value { slice_get self.old index ≡ Some result }
@@ -104,8 +104,8 @@ impl<T> ListOf<T> {
 }
 
 impl<T: Drop> ListOf<T> {
-    /// Adds an element at the end. Where memory is refused, or 2^32 - 1 elements are there, the list stays as
-    /// it was.
+    /// Adds an element at the end. Fails with `NoMemory` if the list has 2^32 - 1 elements or an
+    /// allocation fails. The list is unchanged then, and `value` is dropped.
     pub fn push(&mut self, value: T) -> Result<(), NoMemory>
         ensures ok { OnOk result (self.new ≡ self.old ++ value ∷ []) }
         ensures err { OnErr result (self.new ≡ self.old) }
@@ -123,7 +123,8 @@ impl<T: Drop> ListOf<T> {
     {
         self.items.clear();
     }
-    /// Keeps the elements of which a test says so, in their order. It is asked once of each.
+    /// Keeps only the elements for which `test` returns `true`, in their order. `test` is called
+    /// once for each element.
     pub fn retain<F: FnMut(&T) -> bool>(&mut self, test: F)
         requires { F.IsAlwaysCallable test }
         ensures { IsFiltered (CalledAt F.FnMut) test self.old self.new }

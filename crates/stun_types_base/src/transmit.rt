@@ -1,4 +1,4 @@
-//! Bytes that are to be sent, or were received.
+//! Bytes that are to be sent or were received.
 
 ghost use Rattle.std.specs.Prelude.{◌≡◌, IfOk, Ok, true};
 ghost use Rattle.stun_types_base.specs.Data.{data_bytes, is_owned};
@@ -9,13 +9,13 @@ use crate::transport::TransportType;
 use std::alloc::Global;
 use std::net::SocketAddr;
 
-/// Bytes that are to be sent, or were received, in an owner of their own choice: a slice, a vector, a
-/// `Data`.
+/// Bytes that are to be sent or were received, with their transport and addresses. `T` owns or
+/// borrows the bytes: a slice, a vector or a `Data`, for example.
 #[derive(Debug, Drop)]
 pub struct Transmit<T> {
     /// The bytes.
     pub bytes: T,
-    /// The transport by which they go.
+    /// The transport that carries them.
     pub transport: TransportType,
     /// The address that sends them.
     pub from: SocketAddr,
@@ -24,7 +24,7 @@ pub struct Transmit<T> {
 }
 
 impl<T> Transmit<T> {
-    /// These bytes, by this transport, from one address to another.
+    /// Makes a `Transmit` of these bytes, over this transport, from `from` to `to`.
     pub fn new(bytes: T, transport: TransportType, from: SocketAddr, to: SocketAddr) -> Transmit<T>
         ensures { result ≡ record { bytes = bytes; transport = transport; from = from; to = to } }
     {
@@ -36,7 +36,7 @@ impl<T> Transmit<T> {
         }
     }
 
-    /// What the function answers at the bytes, in their place; transport and addresses stay.
+    /// Replaces the bytes with what `f` returns for them. The transport and the addresses stay.
     pub fn reinterpret_data<O, F: FnOnce(T) -> O>(self, f: F) -> Transmit<O>
         requires { F.pre f self.bytes }
         ensures bytes { F.post f self.bytes result.bytes }
@@ -55,8 +55,8 @@ impl<T> Transmit<T> {
 }
 
 impl<'a> Transmit<Data<'a>> {
-    /// The same with owned bytes: those that are borrowed are copied, and those that are owned stay
-    /// in their box, which asks for no memory. Where memory is refused, `NoMemory`.
+    /// Returns the same transmission with owned bytes. Borrowed bytes are copied. Owned bytes stay
+    /// in their box, which allocates nothing. Fails only with `NoMemory`, if an allocation fails.
     pub fn into_owned<'b>(self, alloc: Global) -> Result<Transmit<Data<'b>>, NoMemory>
         ensures bytes { IfOk result (λ owned. data_bytes owned.bytes
             ≡ data_bytes self.entry.bytes) }

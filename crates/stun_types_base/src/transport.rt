@@ -13,7 +13,7 @@ pub enum TransportType {
     Tcp,
 }
 
-/// Why a text names no transport.
+/// The error of parsing a text that names no transport.
 #[derive(Clone, Copy, Debug, PartialEq, Eq, Error)]
 pub enum ParseTransportTypeError {
     /// The text is neither `UDP` nor `TCP`.
@@ -36,7 +36,7 @@ impl fmt::Display for TransportType {
     }
 }
 
-/// Reads what `Display` prints, in upper case alone.
+/// Parses what `Display` prints, in upper case only.
 impl FromStr for TransportType {
     ghost use Rattle.stun_types_base.specs.Transport.{ReadsTransport};
 

@@ -1,11 +1,11 @@
-//! Words drawn from a random number generator, by their place in its stream.
+//! Words that a random number generator generates, by their position in its stream.
 
 ghost use Rattle.std.specs.Prelude.{◌≡◌};
 ghost use Rattle.stun_types_base.specs.GeneratorWords.{stream_after, word_at, words_of};
 
 use rand_core::Rng;
 
-/// The next words of a generator, as many as the array holds.
+/// Generates the next `COUNT` words of a generator.
 pub fn draw_words<const COUNT: usize, R: Rng>(rng: &mut R) -> [u32; COUNT]
     ensures words { result ≡ words_of COUNT (R.stream rng.old) }
     ensures stream { R.stream rng.new ≡ stream_after COUNT (R.stream rng.old) }
@@ -17,7 +17,7 @@ pub fn draw_words<const COUNT: usize, R: Rng>(rng: &mut R) -> [u32; COUNT]
     words
 }
 
-/// The next word of a generator.
+/// Generates the next word of a generator.
 #[tactic(auto, unfolding(crate::specs::GeneratorWords::stream_after))]
 fn draw_word<R: Rng>(rng: &mut R) -> u32
     ensures word { result ≡ word_at (R.stream rng.old) 0 }

@@ -1,4 +1,4 @@
--- Bytes that go through the table, each on its own.
+-- Each byte can be processed on its own with the table.
 use Rattle.std.specs.Prelude.{◌≡◌, ℕ, zero, suc, ◌+◌, ◌*◌, ◌/◌, ◌%◌, ◌^◌, ◌<◌, List, [], ◌∷◌, length}
 use Rattle.std.proofs.Common.{refl, sym, ap, ◌∙◌, arith, get_or, take, drop}
 use Rattle.std.proofs.lemmas.List.{take-append-drop}
@@ -9,7 +9,7 @@ use Rattle.std.proofs.lemmas.Nat.{xor_comm, xor_lt, from_le_bytes-to_le_bytes_4}
 use Rattle.stun_types_digest.specs.Crc.{text_polynomial, bit_steps, byte_step, register_after}
 use Rattle.stun_types_digest.proofs.Register.{bit_steps-xor, bit_steps-add, bit_steps-scale, register_after_is}
 
--- a register of n + 1 bytes: the lowest byte goes through on its own
+-- In a register of n + 1 bytes, the lowest byte can be processed separately from the others.
 pub low_byte_apart : (n w : ℕ) → bit_steps (8 * (n + 1)) w ≡ bit_xor (bit_steps (8 * (n + 1)) (w % 256)) (bit_steps (8 * n) (w / 256))
 low_byte_apart n w =
     let parts : w ≡ w / 256 * 2 ^ 8 + w % 256 = omega arith in
@@ -20,12 +20,12 @@ low_byte_apart n w =
     ∙ ap (bit_xor (bit_steps (8 * (n + 1)) (w % 256)))
     (ap (λ k. bit_steps k (w / 256 * 2 ^ 8)) bits ∙ bit_steps-add 8 (8 * n) (w / 256 * 2 ^ 8) ∙ ap (bit_steps (8 * n)) (bit_steps-scale 8 (w / 256)))
 
--- one byte, by the table
+-- The step for one byte, with the table.
 pub byte_step_is : (c b : ℕ) → byte_step c b ≡ bit_xor (bit_steps (8 * (0 + 1)) (bit_xor c b % 256)) (bit_xor c b / 2 ^ 8)
 unfolding bit_steps
 byte_step_is c b = low_byte_apart 0 (bit_xor c b)
 
--- the first byte of a polynomial goes through on its own
+-- The first byte of a polynomial can be processed separately from the others.
 first_apart : (n b rest : ℕ) → bit_steps (8 * (n + 1)) (bit_xor b (rest * 2 ^ 8)) ≡ bit_xor (bit_steps (8 * (n + 1)) b) (bit_steps (8 * n) rest)
 first_apart n b rest =
     let bits : 8 * (n + 1) ≡ 8 + 8 * n = omega arith in
@@ -33,15 +33,15 @@ first_apart n b rest =
     ∙ ap (bit_xor (bit_steps (8 * (n + 1)) b))
     (ap (λ k. bit_steps k (rest * 2 ^ 8)) bits ∙ bit_steps-add 8 (8 * n) (rest * 2 ^ 8) ∙ ap (bit_steps (8 * n)) (bit_steps-scale 8 rest))
 
--- what four bytes leave with n zero bytes behind them
+-- The register that four bytes leave when n zero bytes follow them.
 abbrev pub left_of : ℕ → List ℕ → ℕ
 left_of n four = bit_steps (8 * (n + 4)) (text_polynomial four)
 
--- the four bytes from place i on
+-- The four bytes from index i on.
 abbrev pub four_at : ℕ → List ℕ → List ℕ
 four_at i bs = get_or bs i 0 ∷ get_or bs (i + 1) 0 ∷ get_or bs (i + 2) 0 ∷ get_or bs (i + 3) 0 ∷ []
 
--- four bytes, each on its own
+-- Four bytes can be processed separately.
 pub four_apart : (n : ℕ) (bs : List ℕ) → length bs ≡ 4 → left_of n bs
     ≡ bit_xor (bit_xor (bit_steps (8 * (n + 3 + 1)) (get_or bs 0 0)) (bit_steps (8 * (n + 2 + 1)) (get_or bs 1 0)))
     (bit_xor (bit_steps (8 * (n + 1 + 1)) (get_or bs 2 0)) (bit_steps (8 * (n + 1)) (get_or bs 3 0)))
@@ -63,7 +63,7 @@ four_apart n (a ∷ b ∷ c ∷ d ∷ []) long =
     ∙ sym (xor_assoc (bit_steps (8 * (n + 3 + 1)) a) (bit_steps (8 * (n + 2 + 1)) b) (bit_xor (bit_steps (8 * (n + 1 + 1)) c) (bit_steps (8 * (n + 1)) d)))
 four_apart n bs long = absurd (omega arith)
 
--- a polynomial of bytes is the number that they are, the lowest byte first
+-- The number that bytes encode, the lowest byte first. It is their polynomial.
 abbrev number_of : List ℕ → ℕ
 number_of [] = 0
 number_of (b ∷ bs) = b + 256 * number_of bs
@@ -88,7 +88,8 @@ byte_at_most n (suc (suc zero)) = omega arith
 byte_at_most n (suc (suc (suc zero))) = omega arith
 byte_at_most n (suc (suc (suc (suc i)))) = omega arith
 
--- four bytes as a number, and the register added to it
+-- Let n be the number that four bytes encode. The polynomial of the bytes of n xor c is the register c added
+-- to the polynomial of the four bytes.
 pub polynomial_of_sum : (c n : ℕ) (bs : List ℕ) → length bs ≡ 4 → ((i : ℕ) → get_or bs i 0 < 256) → c < 2 ^ 32 → n < 2 ^ 32 → n ≡ from_le_bytes w32 bs
     → text_polynomial (to_le_bytes w32 (bit_xor n c)) ≡ bit_xor c (text_polynomial bs)
 polynomial_of_sum c n bs long small c_fits fits is =
@@ -99,7 +100,7 @@ polynomial_of_sum c n bs long small c_fits fits is =
 zero_xor : (x : ℕ) → bit_xor 0 x ≡ x
 zero_xor x = xor_comm 0 x ∙ xor_zero_r x
 
--- four bytes go through with the register added to them, and what is behind them on its own
+-- The register added to the first four bytes can be processed separately from the bytes after them.
 first_four : (c a b d e : ℕ) (more : List ℕ) → register_after c (a ∷ b ∷ d ∷ e ∷ more)
     ≡ bit_xor (register_after 0 more) (bit_steps (8 * (length more + 4)) (bit_xor c (text_polynomial (a ∷ b ∷ d ∷ e ∷ []))))
 first_four c a b d e more =
@@ -110,13 +111,13 @@ first_four c a b d e more =
     let bits : 8 * (n + 4) ≡ 8 * 4 + 8 * n = omega arith in
     let back : bit_steps (8 * n) (text_polynomial more) ≡ register_after 0 more =
     sym (register_after_is more 0 ∙ ap (bit_steps (8 * n)) (zero_xor (text_polynomial more))) in
-    let front : bit_steps (8 * n) there ≡ bit_steps (8 * (n + 4)) mixed =
+    let prefix : bit_steps (8 * n) there ≡ bit_steps (8 * (n + 4)) mixed =
     ap (bit_steps (8 * n)) (register_after_is four c) ∙ sym (ap (λ k. bit_steps k mixed) bits ∙ bit_steps-add (8 * 4) (8 * n) mixed) in
     register_after_is more there ∙ bit_steps-xor (8 * n) there (text_polynomial more)
     ∙ xor_comm (bit_steps (8 * n) there) (bit_steps (8 * n) (text_polynomial more))
-    ∙ ap (λ x. bit_xor x (bit_steps (8 * n) there)) back ∙ ap (bit_xor (register_after 0 more)) front
+    ∙ ap (λ x. bit_xor x (bit_steps (8 * n) there)) back ∙ ap (bit_xor (register_after 0 more)) prefix
 
--- the same from no register
+-- The first four bytes can be processed separately from the bytes after them, if the register is 0.
 four_more : (a b d e : ℕ) (more : List ℕ) → register_after 0 (a ∷ b ∷ d ∷ e ∷ more) ≡ bit_xor (register_after 0 more) (left_of (length more) (a ∷ b ∷ d ∷ e ∷ []))
 four_more a b d e more =
     first_four 0 a b d e more ∙ ap (λ x. bit_xor (register_after 0 more) (bit_steps (8 * (length more + 4)) x)) (zero_xor (text_polynomial (a ∷ b ∷ d ∷ e ∷ [])))
@@ -147,6 +148,6 @@ sixteen_at_once c (a ∷ b ∷ d ∷ e ∷ f ∷ g ∷ h ∷ i ∷ j ∷ k ∷ l
     ∙ ap (λ x. bit_xor x second) (four_more j k l m (n ∷ o ∷ p ∷ q ∷ []) ∙ ap (λ x. bit_xor x third) (last_four n o p q)))
 sixteen_at_once c bs long = absurd (omega arith)
 
--- the first n bytes go through, and then the others
+-- Processing the first n bytes and then the others gives the register after all of them.
 pub register_after-parts : (c n : ℕ) (bs : List ℕ) → register_after (register_after c (take n bs)) (drop n bs) ≡ register_after c bs
 register_after-parts c n bs = sym (fold-append byte_step c (take n bs) (drop n bs)) ∙ ap (register_after c) (take-append-drop n bs)

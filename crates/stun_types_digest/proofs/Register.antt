@@ -1,4 +1,4 @@
--- How the register grows: it is linear, and a whole text goes through it at once.
+-- The register is linear in its input, so a whole text can be processed at once.
 use Rattle.std.specs.Prelude.{◌≡◌, ℕ, zero, suc, ◌+◌, ◌*◌, ◌/◌, ◌%◌, ◌^◌, ◌<◌, List, [], ◌∷◌, length, true, false, nat_eq, if◌then◌else◌}
 use Rattle.std.proofs.Common.{refl, sym, ap, ◌∙◌, arith, add-zero, get_or, lit<, ◌⊎◌, inl, inr}
 use Rattle.std.proofs.lemmas.Bool.{cases_lt}
@@ -9,15 +9,15 @@ use Rattle.stun_types_digest.specs.Crc.{text_polynomial, bit_step, bit_steps, by
 
 -- ---- bit_xor
 
--- a power of 2 goes through bit_xor
+-- Multiplication by a power of 2 distributes over `bit_xor`.
 pub xor-scale : (k x y : ℕ) → bit_xor (x * 2 ^ k) (y * 2 ^ k) ≡ bit_xor x y * 2 ^ k
 xor-scale k x y = simp add-zero at (xor_block k x y 0 0 (pow_pos k) (pow_pos k))
 
--- two powers of 2 are one
+-- Multiplying by two powers of 2 is multiplying by one.
 pub scale-scale : (x n m k : ℕ) → k ≡ n + m → x * 2 ^ n * 2 ^ m ≡ x * 2 ^ k
 scale-scale x n m k e = mul_assoc x (2 ^ n) (2 ^ m) ∙ ap (λ y. x * y) (sym (pow-add 2 n m)) ∙ ap (λ y. x * 2 ^ y) (sym e)
 
--- the two middle ones of four change places
+-- In a sum of four, the two middle terms can be swapped.
 pub xor_middle : (a b c d : ℕ) → bit_xor (bit_xor a b) (bit_xor c d) ≡ bit_xor (bit_xor a c) (bit_xor b d)
 xor_middle a b c d =
     xor_assoc a b (bit_xor c d) ∙ ap (bit_xor a) (sym (xor_assoc b c d) ∙ ap (λ x. bit_xor x d) (xor_comm b c) ∙ xor_assoc c b d)
@@ -25,7 +25,7 @@ xor_middle a b c d =
 
 -- ---- one bit
 
--- what a bit that leaves the register takes from it
+-- What a bit that is shifted out of the register subtracts from it.
 abbrev pub taken : ℕ → ℕ
 taken odd = if nat_eq odd 1 then 0xedb88320 else 0
 
@@ -36,7 +36,7 @@ bit_step_is c =
       | false ↦ sym (xor_zero_r (c / 2))
     ]
 
--- a bit is 0 or 1
+-- A bit is 0 or 1.
 bit_cases : (a : ℕ) → a < 2 → (a ≡ 0) ⊎ (a ≡ 1)
 bit_cases a h =
     elim (cases_lt a 1) [
@@ -86,14 +86,14 @@ pub more_steps : (n a : ℕ) → bit_steps (n + 1) a ≡ bit_step (bit_steps n a
 unfolding bit_steps
 more_steps n a = bit_steps-add n 1 a
 
--- an even register is only divided
+-- A step divides an even register by 2.
 bit_step-even : (a : ℕ) → bit_step (a * 2) ≡ a
 bit_step-even a =
     let even : a * 2 % 2 ≡ 0 = omega arith in
     let half : a * 2 / 2 ≡ a = omega arith in
     bit_step_is (a * 2) ∙ ap (λ x. bit_xor (a * 2 / 2) (taken x)) even ∙ xor_zero_r (a * 2 / 2) ∙ half
 
--- zeros that leave the register take nothing from it
+-- n steps divide a multiple of 2 ^ n by 2 ^ n.
 pub bit_steps-scale : (n a : ℕ) → bit_steps n (a * 2 ^ n) ≡ a
 unfolding bit_steps
 bit_steps-scale zero a = omega arith
@@ -103,7 +103,7 @@ bit_steps-scale (suc n) a =
 
 -- ---- a text
 
--- bytes that go through one by one are added all at once before the first of them
+-- Processing bytes one by one equals adding all of them to the register first and then taking all steps.
 pub register_after_is : (bs : List ℕ) (c : ℕ) → register_after c bs ≡ bit_steps (8 * length bs) (bit_xor c (text_polynomial bs))
 unfolding bit_steps
 register_after_is [] c = sym (xor_zero_r c)

@@ -1,4 +1,4 @@
--- The register after a text is the remainder, and there is no other.
+-- The register after a text is the remainder, and the remainder is unique.
 use Rattle.std.specs.Prelude.{◌≡◌, ℕ, zero, suc, ◌+◌, ◌*◌, ◌/◌, ◌%◌, ◌^◌, ◌<◌, List, [], ◌∷◌, length, Bool, true, false, nat_eq, if◌then◌else◌, All}
 use Rattle.std.proofs.Common.{refl, sym, ap, ◌∙◌, arith, get_or, lit<, add-zero, subst, inl, inr}
 use Rattle.std.proofs.lemmas.Bool.{cases_lt}
@@ -9,17 +9,18 @@ use Rattle.std.proofs.lemmas.Nat.{xor_comm, xor_block, xor_mod}
 use Rattle.stun_types_digest.specs.Crc.{generator, times_generator, text_polynomial, IsRemainder, bit_step, bit_steps, register_of, crc32}
 use Rattle.stun_types_digest.proofs.Register.{xor-scale, scale-scale, register_after_is, register_after_fits}
 
--- the generator, where the highest coefficient of a polynomial is 1
+-- The generator if a bit, the highest coefficient of a polynomial, is 1, and 0 otherwise.
 abbrev led : Bool → ℕ
 led t = if t then generator else 0
 
--- an odd number, as the generator and what is left
+-- An odd number is the generator plus what one step leaves, moved down by one power.
 odd_parts : (c h : ℕ) → c ≡ h * 2 ^ 1 + 1 → c ≡ bit_xor generator (bit_xor h 0xedb88320 * 2 ^ 1)
 odd_parts c h e =
     e ∙ ap (λ x. x * 2 ^ 1 + 1) (sym (xor_zero_r h) ∙ ap (bit_xor h) (sym (xor_self 0xedb88320)) ∙ sym (xor_assoc h 0xedb88320 0xedb88320) ∙ xor_comm (bit_xor h 0xedb88320) 0xedb88320)
     ∙ sym (xor_block 1 0xedb88320 (bit_xor h 0xedb88320) 1 0 (lit< tt) (lit< tt)) ∙ ap (bit_xor generator) (add-zero (bit_xor h 0xedb88320 * 2 ^ 1))
 
--- a polynomial is the generator, where its highest coefficient is 1, plus what one more bit leaves
+-- A polynomial is the generator if its highest coefficient is 1, plus what one step leaves, moved down by one
+-- power.
 pub parts : (c : ℕ) → c ≡ bit_xor (led (nat_eq (c % 2) 1)) (bit_step c * 2 ^ 1)
 parts c =
     elim (nat_eq (c % 2) 1) as (λ b. nat_eq (c % 2) 1 ≡ b → c ≡ bit_xor (led b) ((if b then bit_xor (c / 2) 0xedb88320 else c / 2) * 2 ^ 1)) [
@@ -27,7 +28,7 @@ parts c =
       | false ↦ λ e. let half : c ≡ c / 2 * 2 ^ 1 = grind (arith, nat_tests) in half ∙ sym (xor_zero_l (c / 2 * 2 ^ 1))
     ] refl
 
--- the quotient of n coefficients
+-- The quotient with n coefficients, one for each step.
 abbrev pub quotient_of : ℕ → ℕ → List Bool
 quotient_of zero c = []
 quotient_of (suc n) c = nat_eq (c % 2) 1 ∷ quotient_of n (bit_step c)
@@ -36,7 +37,7 @@ length-quotient_of : (n c : ℕ) → length (quotient_of n c) ≡ n
 length-quotient_of zero c = refl
 length-quotient_of (suc n) c = ap suc (length-quotient_of n (bit_step c))
 
--- one coefficient more, before the others
+-- The case of one more coefficient before the others.
 pub led_more : (t x k r : ℕ) → bit_xor t (bit_xor x (r * 2 ^ k) * 2 ^ 1) ≡ bit_xor (bit_xor t (x * 2 ^ 1)) (r * 2 ^ suc k)
 led_more t x k r =
     ap (bit_xor t) (sym (xor-scale 1 x (r * 2 ^ k)) ∙ ap (bit_xor (x * 2 ^ 1)) (scale-scale r k 1 (suc k) (omega arith)))
@@ -64,7 +65,7 @@ register_of-IsRemainder text small =
 
 -- ---- there is no other
 
--- what is added to both sides goes
+-- What is added to both sides of an equation cancels.
 xor_cancel : (c x y : ℕ) → bit_xor c x ≡ bit_xor c y → x ≡ y
 xor_cancel c x y e =
     sym (twice c x) ∙ ap (bit_xor c) e ∙ twice c y
@@ -72,7 +73,7 @@ xor_cancel c x y e =
     twice : (c x : ℕ) → bit_xor c (bit_xor c x) ≡ x
     twice c x = sym (xor_assoc c c x) ∙ ap (λ z. bit_xor z x) (xor_self c) ∙ xor_zero_l x
 
--- the highest coefficient, as a bit
+-- The highest coefficient as a number.
 abbrev bit_of : Bool → ℕ
 bit_of t = if t then 1 else 0
 
@@ -91,7 +92,8 @@ same_bit true false e = absurd (omega arith)
 same_bit false true e = absurd (omega arith)
 same_bit false false e = refl
 
--- quotients of one length leave one remainder
+-- If two quotients of equal length, times the generator, give the same polynomial with their remainders, the
+-- remainders are equal.
 same_left : (n : ℕ) (p q : List Bool) (a b : ℕ) → length p ≡ n → length q ≡ n
     → bit_xor (times_generator p) (a * 2 ^ n) ≡ bit_xor (times_generator q) (b * 2 ^ n) → a ≡ b
 same_left zero [] [] a b hp hq e = omega arith

@@ -1,3 +1,3 @@
 pub mod Hmac
-pub mod HmacState
+pub mod HmacText
 pub mod Crc

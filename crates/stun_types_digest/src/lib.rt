@@ -1,5 +1,4 @@
-//! The digests of STUN messages: HMAC, by which a message's integrity is checked, and CRC-32, by
-//! which its fingerprint is.
+//! The digests of STUN messages: HMAC, for message integrity, and CRC-32, for the fingerprint.
 #![tactic(auto)]
 
 pub mod crc;

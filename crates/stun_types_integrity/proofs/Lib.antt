@@ -1,3 +1,3 @@
-pub mod Fronts
-pub mod HmacFronts
+pub mod Truncating
+pub mod TruncatedHmacs
 pub mod Keys

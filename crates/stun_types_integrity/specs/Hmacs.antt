@@ -1,4 +1,4 @@
--- An HMAC by any algorithm: its bytes, and by which it is.
+-- The bytes and the algorithm of an HMAC.
 use Rattle.std.specs.Prelude.{ℕ, List}
 use Rattle.stun_types_wire.specs.declared.algorithm.IntegrityAlgorithm.{IntegrityAlgorithm}
 use Rattle.stun_types_wire.specs.declared.algorithm.IntegrityAlgorithm.TheVariants.{Sha1 as BySha1, Sha256 as BySha256, Sha512 as BySha512}

@@ -1,4 +1,4 @@
--- The bytes that a key holds.
+-- The bytes of a key.
 use Rattle.std.specs.Prelude.{ℕ, List}
 use Rattle.stun_types_integrity.specs.declared.key.KeyBytes.{KeyBytes}
 use Rattle.stun_types_integrity.specs.declared.key.KeyBytes.TheVariants.{Md5, Sha256, Sha512, Password}

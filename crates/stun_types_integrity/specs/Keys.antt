@@ -1,4 +1,4 @@
--- The key of any credentials (RFC 8489, sections 9.1.1 and 9.2.2).
+-- The key of short-term or long-term credentials (RFC 8489, sections 9.1.1 and 9.2.2).
 use Rattle.stun_types_wire.specs.declared.algorithm.IntegrityAlgorithm.{IntegrityAlgorithm}
 use Rattle.stun_types_integrity.specs.declared.credentials.MessageIntegrityCredentials.{MessageIntegrityCredentials}
 use Rattle.stun_types_integrity.specs.declared.credentials.MessageIntegrityCredentials.TheVariants.{ShortTerm, LongTerm}

@@ -1,6 +1,6 @@
-pub mod Begun
+pub mod HmacState
 pub mod Credentials
-pub mod HmacFronts
+pub mod TruncatedHmacs
 pub mod Hmacs
 pub mod Integrity
 pub mod KeyBytes

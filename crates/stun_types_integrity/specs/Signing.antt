@@ -1,4 +1,4 @@
--- The integrity attribute that is added at the end of a message, and why it is not added (RFC 8489,
+-- The integrity attribute that is added at the end of a message, and the errors of adding it (RFC 8489,
 -- sections 14.5 to 14.7).
 use Rattle.std.specs.Prelude.{ℕ, ◌+◌, ◌-◌, Bool, false, ◌||◌, ◌==◌, List, length, Option, Some, None, if◌then◌else◌}
 use Rattle.std.specs.Option.{option_or}
@@ -15,17 +15,18 @@ use Rattle.stun_types_write.specs.Drafts.{Draft}
 use Rattle.stun_types_wire.specs.Covered.{with_length}
 use Rattle.stun_types_integrity.specs.Integrity.{attribute_kind, integrity_hmac}
 
--- how many bytes the HMAC of an algorithm has
+-- The length in bytes of an algorithm's full HMAC.
 abbrev pub hmac_length : IntegrityAlgorithm → ℕ
 hmac_length Sha1 = sha1_length
 hmac_length Sha256 = sha256_length
 hmac_length Sha512 = sha512_length
 
--- the text that the attribute covers: what is written, with the length that reaches through the attribute
+-- The text that the attribute covers: the bytes written so far, with the length field counting through the
+-- attribute.
 unfoldable pub text_to_sign : IntegrityAlgorithm → List ℕ → List ℕ
 text_to_sign algorithm bytes = with_length bytes (length bytes - header_size + (4 + hmac_length algorithm))
 
--- the attribute itself
+-- The integrity attribute that signs the bytes written so far.
 unfoldable pub signature : IntegrityAlgorithm → List ℕ → List ℕ → Attr
 signature algorithm key bytes = record {
   kind = attribute_kind algorithm;
@@ -33,20 +34,20 @@ signature algorithm key bytes = record {
       (text_to_sign algorithm bytes);
 }
 
--- the integrity attribute of an algorithm was added
+-- The integrity attribute of an algorithm was added.
 abbrev pub has_signed : Ended → IntegrityAlgorithm → Bool
 has_signed ended Sha1 = ended.integrity
 has_signed ended Sha256 = ended.sha256
 has_signed ended Sha512 = ended.sha512
 
--- that of a stronger algorithm was
+-- The integrity attribute of a stronger algorithm was added.
 abbrev pub has_signed_stronger : Ended → IntegrityAlgorithm → Bool
 has_signed_stronger ended Sha1 = ended.sha256 || ended.sha512
 has_signed_stronger ended Sha256 = ended.sha512
 has_signed_stronger ended Sha512 = false
 
--- nothing comes after FINGERPRINT, an integrity attribute comes once, and none comes after that of a
--- stronger algorithm
+-- The error, if any, due to the order of attributes: nothing follows FINGERPRINT, each integrity attribute is
+-- added once, and none follows that of a stronger algorithm.
 unfoldable pub order_refusal : Ended → IntegrityAlgorithm → Option StunWriteError
 order_refusal ended algorithm =
     if ended.fingerprint then Some FingerprintExists
@@ -54,12 +55,12 @@ order_refusal ended algorithm =
     else if has_signed_stronger ended algorithm then Some MessageIntegrityExists
     else None
 
--- a key that was made for another algorithm signs nothing
+-- The error, if any, when the key was made for another algorithm.
 abbrev pub key_refusal : IntegrityAlgorithm → IntegrityAlgorithm → Option StunWriteError
 key_refusal own algorithm = if strength own == strength algorithm then None else Some IntegrityFailed
 
--- why a message is not signed by an algorithm, with a key of another or the same: the first cause in
--- the order
+-- The error, if any, other than out of memory, when a message is signed by `algorithm` with a key made for
+-- `own`: the first one that applies.
 unfoldable pub signing_refusal : Draft → IntegrityAlgorithm → IntegrityAlgorithm → Option StunWriteError
 signing_refusal draft own algorithm =
     option_or (order_refusal draft.ended algorithm)

@@ -1,4 +1,4 @@
-//! What an algorithm stands for in a message.
+//! The attribute type, value lengths and HMAC length of each integrity algorithm.
 
 ghost use Rattle.std.specs.Prelude.{◌≡◌};
 ghost use Rattle.stun_types_integrity.specs.Integrity.{algorithm_of as algorithm_of_kind, attribute_kind, is_lawful_length as is_lawful};
@@ -11,7 +11,7 @@ use stun_types_wire::registry::{
     MESSAGE_INTEGRITY, MESSAGE_INTEGRITY_SHA256, MESSAGE_INTEGRITY_SHA512,
 };
 
-/// The type of the attribute that holds the HMAC of an algorithm.
+/// Returns the type of the attribute that carries the HMAC of an algorithm.
 pub fn attribute_type(algorithm: IntegrityAlgorithm) -> AttributeType
     ensures { result.0 ≡ attribute_kind algorithm }
 {
@@ -22,7 +22,7 @@ pub fn attribute_type(algorithm: IntegrityAlgorithm) -> AttributeType
     }
 }
 
-/// The algorithm whose HMAC an attribute of this type holds, where it is an integrity attribute.
+/// Returns the algorithm of an integrity attribute's type, or `None` for any other type.
 pub fn algorithm_of(atype: AttributeType) -> Option<IntegrityAlgorithm>
     ensures { result ≡ algorithm_of_kind atype.0 }
 {
@@ -34,8 +34,11 @@ pub fn algorithm_of(atype: AttributeType) -> Option<IntegrityAlgorithm>
     }
 }
 
-/// Whether an integrity attribute may have a value of this length in bytes: 20 for `Sha1`; 16 to 32
-/// in fours for `Sha256`, and 16 to 64 in fours for `Sha512`.
+/// Returns whether the value of an integrity attribute may have this length in bytes.
+///
+/// - `Sha1`: 20.
+/// - `Sha256`: 16 to 32, a multiple of four.
+/// - `Sha512`: 16 to 64, a multiple of four.
 pub fn is_lawful_length(algorithm: IntegrityAlgorithm, len: usize) -> bool
     ensures { result ≡ is_lawful algorithm len }
 {
@@ -54,7 +57,7 @@ pub fn is_lawful_length(algorithm: IntegrityAlgorithm, len: usize) -> bool
     }
 }
 
-/// How many bytes the HMAC of an algorithm has: 20, 32 or 64.
+/// Returns the length in bytes of an algorithm's full HMAC: 20, 32 or 64.
 pub fn hmac_length(algorithm: IntegrityAlgorithm) -> usize
     ensures { result ≡ length_of_hmac algorithm }
 {

@@ -1,10 +1,10 @@
-//! Credentials, of which integrity keys are made (RFC 8489, section 9).
+//! Credentials, from which integrity keys are derived (RFC 8489, section 9).
 
 ghost use Rattle.std.specs.Prelude.{◌≡◌, IfOk};
 ghost use Rattle.std.specs.String.{string_bytes};
 ghost use Rattle.stun_types_integrity.specs.Credentials.{long_term_key, short_term_key};
 
-use crate::begun::Begun;
+use crate::hmac_state::HmacState;
 use crate::key::IntegrityKey;
 use std::alloc::Global;
 use std::fmt;
@@ -12,8 +12,8 @@ use std::marker::Model;
 use stun_types_base::memory::NoMemory;
 use stun_types_wire::algorithm::IntegrityAlgorithm;
 
-/// A user's name and password, which count in many sessions, and in each realm by another key
-/// (RFC 8489, section 9.2). Contracts see the two texts.
+/// A user's name and password, valid in many sessions and with a different key in each realm (RFC
+/// 8489, section 9.2). Contracts see the two texts.
 #[derive(Drop)]
 pub struct LongTermCredentials {
     username: String,
@@ -31,7 +31,7 @@ impl Model for LongTermCredentials {
 }
 
 impl LongTermCredentials {
-    /// The credentials of this name and password.
+    /// Creates the credentials of this name and password.
     pub fn new(username: String, password: String) -> Self
         ensures { result
             ≡ record { username = string_bytes username; password = string_bytes password } }
@@ -53,8 +53,11 @@ impl LongTermCredentials {
         self.password.as_str()
     }
 
-    /// The same credentials in a realm. Where memory is refused, `NoMemory`, and the realm is
-    /// dropped.
+    /// Returns copies of these credentials for one realm.
+    ///
+    /// # Errors
+    ///
+    /// - `NoMemory`: an allocation failed. `realm` is dropped.
     pub fn to_key(&self, alloc: Global, realm: String) -> Result<LongTermKeyCredentials, NoMemory>
         ensures { IfOk result (λ key. key
             ≡ record {
@@ -70,7 +73,7 @@ impl LongTermCredentials {
 }
 
 impl fmt::Debug for LongTermCredentials {
-    /// Shows the name, and nothing of the password.
+    /// Prints the name and hides the password.
     fn fmt<W: fmt::Write>(&self, f: &mut fmt::Formatter<W>) -> fmt::Result {
         write!(
             f,
@@ -104,7 +107,7 @@ impl Model for LongTermKeyCredentials {
 }
 
 impl LongTermKeyCredentials {
-    /// The credentials of this name and password in this realm.
+    /// Creates the credentials of this name and password in this realm.
     pub fn new(username: String, password: String, realm: String) -> Self
         ensures { result
             ≡ record {
@@ -141,8 +144,9 @@ impl LongTermKeyCredentials {
         self.realm.as_str()
     }
 
-    /// The key for an algorithm: a digest of name, realm and password with colons between them, MD5
-    /// for `Sha1`, SHA-256 for `Sha256` and SHA-512 for `Sha512` (RFC 8489, sections 9.2.2 and 18.5.1).
+    /// Returns the key for an algorithm: a digest of name, realm and password with colons between
+    /// them (RFC 8489, sections 9.2.2 and 18.5.1). The digest is MD5 for `Sha1`, SHA-256 for
+    /// `Sha256` and SHA-512 for `Sha512`.
     #[inline(always)]
     pub fn make_key(&self, algorithm: IntegrityAlgorithm) -> IntegrityKey<'_>
         ensures { result ≡ long_term_key self.now algorithm }
@@ -152,7 +156,7 @@ impl LongTermKeyCredentials {
 }
 
 impl fmt::Debug for LongTermKeyCredentials {
-    /// Shows name and realm, and nothing of the password.
+    /// Prints the name and the realm and hides the password.
     fn fmt<W: fmt::Write>(&self, f: &mut fmt::Formatter<W>) -> fmt::Result {
         write!(
             f,
@@ -162,7 +166,7 @@ impl fmt::Debug for LongTermKeyCredentials {
     }
 }
 
-/// A password that counts in one session (RFC 8489, section 9.1). Contracts see its text.
+/// A password that is valid in one session (RFC 8489, section 9.1). Contracts see its text.
 #[derive(Drop)]
 pub struct ShortTermCredentials {
     password: String,
@@ -178,7 +182,7 @@ impl Model for ShortTermCredentials {
 }
 
 impl ShortTermCredentials {
-    /// The credentials of this password.
+    /// Creates the credentials of this password.
     pub fn new(password: String) -> Self
         ensures { result ≡ record { password = string_bytes password } }
     {
@@ -192,7 +196,8 @@ impl ShortTermCredentials {
         self.password.as_str()
     }
 
-    /// The key for an algorithm: the bytes of the password (RFC 8489, section 9.1.1), which it borrows.
+    /// Returns the key for an algorithm: the bytes of the password, which the key borrows (RFC
+    /// 8489, section 9.1.1).
     #[inline(always)]
     pub fn make_key(&self, algorithm: IntegrityAlgorithm) -> IntegrityKey<'_>
         ensures { result ≡ short_term_key self.now algorithm }
@@ -202,39 +207,42 @@ impl ShortTermCredentials {
 }
 
 impl fmt::Debug for ShortTermCredentials {
-    /// Shows nothing of the password.
+    /// Hides the password.
     fn fmt<W: fmt::Write>(&self, f: &mut fmt::Formatter<W>) -> fmt::Result {
         f.write_str("ShortTermCredentials { password: .. }")
     }
 }
 
-/// A password that counts in one session, for an algorithm, and what each HMAC under its key begins
-/// with: the key that it gives takes no block of a digest. Contracts see the password's text and the
-/// algorithm.
+/// A password that is valid in one session, an algorithm, and the HMAC state keyed with the
+/// password. Because the state is stored, `key` processes no block of a digest. Contracts see the
+/// password's text and the algorithm.
 #[derive(Drop)]
 pub struct ShortTermKeyCredentials {
     credentials: ShortTermCredentials,
-    begun: Begun,
+    hmac_state: HmacState,
 }
 
 impl Model for ShortTermKeyCredentials {
-    ghost use Rattle.stun_types_integrity.specs.Begun.{HasKey, hmac_algorithm};
+    ghost use Rattle.stun_types_integrity.specs.HmacState.{HasKey, hmac_algorithm};
     ghost use Rattle.stun_types_integrity.specs.Credentials.{ShortTermUse};
 
     ghost Value = { ShortTermUse };
 
-    ghost view = { λ c. record { secret = c.credentials; algorithm = hmac_algorithm c.begun } };
+    ghost view = { λ c. record { secret = c.credentials; algorithm = hmac_algorithm c.hmac_state } };
 
-    ghost invariant = { λ c. HasKey c.begun c.credentials.password };
+    ghost invariant = { λ c. HasKey c.hmac_state c.credentials.password };
 }
 
 impl ShortTermKeyCredentials {
-    /// These credentials, for an algorithm.
+    /// Combines credentials with an algorithm, and computes the keyed HMAC state.
     pub fn new(credentials: ShortTermCredentials, algorithm: IntegrityAlgorithm) -> Self
         ensures { result ≡ record { secret = credentials; algorithm = algorithm } }
     {
-        let begun = credentials.make_key(algorithm).into_begun();
-        ShortTermKeyCredentials { credentials, begun }
+        let hmac_state = credentials.make_key(algorithm).into_hmac_state();
+        ShortTermKeyCredentials {
+            credentials,
+            hmac_state,
+        }
     }
 
     /// The credentials.
@@ -244,45 +252,46 @@ impl ShortTermKeyCredentials {
         &self.credentials
     }
 
-    /// The algorithm by which they are used.
+    /// The algorithm for which they are used.
     pub fn algorithm(&self) -> IntegrityAlgorithm
         ensures { result ≡ self.now.algorithm }
     {
-        self.begun.algorithm()
+        self.hmac_state.algorithm()
     }
 
-    /// The key: the bytes of the password (RFC 8489, section 9.1.1), which it borrows.
+    /// Returns the key: the bytes of the password, which the key borrows (RFC 8489, section 9.1.1).
     pub fn key(&self) -> IntegrityKey<'_>
         ensures { result ≡ short_term_key self.now.secret self.now.algorithm }
     {
-        IntegrityKey::of_begun(self.credentials.password(), &self.begun)
+        IntegrityKey::of_hmac_state(self.credentials.password(), &self.hmac_state)
     }
 }
 
 impl fmt::Debug for ShortTermKeyCredentials {
-    /// Shows the algorithm, and nothing of the password.
+    /// Prints the algorithm and hides the password.
     fn fmt<W: fmt::Write>(&self, f: &mut fmt::Formatter<W>) -> fmt::Result {
         write!(
             f,
             "ShortTermKeyCredentials {{ algorithm: {:?}, password: .. }}",
-            self.begun.algorithm()
+            self.hmac_state.algorithm()
         )
     }
 }
 
-/// Credentials by which messages are signed and validated.
+/// Credentials with which messages are signed and validated.
 #[derive(Debug, Drop)]
 pub enum MessageIntegrityCredentials {
-    /// A password (RFC 8489, section 9.1).
+    /// A password (short-term credentials, RFC 8489, section 9.1).
     ShortTerm(ShortTermCredentials),
-    /// A name and a password in a realm (RFC 8489, section 9.2).
+    /// A name and a password in a realm (long-term credentials, RFC 8489, section 9.2).
     LongTerm(LongTermKeyCredentials),
 }
 
 impl MessageIntegrityCredentials {
     ghost use Rattle.stun_types_integrity.specs.Keys.{key_of};
 
-    /// The key for an algorithm, as the credentials make it. It takes no memory.
+    /// Returns the key for an algorithm, as `make_key` of the credentials does. It allocates no
+    /// memory.
     #[inline(always)]
     pub fn make_key(&self, algorithm: IntegrityAlgorithm) -> IntegrityKey<'_>
         ensures { result ≡ key_of self.now algorithm }

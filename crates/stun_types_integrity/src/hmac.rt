@@ -1,4 +1,4 @@
-//! The HMAC of a text, by any algorithm.
+//! The HMAC of a text by any of the algorithms.
 
 ghost use Rattle.std.specs.Prelude.{◌≡◌};
 ghost use Rattle.stun_types_integrity.specs.Hmacs.{hmac_bytes};
@@ -15,7 +15,7 @@ pub enum IntegrityHmac {
 }
 
 impl IntegrityHmac {
-    /// Its bytes: 20, 32 or 64.
+    /// Returns the bytes of the HMAC: 20, 32 or 64.
     pub fn as_slice(&self) -> &[u8]
         ensures { result.now ≡ hmac_bytes self.now }
     {

@@ -22,7 +22,7 @@ use stun_types_write::attribute::{
 use stun_types_write::reading::value_of;
 use stun_types_write::text::write_attribute;
 
-/// The HMAC-SHA1 of a message under a key. Contracts see its twenty bytes.
+/// The HMAC-SHA1 of a message under a key. Contracts see its 20 bytes.
 #[derive(Debug, Drop)]
 pub struct MessageIntegrity {
     hmac: [u8; 20],
@@ -40,7 +40,7 @@ impl Model for MessageIntegrity {
 }
 
 impl MessageIntegrity {
-    /// The attribute of an HMAC.
+    /// Creates the attribute from an HMAC.
     pub fn new(hmac: [u8; 20]) -> MessageIntegrity
         ensures { result ≡ hmac }
     {
@@ -55,20 +55,24 @@ impl MessageIntegrity {
         &self.hmac
     }
 
-    /// The HMAC of a text. Refused with `IntegrityFailed` where the key was made for another
-    /// algorithm.
+    /// Returns the HMAC-SHA1 of a text under a key.
+    ///
+    /// # Errors
+    ///
+    /// - `IntegrityFailed`: the key was made for another algorithm.
     pub fn compute(text: &[u8], key: &IntegrityKey) -> Result<[u8; 20], StunWriteError>
         ensures { MatchResult result (λ hmac. (key.now.algorithm ≡ Sha1)
             × (hmac ≡ integrity_hmac Sha1 key.now.bytes text.now))
             (λ error. (error ≡ StunWriteError.IntegrityFailed) × (key.now.algorithm ≢ Sha1)) }
     {
-        MessageIntegrity::compute_in_pieces(text, &[], &[], key)
+        MessageIntegrity::compute_in_chunks(text, &[], &[], key)
     }
 
-    /// The HMAC of a text that comes in three pieces, as a message does whose length field is to
-    /// read otherwise: what stands before the field, the field, and what stands behind it. Otherwise
-    /// the same as `compute`.
-    pub fn compute_in_pieces(
+    /// Returns the HMAC of the concatenation of three chunks, with the errors of `compute`.
+    ///
+    /// Use it to cover a message with a changed length field: pass the bytes before the field, the
+    /// new field and the bytes after it.
+    pub fn compute_in_chunks(
         head: &[u8],
         middle: &[u8],
         tail: &[u8],
@@ -84,18 +88,21 @@ impl MessageIntegrity {
         }
     }
 
-    /// Whether this is the HMAC of a text. Refused with `IntegrityFailed` where it isn't, and where
-    /// the key was made for another algorithm.
+    /// Checks that `expected` is the HMAC-SHA1 of a text under a key.
+    ///
+    /// # Errors
+    ///
+    /// - `IntegrityFailed`: it is not, or the key was made for another algorithm.
     pub fn verify(text: &[u8], key: &IntegrityKey, expected: &[u8; 20]) -> Result<(), ValidateError>
         ensures ok { IsOk result ↔ ((key.now.algorithm ≡ Sha1)
             × (expected.now ≡ integrity_hmac Sha1 key.now.bytes text.now)) }
         ensures refused { IfErr result (λ error. error ≡ ValidateError.IntegrityFailed) }
     {
-        MessageIntegrity::verify_in_pieces(text, &[], &[], key, expected)
+        MessageIntegrity::verify_in_chunks(text, &[], &[], key, expected)
     }
 
-    /// The same of a text that comes in three pieces, as for `compute_in_pieces`.
-    pub fn verify_in_pieces(
+    /// Does what `verify` does, for a text in three chunks as in `compute_in_chunks`.
+    pub fn verify_in_chunks(
         head: &[u8],
         middle: &[u8],
         tail: &[u8],
@@ -107,7 +114,7 @@ impl MessageIntegrity {
             (head.now ++ middle.now ++ tail.now))) }
         ensures refused { IfErr result (λ error. error ≡ ValidateError.IntegrityFailed) }
     {
-        match MessageIntegrity::compute_in_pieces(head, middle, tail, key) {
+        match MessageIntegrity::compute_in_chunks(head, middle, tail, key) {
             Ok(hmac) if hmac == *expected => Ok(()),
             _ => Err(ValidateError::IntegrityFailed),
         }
@@ -148,8 +155,13 @@ impl AttributeWrite for MessageIntegrity {
     }
 }
 
-/// The twenty bytes of an HMAC. `WrongAttributeImplementation` where it is another type, `Truncated`
-/// where the value is shorter, `TooLarge` where it is longer.
+/// Decodes the 20 bytes of an HMAC.
+///
+/// # Errors
+///
+/// 1. `WrongAttributeImplementation`: the attribute has another type.
+/// 2. `Truncated`: the value has fewer than 20 bytes.
+/// 3. `TooLarge`: the value has more than 20 bytes.
 impl<'a, 'raw> TryFrom<&'raw RawAttribute<'a>> for MessageIntegrity {
     ghost use Rattle.std.specs.Prelude.{◌≡◌, MatchResult, Some, None};
     ghost use Rattle.stun_types_write.specs.ValueReading.{IsNamed};
@@ -176,7 +188,7 @@ impl<'a, 'raw> TryFrom<&'raw RawAttribute<'a>> for MessageIntegrity {
     }
 }
 
-/// Refused as `try_from` is; no memory is taken.
+/// Fails as `try_from` does. It allocates no memory.
 impl<'a> AttributeFromRaw<'a> for MessageIntegrity {
     ghost use Rattle.std.specs.Prelude.{false};
     ghost use Rattle.stun_types_write.specs.ValueReading.{value_refusal};
@@ -198,7 +210,7 @@ impl<'a> AttributeFromRaw<'a> for MessageIntegrity {
         MessageIntegrity::from_raw_ref(alloc, &raw)
     }
 
-    fn is_read_back(&self, _read: &MessageIntegrity) {
+    fn proof_is_read_back(&self, _read: &MessageIntegrity) {
         let _ = &self.hmac;
     }
 }

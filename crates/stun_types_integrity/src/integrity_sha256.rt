@@ -3,14 +3,14 @@
 ghost use Rattle.std.specs.Prelude.{◌≡◌, ◌≢◌, ◌↔◌, ◌++◌, length, MatchResult, IsOk, IsTrue, IfErr, None, Some};
 ghost use Rattle.stun_types_write.specs.ValueReading.{IsNamed};
 ghost use Rattle.stun_types_wire.specs.declared.algorithm.IntegrityAlgorithm.TheVariants.{Sha256};
-ghost use Rattle.stun_types_integrity.specs.Integrity.{IsFront, integrity_hmac, is_lawful_length as is_lawful};
-ghost use Rattle.stun_types_integrity.specs.HmacFronts.{sha256_len_refusal, sha256_read_refusal};
+ghost use Rattle.stun_types_integrity.specs.Integrity.{IsPrefix, integrity_hmac, is_lawful_length as is_lawful};
+ghost use Rattle.stun_types_integrity.specs.TruncatedHmacs.{sha256_len_refusal, sha256_read_refusal};
 ghost use Rattle.stun_types_wire.specs.Registry.{sha256_kind, sha256_length};
 
 use crate::algorithm::is_lawful_length;
-use crate::front::{check_front, front_of};
 use crate::hmac::IntegrityHmac;
 use crate::key::IntegrityKey;
+use crate::truncated::{check_truncated, truncated_to};
 use std::alloc::Global;
 use std::convert::TryFrom;
 use std::marker::Model;
@@ -26,7 +26,7 @@ use stun_types_write::attribute::{
 };
 use stun_types_write::text::write_attribute;
 
-/// The HMAC-SHA256 of a message under a key, or the front of it: 16, 20, 24, 28 or 32 bytes.
+/// The HMAC-SHA256 of a message under a key, possibly truncated: 16, 20, 24, 28 or 32 bytes.
 /// Contracts see these bytes.
 #[derive(Debug, Drop)]
 pub struct MessageIntegritySha256 {
@@ -49,18 +49,22 @@ impl Model for MessageIntegritySha256 {
 }
 
 impl MessageIntegritySha256 {
-    /// The attribute of an HMAC or of its front. Refused, in this order: `TooSmall` where there are
-    /// fewer than 16 bytes, `TooLarge` where there are more than 32, `IntegrityFailed` where their
-    /// count is no multiple of four.
+    /// Creates the attribute from an HMAC, which may be truncated.
+    ///
+    /// # Errors
+    ///
+    /// 1. `TooSmall`: `hmac` has fewer than 16 bytes.
+    /// 2. `TooLarge`: `hmac` has more than 32 bytes.
+    /// 3. `IntegrityFailed`: the length of `hmac` is not a multiple of four.
     pub fn new(hmac: &[u8]) -> Result<MessageIntegritySha256, StunWriteError>
         ensures { MatchResult result (λ made. (sha256_len_refusal (length hmac.now) ≡ None)
             × (made ≡ hmac.now)) (λ error. sha256_len_refusal (length hmac.now) ≡ Some error) }
     {
-        check_front(hmac.len(), LEAST, WHOLE)?;
+        check_truncated(hmac.len(), LEAST, WHOLE)?;
         Ok(of_lawful(hmac))
     }
 
-    /// The HMAC, or the front of it.
+    /// The HMAC, possibly truncated.
     pub fn hmac(&self) -> &[u8]
         ensures value { result.now ≡ self.now }
         ensures lawful { IsTrue (is_lawful Sha256 (length result.now)) }
@@ -68,20 +72,24 @@ impl MessageIntegritySha256 {
         &self.hmac[..self.len]
     }
 
-    /// The HMAC of a text. Refused with `IntegrityFailed` where the key was made for another
-    /// algorithm.
+    /// Returns the full HMAC-SHA256 of a text under a key.
+    ///
+    /// # Errors
+    ///
+    /// - `IntegrityFailed`: the key was made for another algorithm.
     pub fn compute(text: &[u8], key: &IntegrityKey) -> Result<[u8; 32], StunWriteError>
         ensures { MatchResult result (λ hmac. (key.now.algorithm ≡ Sha256)
             × (hmac ≡ integrity_hmac Sha256 key.now.bytes text.now))
             (λ error. (error ≡ StunWriteError.IntegrityFailed) × (key.now.algorithm ≢ Sha256)) }
     {
-        MessageIntegritySha256::compute_in_pieces(text, &[], &[], key)
+        MessageIntegritySha256::compute_in_chunks(text, &[], &[], key)
     }
 
-    /// The HMAC of a text that comes in three pieces, as a message does whose length field is to
-    /// read otherwise: what stands before the field, the field, and what stands behind it. Otherwise
-    /// the same as `compute`.
-    pub fn compute_in_pieces(
+    /// Returns the HMAC of the concatenation of three chunks, with the errors of `compute`.
+    ///
+    /// Use it to cover a message with a changed length field: pass the bytes before the field, the
+    /// new field and the bytes after it.
+    pub fn compute_in_chunks(
         head: &[u8],
         middle: &[u8],
         tail: &[u8],
@@ -97,19 +105,23 @@ impl MessageIntegritySha256 {
         }
     }
 
-    /// Whether this is the HMAC of a text, or a front of it of a length that `new` takes. Refused with
-    /// `IntegrityFailed` where it isn't, and where the key was made for another algorithm.
+    /// Checks that `expected` is the HMAC-SHA256 of a text under a key, or a truncation of it to a
+    /// length that `new` accepts.
+    ///
+    /// # Errors
+    ///
+    /// - `IntegrityFailed`: it is not, or the key was made for another algorithm.
     pub fn verify(text: &[u8], key: &IntegrityKey, expected: &[u8]) -> Result<(), ValidateError>
         ensures ok { IsOk result ↔ ((key.now.algorithm ≡ Sha256)
             × IsTrue (is_lawful Sha256 (length expected.now))
-            × IsFront expected.now (integrity_hmac Sha256 key.now.bytes text.now)) }
+            × IsPrefix expected.now (integrity_hmac Sha256 key.now.bytes text.now)) }
         ensures refused { IfErr result (λ error. error ≡ ValidateError.IntegrityFailed) }
     {
-        MessageIntegritySha256::verify_in_pieces(text, &[], &[], key, expected)
+        MessageIntegritySha256::verify_in_chunks(text, &[], &[], key, expected)
     }
 
-    /// The same of a text that comes in three pieces, as for `compute_in_pieces`.
-    pub fn verify_in_pieces(
+    /// Does what `verify` does, for a text in three chunks as in `compute_in_chunks`.
+    pub fn verify_in_chunks(
         head: &[u8],
         middle: &[u8],
         tail: &[u8],
@@ -118,7 +130,7 @@ impl MessageIntegritySha256 {
     ) -> Result<(), ValidateError>
         ensures ok { IsOk result ↔ ((key.now.algorithm ≡ Sha256)
             × IsTrue (is_lawful Sha256 (length expected.now))
-            × IsFront expected.now (integrity_hmac Sha256 key.now.bytes
+            × IsPrefix expected.now (integrity_hmac Sha256 key.now.bytes
             (head.now ++ middle.now ++ tail.now))) }
         ensures refused { IfErr result (λ error. error ≡ ValidateError.IntegrityFailed) }
     {
@@ -166,13 +178,18 @@ impl AttributeWrite for MessageIntegritySha256 {
     }
 }
 
-/// The bytes of an HMAC or of its front. Refused, in this order: `WrongAttributeImplementation` where
-/// it is another type, `Truncated` where the value has fewer than 16 bytes, `TooLarge` where it has
-/// more than 32, `InvalidAttributeData` where they don't come in fours.
+/// Decodes the bytes of an HMAC, which may be truncated.
+///
+/// # Errors
+///
+/// 1. `WrongAttributeImplementation`: the attribute has another type.
+/// 2. `Truncated`: the value has fewer than 16 bytes.
+/// 3. `TooLarge`: the value has more than 32 bytes.
+/// 4. `InvalidAttributeData`: the value's length is not a multiple of four.
 impl<'a, 'raw> TryFrom<&'raw RawAttribute<'a>> for MessageIntegritySha256 {
     ghost use Rattle.std.specs.Prelude.{◌≡◌, MatchResult, Some, None};
     ghost use Rattle.stun_types_write.specs.ValueReading.{IsNamed};
-    ghost use Rattle.stun_types_integrity.specs.HmacFronts.{sha256_read_refusal};
+    ghost use Rattle.stun_types_integrity.specs.TruncatedHmacs.{sha256_read_refusal};
 
     type Error = StunParseError;
 
@@ -181,15 +198,15 @@ impl<'a, 'raw> TryFrom<&'raw RawAttribute<'a>> for MessageIntegritySha256 {
         × (read ≡ raw.now.value)) (IsNamed (sha256_read_refusal raw.now)) };
 
     fn try_from(raw: &'raw RawAttribute<'a>) -> Result<MessageIntegritySha256, StunParseError> {
-        let value = front_of(raw, MessageIntegritySha256::TYPE, LEAST, WHOLE)?;
+        let value = truncated_to(raw, MessageIntegritySha256::TYPE, LEAST, WHOLE)?;
         Ok(of_lawful(value))
     }
 }
 
-/// Refused as `try_from` is; no memory is taken.
+/// Fails as `try_from` does. It allocates no memory.
 impl<'a> AttributeFromRaw<'a> for MessageIntegritySha256 {
     ghost use Rattle.std.specs.Prelude.{false};
-    ghost use Rattle.stun_types_integrity.specs.HmacFronts.{sha256_read_refusal};
+    ghost use Rattle.stun_types_integrity.specs.TruncatedHmacs.{sha256_read_refusal};
 
     ghost read_refusal = { sha256_read_refusal };
 
@@ -211,13 +228,13 @@ impl<'a> AttributeFromRaw<'a> for MessageIntegritySha256 {
         MessageIntegritySha256::from_raw_ref(alloc, &raw)
     }
 
-    #[tactic(auto, using(crate::proofs::HmacFronts::lawful_is_accepted))]
-    fn is_read_back(&self, _read: &MessageIntegritySha256) {
+    #[tactic(auto, using(crate::proofs::TruncatedHmacs::lawful_is_accepted))]
+    fn proof_is_read_back(&self, _read: &MessageIntegritySha256) {
         let _ = self.hmac();
     }
 }
 
-/// The attribute of bytes of a lawful length.
+/// Creates the attribute from bytes, whose number has to be an allowed length.
 fn of_lawful(bytes: &[u8]) -> MessageIntegritySha256
     requires { IsTrue (is_lawful Sha256 (length bytes.now)) }
     ensures { result ≡ bytes.now }

@@ -1,18 +1,18 @@
-//! Keys of message integrity.
+//! Message integrity keys.
 
 ghost use Rattle.std.specs.Prelude.{◌≡◌, ◌↔◌, ◌++◌, ⊤, length, IsTrue, codes};
 ghost use Rattle.md5.specs.Md5.{md5};
 ghost use Rattle.sha2.specs.Sha256.{sha256};
 ghost use Rattle.sha2.specs.Sha512.{sha512};
-ghost use Rattle.stun_types_integrity.specs.Begun.{HasKey, hmac_algorithm};
+ghost use Rattle.stun_types_integrity.specs.HmacState.{HasKey, hmac_algorithm};
 ghost use Rattle.stun_types_integrity.specs.Credentials.{long_term_key, short_term_key};
 ghost use Rattle.stun_types_integrity.specs.Hmacs.{algorithm_of_hmac, hmac_bytes};
 ghost use Rattle.stun_types_integrity.specs.KeyBytes.{bytes_of};
-ghost use Rattle.stun_types_integrity.specs.Integrity.{IsFront, integrity_hmac};
+ghost use Rattle.stun_types_integrity.specs.Integrity.{IsPrefix, integrity_hmac};
 ghost use Rattle.stun_types_integrity.specs.Signing.{hmac_length};
 
-use crate::begun::Begun;
 use crate::hmac::IntegrityHmac;
+use crate::hmac_state::HmacState;
 use md5::{Digest, Md5};
 use sha2::{Sha256, Sha512};
 use std::alloc::AllocError;
@@ -44,28 +44,32 @@ impl<'a> KeyBytes<'a> {
     }
 }
 
-/// What a key holds: its bytes, the algorithm for which it was made, and what HMACs begin with.
-// A struct of three is moved as a whole, so that no key is copied where it is made; one of two is not.
+/// The fields of a key: its bytes, the algorithm for which it was made, and the keyed HMAC state.
+// A struct with three fields is moved as a whole, so a key is not copied when it is made. A struct
+// with two fields is not moved as a whole.
 #[derive(Drop)]
 struct Held<'a> {
     bytes: KeyBytes<'a>,
     algorithm: IntegrityAlgorithm,
-    begun: Begun,
+    hmac_state: HmacState,
 }
 
-/// The key of an HMAC, and the algorithm for which it was made. It holds a digest, or borrows the
-/// password, and holds what each HMAC under it begins with: to make it takes no memory, and two blocks
-/// of the digest that no HMAC takes again. Keys are equal where their bytes are: the algorithm isn't
-/// looked at. Contracts see the bytes and the algorithm.
+/// An HMAC key and the algorithm for which it was made. Contracts see its bytes and the algorithm.
+///
+/// It owns a digest or borrows the password. It also stores the keyed HMAC state: making a key
+/// allocates no memory and processes two blocks of the digest, which no HMAC under the key
+/// processes again.
+///
+/// Two keys are equal if their bytes are equal; the algorithms are not compared.
 #[derive(Drop)]
 pub struct IntegrityKey<'a> {
-    // It becomes a key where it stands: a move costs a tenth of a block.
+    // The key is set in place, because a move costs a tenth of a digest block.
     held: Held<'a>,
 }
 
 impl<'a> Model for IntegrityKey<'a> {
     ghost use Rattle.std.specs.Prelude.{◌≡◌};
-    ghost use Rattle.stun_types_integrity.specs.Begun.{HasKey, hmac_algorithm};
+    ghost use Rattle.stun_types_integrity.specs.HmacState.{HasKey, hmac_algorithm};
     ghost use Rattle.stun_types_integrity.specs.Credentials.{Key};
     ghost use Rattle.stun_types_integrity.specs.KeyBytes.{bytes_of};
 
@@ -74,13 +78,13 @@ impl<'a> Model for IntegrityKey<'a> {
     ghost view = { λ key.
         record { bytes = bytes_of key.held.bytes; algorithm = key.held.algorithm } };
 
-    ghost invariant = { λ key. (hmac_algorithm key.held.begun ≡ key.held.algorithm)
-        × HasKey key.held.begun (bytes_of key.held.bytes) };
+    ghost invariant = { λ key. (hmac_algorithm key.held.hmac_state ≡ key.held.algorithm)
+        × HasKey key.held.hmac_state (bytes_of key.held.bytes) };
 }
 
 impl<'a> IntegrityKey<'a> {
-    /// The key of a password that counts in one session, for an algorithm: the bytes of the password
-    /// (RFC 8489, section 9.1.1).
+    /// Creates the short-term key of a password for an algorithm: the bytes of the password (RFC
+    /// 8489, section 9.1.1). The password is valid in one session.
     #[inline(always)]
     pub fn short_term(password: &'a str, algorithm: IntegrityAlgorithm) -> IntegrityKey<'a>
         ensures { result ≡ short_term_key (record { password = password.now }) algorithm }
@@ -88,15 +92,17 @@ impl<'a> IntegrityKey<'a> {
         let mut held = Held {
             bytes: KeyBytes::Password(password),
             algorithm,
-            begun: Begun::blank(),
+            hmac_state: HmacState::unkeyed(),
         };
-        held.begun.take_key(algorithm, password.as_bytes());
+        held.hmac_state.set_key(algorithm, password.as_bytes());
         IntegrityKey { held }
     }
 
-    /// The key of a user in a realm, for an algorithm: a digest of name, realm and password with colons
-    /// between them, MD5 for `Sha1`, SHA-256 for `Sha256` and SHA-512 for `Sha512` (RFC 8489, sections
-    /// 9.2.2 and 18.5.1). It borrows none of the three texts.
+    /// Creates the long-term key of a user in a realm for an algorithm: a digest of name, realm and
+    /// password with colons between them (RFC 8489, sections 9.2.2 and 18.5.1). It borrows none of
+    /// the three texts.
+    ///
+    /// The digest is MD5 for `Sha1`, SHA-256 for `Sha256` and SHA-512 for `Sha512`.
     #[inline(always)]
     pub fn long_term(
         username: &str,
@@ -119,33 +125,33 @@ impl<'a> IntegrityKey<'a> {
         let mut held = Held {
             bytes,
             algorithm,
-            begun: Begun::blank(),
+            hmac_state: HmacState::unkeyed(),
         };
-        held.begun.take_key(algorithm, bytes.as_slice());
+        held.hmac_state.set_key(algorithm, bytes.as_slice());
         IntegrityKey { held }
     }
 
-    /// The key of a password, of which this is what HMACs begin with.
-    pub(crate) fn of_begun(password: &'a str, begun: &Begun) -> IntegrityKey<'a>
-        requires { HasKey begun.now password.now }
+    /// Creates the short-term key of a password from the HMAC state keyed with it.
+    pub(crate) fn of_hmac_state(password: &'a str, hmac_state: &HmacState) -> IntegrityKey<'a>
+        requires { HasKey hmac_state.now password.now }
         ensures { result ≡ short_term_key (record { password = password.now })
-            (hmac_algorithm begun.now) }
+            (hmac_algorithm hmac_state.now) }
     {
         IntegrityKey {
             held: Held {
                 bytes: KeyBytes::Password(password),
-                algorithm: begun.algorithm(),
-                begun: begun.again(),
+                algorithm: hmac_state.algorithm(),
+                hmac_state: hmac_state.again(),
             },
         }
     }
 
-    /// What HMACs under it begin with.
-    pub(crate) fn into_begun(self) -> Begun
+    /// Returns the keyed HMAC state.
+    pub(crate) fn into_hmac_state(self) -> HmacState
         ensures key { HasKey result self.entry.bytes }
         ensures by { hmac_algorithm result ≡ self.entry.algorithm }
     {
-        self.held.begun
+        self.held.hmac_state
     }
 
     /// The bytes of the key.
@@ -162,38 +168,40 @@ impl<'a> IntegrityKey<'a> {
         self.held.algorithm
     }
 
-    /// The HMAC of a text under this key, by the algorithm for which the key was made. The text comes
-    /// in three pieces, as a message does whose length field is to read otherwise: what stands before
-    /// the field, the field, and what stands behind it.
+    /// Returns the HMAC of a text under this key, by the algorithm for which the key was made. The
+    /// text is the concatenation of three chunks.
+    ///
+    /// Use the chunks to cover a message with a changed length field: pass the bytes before the
+    /// field, the new field and the bytes after it.
     pub fn hmac(&self, head: &[u8], middle: &[u8], tail: &[u8]) -> IntegrityHmac
         ensures bytes { hmac_bytes result ≡ integrity_hmac self.now.algorithm self.now.bytes
             (head.now ++ middle.now ++ tail.now) }
         ensures size { length (hmac_bytes result) ≡ hmac_length self.now.algorithm }
         ensures by { algorithm_of_hmac result ≡ self.now.algorithm }
     {
-        match &self.held.begun {
-            Begun::Sha1(hmac) => IntegrityHmac::Sha1(hmac.with_pieces(head, middle, tail)),
-            Begun::Sha256(hmac) => IntegrityHmac::Sha256(hmac.with_pieces(head, middle, tail)),
-            Begun::Sha512(hmac) => IntegrityHmac::Sha512(hmac.with_pieces(head, middle, tail)),
+        match &self.held.hmac_state {
+            HmacState::Sha1(hmac) => IntegrityHmac::Sha1(hmac.with_chunks(head, middle, tail)),
+            HmacState::Sha256(hmac) => IntegrityHmac::Sha256(hmac.with_chunks(head, middle, tail)),
+            HmacState::Sha512(hmac) => IntegrityHmac::Sha512(hmac.with_chunks(head, middle, tail)),
         }
     }
 
-    /// Whether a value is the HMAC of a text under this key, or a front of it. The text comes in
-    /// three pieces, as for `hmac`.
+    /// Returns whether `value` is the HMAC of a text under this key, or the first bytes of it. The
+    /// text comes in three chunks, as for `hmac`.
     pub fn signs(&self, head: &[u8], middle: &[u8], tail: &[u8], value: &[u8]) -> bool
-        ensures { IsTrue result ↔ IsFront value.now
+        ensures { IsTrue result ↔ IsPrefix value.now
             (integrity_hmac self.now.algorithm self.now.bytes
             (head.now ++ middle.now ++ tail.now)) }
     {
-        is_front(value, self.hmac(head, middle, tail).as_slice())
+        is_truncated(value, self.hmac(head, middle, tail).as_slice())
     }
 }
 
-/// Whether some bytes are those at the front of others.
-fn is_front(front: &[u8], whole: &[u8]) -> bool
-    ensures { IsTrue result ↔ IsFront front.now whole.now }
+/// Returns whether `truncated` is a prefix of `whole`.
+fn is_truncated(truncated: &[u8], whole: &[u8]) -> bool
+    ensures { IsTrue result ↔ IsPrefix truncated.now whole.now }
 {
-    whole.starts_with(front)
+    whole.starts_with(truncated)
 }
 
 impl<'a> Clone for IntegrityKey<'a> {
@@ -201,13 +209,13 @@ impl<'a> Clone for IntegrityKey<'a> {
 
     ghost is_infallible = { λ _. ⊤ };
 
-    /// The same key. It takes no block of a digest.
+    /// Returns an equal key. It processes no block of a digest.
     fn clone(&self) -> Result<Self, AllocError> {
         Ok(IntegrityKey {
             held: Held {
                 bytes: self.held.bytes,
                 algorithm: self.held.algorithm,
-                begun: self.held.begun.again(),
+                hmac_state: self.held.hmac_state.again(),
             },
         })
     }
@@ -237,13 +245,13 @@ impl<'a> Eq for IntegrityKey<'a> {
 }
 
 impl<'a> fmt::Debug for IntegrityKey<'a> {
-    /// Shows no byte of the key.
+    /// Hides the bytes of the key.
     fn fmt<W: fmt::Write>(&self, f: &mut fmt::Formatter<W>) -> fmt::Result {
         f.write_str("IntegrityKey { .. }")
     }
 }
 
-/// The MD5 of a key's text, which comes in three parts with a colon between them.
+/// Returns the MD5 of three texts joined by colons.
 fn md5_of_parts(first: &[u8], second: &[u8], third: &[u8]) -> [u8; 16]
     ensures { result ≡ md5 (first.now ++ codes ":" ++ second.now ++ codes ":" ++ third.now) }
 {
@@ -256,7 +264,7 @@ fn md5_of_parts(first: &[u8], second: &[u8], third: &[u8]) -> [u8; 16]
     hasher.finalize()
 }
 
-/// The SHA-256 of the same text.
+/// Returns the SHA-256 of three texts joined by colons.
 fn sha256_of_parts(first: &[u8], second: &[u8], third: &[u8]) -> [u8; 32]
     ensures { result ≡ sha256 (first.now ++ codes ":" ++ second.now ++ codes ":" ++ third.now) }
 {
@@ -269,7 +277,7 @@ fn sha256_of_parts(first: &[u8], second: &[u8], third: &[u8]) -> [u8; 32]
     hasher.finish()
 }
 
-/// The SHA-512 of the same text.
+/// Returns the SHA-512 of three texts joined by colons.
 fn sha512_of_parts(first: &[u8], second: &[u8], third: &[u8]) -> [u8; 64]
     ensures { result ≡ sha512 (first.now ++ codes ":" ++ second.now ++ codes ":" ++ third.now) }
 {

@@ -1,4 +1,4 @@
--- What a writer holds that took some calls is read as what they add.
+-- What a writer holds after some calls is read as the attributes that they added.
 use Rattle.std.proofs.Common.{◌≡◌, ℕ, ◌+◌, ◌≤◌, ◌<◌, ◌^◌, true, false, eqb, ltb, List, [], ◌∷◌, ◌++◌, length, map, None, Some, refl, sym, ap, subst, ◌∙◌, append_assoc, arith, inl, inr}
 use Rattle.std.specs.Prelude.{Bool, ◌||◌, if◌then◌else◌}
 use Rattle.std.specs.List.{AllByRecursion}
@@ -18,13 +18,13 @@ use Rattle.stun_types_wire.proofs.Fingerprints.{fingerprint_size}
 use Rattle.stun_types_wire.proofs.Longest.{Follows, follows_shape}
 use Rattle.stun_types_wire.proofs.Written.{written_read}
 use Rattle.stun_types_write.specs.declared.ended.Ended.{Ended}
-use Rattle.stun_types_write.specs.Adding.{IsBegun, add_refusal, fingerprint_add_refusal, growth_refusal}
+use Rattle.stun_types_write.specs.Adding.{IsStarted, add_refusal, fingerprint_add_refusal, growth_refusal}
 use Rattle.stun_types_wire.specs.Registry.{greatest_size}
 use Rattle.stun_types_write.specs.Drafts.{Draft, ended_by}
 use Rattle.stun_types_integrity.specs.Integrity.{Validates, algorithm_of, attribute_kind}
 use Rattle.stun_types_integrity.specs.Signing.{has_signed, has_signed_stronger, hmac_length, order_refusal, signature, signing_refusal, text_to_sign}
 use Rattle.stun_types_add.specs.Calls.{Add, Ordinary, Integrity, Fingerprint, AreAccepted, IsLawful, IsOrdinary, IsWritten, after_call, after_calls, attribute_of, attributes_after, attributes_of, refusal_of}
-use Rattle.stun_types_add.proofs.Adds.{add_begun, one_more}
+use Rattle.stun_types_add.proofs.Adds.{add_started, one_more}
 use Rattle.stun_types_add.proofs.Taken.{none_of, text_after}
 use Rattle.stun_types_message.specs.UnsignedCalls.{IsNoIntegrity}
 use Rattle.stun_types_message.proofs.Signed.{own_fits, signature_length, signed_is_valid, size_of}
@@ -49,7 +49,7 @@ shows_more (b ∷ all) a none other =
       | inr isnt ↦ rw isnt (shows_more all a (rw isnt at none) other)
     ]
 
--- the rank of the last attribute, by what was added
+-- The rank of the last attribute, given which of the ending attributes were added.
 abbrev ended_rank : Ended → ℕ
 ended_rank e =
     if e.fingerprint then 4
@@ -62,7 +62,7 @@ or_false : (a b : Bool) → a || b ≡ false → (a ≡ false) × (b ≡ false)
 or_false true b h = absurd cc
 or_false false b h = (refl, h)
 
--- ---- what a refusal that is absent tells
+-- ---- what a refusal that is absent says
 
 grown : (draft : Draft) (size : ℕ) → growth_refusal draft size ≡ None → length draft.bytes + size ≤ greatest_size
 grown draft size h =
@@ -71,7 +71,7 @@ grown draft size h =
       | inr short ↦ ltb-false greatest_size (length draft.bytes + size) short
     ]
 
--- what an ordinary attribute finds
+-- What holds if an ordinary attribute is accepted.
 record NoneEnded (draft : Draft) (size : ℕ) : Type 0 where
   fingerprint : draft.ended.fingerprint ≡ false
   sha512 : draft.ended.sha512 ≡ false
@@ -79,9 +79,9 @@ record NoneEnded (draft : Draft) (size : ℕ) : Type 0 where
   integrity : draft.ended.integrity ≡ false
   room : growth_refusal draft size ≡ None
 
-add_told : (draft : Draft) (size : ℕ) → add_refusal draft size ≡ None → NoneEnded draft size
+add_decoded : (draft : Draft) (size : ℕ) → add_refusal draft size ≡ None → NoneEnded draft size
 unfolding add_refusal
-add_told draft size h =
+add_decoded draft size h =
     elim (cases_Bool draft.ended.fingerprint) [
       | inl f ↦ absurd (let p = rw f at h in cc)
       | inr f ↦ elim (cases_Bool draft.ended.integrity) [
@@ -96,15 +96,16 @@ add_told draft size h =
       ]
     ]
 
--- what an integrity attribute finds: neither its own, nor that of a stronger algorithm
+-- What holds if an integrity attribute is accepted: neither its own nor that of a stronger algorithm was
+-- added.
 record MaySign (e : Ended) (algorithm : IntegrityAlgorithm) : Type 0 where
   fingerprint : e.fingerprint ≡ false
   own : has_signed e algorithm ≡ false
   stronger : has_signed_stronger e algorithm ≡ false
 
-order_told : (e : Ended) (algorithm : IntegrityAlgorithm) → order_refusal e algorithm ≡ None → MaySign e algorithm
+order_decoded : (e : Ended) (algorithm : IntegrityAlgorithm) → order_refusal e algorithm ≡ None → MaySign e algorithm
 unfolding order_refusal
-order_told e algorithm h =
+order_decoded e algorithm h =
     elim (cases_Bool e.fingerprint) [
       | inl f ↦ absurd (let p = rw f at h in cc)
       | inr f ↦ elim (cases_Bool (has_signed e algorithm)) [
@@ -126,9 +127,9 @@ sign_room draft Sha1 h = rw (sign_order draft Sha1 h) at h
 sign_room draft Sha256 h = rw (sign_order draft Sha256 h) at h
 sign_room draft Sha512 h = rw (sign_order draft Sha512 h) at h
 
-mark_told : (draft : Draft) → fingerprint_add_refusal draft ≡ None → (draft.ended.fingerprint ≡ false) × (growth_refusal draft 8 ≡ None)
+mark_decoded : (draft : Draft) → fingerprint_add_refusal draft ≡ None → (draft.ended.fingerprint ≡ false) × (growth_refusal draft 8 ≡ None)
 unfolding fingerprint_add_refusal
-mark_told draft h =
+mark_decoded draft h =
     elim (cases_Bool draft.ended.fingerprint) [
       | inl f ↦ absurd (let p = rw f at h in cc)
       | inr f ↦ (f, rw f at h)
@@ -140,23 +141,24 @@ abbrev Own : ℕ → ℕ → List Attr → Bool → Type 0
 Own mtype number before true = EndsWithFingerprint mtype number before
 Own mtype number before false = shows_fingerprint before ≡ false
 
--- a draft that is the text of attributes in their order, with its own FINGERPRINT if it has one
+-- The invariant of a draft: it encodes attributes in their prescribed order, with a correct FINGERPRINT if it
+-- has one.
 record IsSound (mtype number : ℕ) (before : List Attr) (draft : Draft) : Type 0 where
   text : draft.bytes ≡ message_text mtype number before
-  begun : IsBegun draft.bytes
+  started : IsStarted draft.bytes
   fits : AllByRecursion FitsAttribute before
   follows : Follows 0 (kinds_of before)
   last : last_rank 0 before ≡ ended_rank draft.ended
   own : Own mtype number before draft.ended.fingerprint
 
--- an attribute that fits, that may follow, and that has the room
+-- Adding an attribute keeps the invariant if the attribute fits, may follow and has the room.
 step : (mtype number : ℕ) (before : List Attr) (draft : Draft) (a : Attr) (size : ℕ) → IsSound mtype number before draft → FitsAttribute a → growth_refusal draft size ≡ None → size ≡ attr_size a
     → may_follow (ended_rank draft.ended) (rank a.kind) ≡ true → ended_rank (ended_by draft.ended a.kind) ≡ rank a.kind → Own mtype number (before ++ a ∷ []) (ended_by draft.ended a.kind).fingerprint
     → IsSound mtype number (before ++ a ∷ []) (after_call (Ordinary a) draft)
 step mtype number before draft a size s fits room same may rank-is own =
     record {
       text = rw s.text (one_more mtype number before a);
-      begun = add_begun draft.bytes a s.begun (subst (λ n. length draft.bytes + n ≤ greatest_size) same (grown draft size room));
+      started = add_started draft.bytes a s.started (subst (λ n. length draft.bytes + n ≤ greatest_size) same (grown draft size room));
       fits = fit_both before (a ∷ []) s.fits (fits, tt);
       follows = follows_more 0 before a s.follows (subst (λ n. may_follow n (rank a.kind) ≡ true) (sym s.last) may);
       last = last_more 0 before a ∙ sym rank-is;
@@ -175,7 +177,7 @@ signed_step mtype number before draft algorithm key s accepted may rank-is unmar
     step mtype number before draft a (4 + hmac_length algorithm) s (own_fits algorithm key draft.bytes) (sign_room draft algorithm accepted) (sym size) may rank-is
     (subst (λ (b : Bool). Own mtype number (before ++ a ∷ []) b) (sym unmarked) own)
 
--- the last type, where neither an algorithm's attribute nor a stronger one was added: one of a lower rank
+-- If an algorithm's attribute may be added, it may follow the last attribute, which has a lower rank.
 after_weaker : (e : Ended) (algorithm : IntegrityAlgorithm) → MaySign e algorithm → may_follow (ended_rank e) (rank (attribute_kind algorithm)) ≡ true
 after_weaker e Sha1 m =
     let both = or_false e.sha256 e.sha512 m.stronger in
@@ -187,7 +189,7 @@ after_weaker e Sha512 m =
       | inr s ↦ elim (cases_Bool e.integrity) [ inl i ↦ rw (m.fingerprint, m.own, s, i) refl | inr i ↦ rw (m.fingerprint, m.own, s, i) refl ]
     ]
 
--- and it is the last one then
+-- After that attribute is added, the last rank is its rank.
 rank_after : (e : Ended) (algorithm : IntegrityAlgorithm) → MaySign e algorithm → ended_rank (ended_by e (attribute_kind algorithm)) ≡ rank (attribute_kind algorithm)
 rank_after e Sha1 m =
     let both = or_false e.sha256 e.sha512 m.stronger in
@@ -220,27 +222,27 @@ marked_step : (mtype number : ℕ) (before : List Attr) (draft : Draft) → IsSo
 unfolding fingerprint_of
 marked_step mtype number before draft s accepted =
     let a = fingerprint_of draft.bytes in
-    let told = mark_told draft accepted in
+    let decoded = mark_decoded draft accepted in
     let four = fingerprint_size draft.bytes in
-    step mtype number before draft a 8 s (record { kind = omega arith; value = omega (arith, four) }) told.1 (ap (λ n. 4 + padded n) (sym four)) (after_any draft.ended told.0) refl
-    (record { before = before; none = subst (λ (b : Bool). Own mtype number before b) told.0 s.own; parts = ap (λ (l : List ℕ). before ++ fingerprint_of l ∷ []) s.text })
+    step mtype number before draft a 8 s (record { kind = omega arith; value = omega (arith, four) }) decoded.1 (ap (λ n. 4 + padded n) (sym four)) (after_any draft.ended decoded.0) refl
+    (record { before = before; none = subst (λ (b : Bool). Own mtype number before b) decoded.0 s.own; parts = ap (λ (l : List ℕ). before ++ fingerprint_of l ∷ []) s.text })
 
 ordinary_step : (mtype number : ℕ) (before : List Attr) (draft : Draft) (a : Attr) → IsSound mtype number before draft → IsOrdinary a → add_refusal draft (attr_size a) ≡ None
     → IsSound mtype number (before ++ a ∷ []) (after_call (Ordinary a) draft)
 ordinary_step mtype number before draft a s lawful accepted =
-    let t = add_told draft (attr_size a) accepted in
+    let t = add_decoded draft (attr_size a) accepted in
     let n = none_of a.kind lawful.ordinary in
     let unmarked : (ended_by draft.ended a.kind).fingerprint ≡ false = rw (n.fingerprint) t.fingerprint in
     let own : shows_fingerprint (before ++ a ∷ []) ≡ false = shows_more before a (subst (λ (b : Bool). Own mtype number before b) t.fingerprint s.own) n.fingerprint in
     step mtype number before draft a (attr_size a) s lawful.fits t.room refl (rw (lawful.ordinary, t.fingerprint, t.sha512, t.sha256, t.integrity) refl) (rw (lawful.ordinary, n.integrity, n.sha256, n.sha512, n.fingerprint, t.fingerprint, t.sha512, t.sha256, t.integrity) refl)
     (subst (λ (b : Bool). Own mtype number (before ++ a ∷ []) b) (sym unmarked) own)
 
--- one call more
+-- One more accepted call keeps the invariant.
 call_step : (mtype number : ℕ) (before : List Attr) (draft : Draft) (call : Add) → IsSound mtype number before draft → IsLawful call → refusal_of call draft ≡ None
     → IsSound mtype number (before ++ attribute_of call draft.bytes ∷ []) (after_call call draft)
 call_step mtype number before draft (Ordinary a) s lawful accepted = ordinary_step mtype number before draft a s lawful accepted
 call_step mtype number before draft (Integrity algorithm key) s lawful accepted =
-    let m = order_told draft.ended algorithm (sign_order draft algorithm accepted) in
+    let m = order_decoded draft.ended algorithm (sign_order draft algorithm accepted) in
     signed_step mtype number before draft algorithm key s accepted (after_weaker draft.ended algorithm m) (rank_after draft.ended algorithm m) (unmarked_after draft.ended algorithm m) m.fingerprint (no_fingerprint algorithm)
 call_step mtype number before draft Fingerprint s lawful accepted = marked_step mtype number before draft s accepted
 
@@ -255,18 +257,18 @@ sound_after mtype number (call ∷ rest) before draft s lawful accepted =
 -- ---- what was written
 
 pub written_text : (mtype number : ℕ) (calls : List Add) (draft : Draft) → IsWritten mtype number calls draft → draft.bytes ≡ message_text mtype number (attributes_of mtype number calls)
-written_text mtype number calls draft w = ap (λ (d : Draft). d.bytes) w.is ∙ text_after mtype number calls [] w.header w.begun.text
+written_text mtype number calls draft w = ap (λ (d : Draft). d.bytes) w.is ∙ text_after mtype number calls [] w.header w.started.text
 
 written_sound : (mtype number : ℕ) (calls : List Add) (draft : Draft) → IsWritten mtype number calls draft → AllByRecursion IsLawful calls → IsSound mtype number (attributes_of mtype number calls) draft
 unfolding last_rank
 written_sound mtype number calls draft w lawful =
     let start : IsSound mtype number [] w.header = record {
-      text = w.begun.text;
-      begun = w.begun.begun;
+      text = w.started.text;
+      started = w.started.started;
       fits = tt;
       follows = tt;
-      last = sym (ap (λ (e : Ended). ended_rank e) w.begun.ended);
-      own = subst (λ (e : Ended). Own mtype number [] e.fingerprint) (sym w.begun.ended) refl;
+      last = sym (ap (λ (e : Ended). ended_rank e) w.started.ended);
+      own = subst (λ (e : Ended). Own mtype number [] e.fingerprint) (sym w.started.ended) refl;
     } in
     subst (λ (d : Draft). IsSound mtype number (attributes_of mtype number calls) d) (sym w.is) (sound_after mtype number calls [] w.header start lawful w.accepted)
 
@@ -281,7 +283,7 @@ text-length mtype number all = omega arith
 short_body : (mtype number : ℕ) (all : List Attr) (draft : Draft) → IsSound mtype number all draft → length (body_text all) < 2 ^ 16
 short_body mtype number all draft s =
     let size = text-length mtype number all in
-    omega (arith, size, ap length s.text, s.begun.size)
+    omega (arith, size, ap length s.text, s.started.size)
 
 pub calls_read : (mtype number : ℕ) (calls : List Add) (draft : Draft) → mtype < 2 ^ 14 → number < 2 ^ 96 → AllByRecursion IsLawful calls → IsWritten mtype number calls draft
     → IsReadAs mtype number (attributes_of mtype number calls) draft.bytes
@@ -298,7 +300,7 @@ unfolding attributes_after
 after_split mtype number [] ys before = refl
 after_split mtype number (x ∷ xs) ys before = after_split mtype number xs ys (before ++ attribute_of x (message_text mtype number before) ∷ [])
 
--- the attributes that are added behind others
+-- The attributes that the calls add after those in `before`.
 unfoldable tail_of : ℕ → ℕ → List Add → List Attr → List Attr
 tail_of mtype number [] before = []
 tail_of mtype number (call ∷ rest) before =
@@ -329,31 +331,31 @@ lawful_back : (xs ys : List Add) → AllByRecursion IsLawful (xs ++ ys) → AllB
 lawful_back [] ys h = h
 lawful_back (x ∷ xs) ys h = lawful_back xs ys h.1
 
-fits_front : (xs ys : List Attr) → AllByRecursion FitsAttribute (xs ++ ys) → AllByRecursion FitsAttribute xs
-fits_front [] ys h = tt
-fits_front (x ∷ xs) ys h = (h.0, fits_front xs ys h.1)
+fits_head : (xs ys : List Attr) → AllByRecursion FitsAttribute (xs ++ ys) → AllByRecursion FitsAttribute xs
+fits_head [] ys h = tt
+fits_head (x ∷ xs) ys h = (h.0, fits_head xs ys h.1)
 
 fits_back : (xs ys : List Attr) → AllByRecursion FitsAttribute (xs ++ ys) → AllByRecursion FitsAttribute ys
 fits_back [] ys h = h
 fits_back (x ∷ xs) ys h = fits_back xs ys h.1
 
-pub calls_validate : (mtype number : ℕ) (earlier behind : List Add) (algorithm : IntegrityAlgorithm) (key : List ℕ) (draft : Draft) → mtype < 2 ^ 14 → number < 2 ^ 96
-    → AllByRecursion IsLawful (earlier ++ Integrity algorithm key ∷ behind) → IsWritten mtype number (earlier ++ Integrity algorithm key ∷ behind) draft → AllByRecursion IsNoIntegrity behind
+pub calls_validate : (mtype number : ℕ) (earlier following : List Add) (algorithm : IntegrityAlgorithm) (key : List ℕ) (draft : Draft) → mtype < 2 ^ 14 → number < 2 ^ 96
+    → AllByRecursion IsLawful (earlier ++ Integrity algorithm key ∷ following) → IsWritten mtype number (earlier ++ Integrity algorithm key ∷ following) draft → AllByRecursion IsNoIntegrity following
     → Validates draft.bytes key algorithm (text_to_sign algorithm (message_text mtype number (attributes_of mtype number earlier)))
 unfolding attributes_after
-calls_validate mtype number earlier behind algorithm key draft k n lawful w none =
-    let calls = earlier ++ Integrity algorithm key ∷ behind in
+calls_validate mtype number earlier following algorithm key draft k n lawful w none =
+    let calls = earlier ++ Integrity algorithm key ∷ following in
     let all = attributes_of mtype number calls in
     let s = written_sound mtype number calls draft w lawful in
     let adds = attributes_of mtype number earlier in
     let a = signature algorithm key (message_text mtype number adds) in
-    let tail = tail_of mtype number behind (adds ++ a ∷ []) in
-    let is : all ≡ adds ++ a ∷ tail = after_split mtype number earlier (Integrity algorithm key ∷ behind) [] ∙ tail_is mtype number behind (adds ++ a ∷ []) ∙ append_assoc adds (a ∷ []) tail in
+    let tail = tail_of mtype number following (adds ++ a ∷ []) in
+    let is : all ≡ adds ++ a ∷ tail = after_split mtype number earlier (Integrity algorithm key ∷ following) [] ∙ tail_is mtype number following (adds ++ a ∷ []) ∙ append_assoc adds (a ∷ []) tail in
     let fits : AllByRecursion FitsAttribute (adds ++ a ∷ tail) = subst (λ (l : List Attr). AllByRecursion FitsAttribute l) is s.fits in
-    let behind-lawful = (lawful_back earlier (Integrity algorithm key ∷ behind) lawful).1 in
+    let following-lawful = (lawful_back earlier (Integrity algorithm key ∷ following) lawful).1 in
     subst (λ (l : List ℕ). Validates l key algorithm (text_to_sign algorithm (message_text mtype number adds))) (sym s.text)
-    (signed_is_valid mtype number adds key algorithm tail all is k n (fits_front adds (a ∷ tail) fits) (fits_back adds (a ∷ tail) fits).1 (follows_shape (kinds_of all) s.follows)
-    (short_body mtype number all draft s) (own_of mtype number all draft.ended.fingerprint s.own) (tail_none mtype number behind (adds ++ a ∷ []) behind-lawful none))
+    (signed_is_valid mtype number adds key algorithm tail all is k n (fits_head adds (a ∷ tail) fits) (fits_back adds (a ∷ tail) fits).1 (follows_shape (kinds_of all) s.follows)
+    (short_body mtype number all draft s) (own_of mtype number all draft.ended.fingerprint s.own) (tail_none mtype number following (adds ++ a ∷ []) following-lawful none))
 
 -- ---- ordinary attributes, signed or not
 
@@ -370,7 +372,7 @@ lawful_both : (xs ys : List Add) → AllByRecursion IsLawful xs → AllByRecursi
 lawful_both [] ys h k = k
 lawful_both (x ∷ xs) ys h k = (h.0, lawful_both xs ys h.1 k)
 
--- a message of ordinary attributes is read as that
+-- A message written from ordinary attributes is read as these attributes.
 pub composed_read : (mtype number : ℕ) (attributes : List Attr) (draft : Draft) → mtype < 2 ^ 14 → number < 2 ^ 96 → AllByRecursion IsOrdinary attributes → IsWritten mtype number (map Ordinary attributes) draft
     → IsReadAs mtype number attributes draft.bytes
 composed_read mtype number attributes draft k n lawful w =
@@ -382,7 +384,7 @@ unfolding attributes_after
 signed_attributes_are mtype number attributes algorithm key =
     after_split mtype number (map Ordinary attributes) (Integrity algorithm key ∷ []) [] ∙ ap (λ (l : List Attr). l ++ signature algorithm key (message_text mtype number l) ∷ []) (ordinary_after mtype number attributes [])
 
--- and so is one that is signed
+-- A message written from ordinary attributes and signed is the encoding of these and the signature.
 pub signed_text_of : (mtype number : ℕ) (attributes : List Attr) (algorithm : IntegrityAlgorithm) (key : List ℕ) (draft : Draft) → IsWritten mtype number (map Ordinary attributes ++ Integrity algorithm key ∷ []) draft
     → draft.bytes ≡ message_text mtype number (attributes ++ signature algorithm key (message_text mtype number attributes) ∷ [])
 signed_text_of mtype number attributes algorithm key draft w = written_text mtype number (map Ordinary attributes ++ Integrity algorithm key ∷ []) draft w ∙ ap (λ (l : List Attr). message_text mtype number l) (signed_attributes_are mtype number attributes algorithm key)

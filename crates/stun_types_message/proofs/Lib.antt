@@ -12,5 +12,5 @@ pub mod Last
 pub mod Refusing
 pub mod Listing
 pub mod Marks
--- What stands above this crate has these through it.
+-- Crates above this one reach these proofs through it.
 pub use Rattle.stun_types_add.proofs as Add

@@ -1,4 +1,4 @@
--- The unknown types that a message shows, one after another.
+-- The scan that lists a message's unknown types.
 use Rattle.std.specs.Prelude.{Option, Some, ◌≡◌, ℕ, Bool, true, false, not, ◌&&◌, ◌||◌, eqb, ◌==◌, List, [], ◌∷◌, ◌++◌, length, map, filter, find, is_some}
 use Rattle.std.specs.List.{list_any}
 use Rattle.std.proofs.Common.{refl, sym, ap, ◌∙◌, arith, inl, inr, append_assoc}
@@ -40,11 +40,11 @@ filter-all (n ∷ ns) = ap (λ (l : List ℕ). n ∷ l) (filter-all ns)
 
 -- ---- the list so far, and what is still to be added
 
--- those among what is left that are not listed
+-- The remaining types that are not yet listed.
 abbrev unlisted : List ℕ → List ℕ → List ℕ
 unlisted seen left = filter (λ m. not (has_kind m seen)) left
 
--- what the list comes to when these are still to be looked at
+-- The final list, given what is listed and the attributes that remain.
 unfoldable pub listed_with : List ℕ → List ℕ → List Attr → List ℕ
 listed_with supported seen left = seen ++ unlisted seen (each_once (filter (is_unknown supported) (kinds_of left)))
 
@@ -56,12 +56,12 @@ pub all_listed : (supported seen : List ℕ) → listed_with supported seen [] �
 unfolding listed_with each_once
 all_listed supported seen = append-nil seen
 
--- a type that is known adds nothing
+-- A known type adds nothing to the final list.
 pub known_step : (supported seen : List ℕ) (a : Attr) (left : List Attr) → is_unknown supported a.kind ≡ false → listed_with supported seen left ≡ listed_with supported seen (a ∷ left)
 unfolding listed_with
 known_step supported seen a left known = rw known refl
 
--- nor does one that is listed
+-- A type that is already listed adds nothing.
 passed_again : (k m : ℕ) (seen : List ℕ) → has_kind k seen ≡ true → (not (k == m) && not (has_kind m seen)) ≡ not (has_kind m seen)
 passed_again k m seen listed =
     elim (cases_Bool (eqb k m)) [
@@ -79,7 +79,7 @@ listed_step supported seen a left unknown listed =
     filter-both (λ m. not (has_kind m seen)) (λ m. not (a.kind == m)) later ∙ filter-same _ _ (λ m. passed_again a.kind m seen listed) later in
     rw (unknown, listed) (ap (λ (l : List ℕ). seen ++ l) (sym again))
 
--- one that is not listed goes last
+-- A type that is not yet listed is appended.
 passed_more : (k m : ℕ) (seen : List ℕ) → (not (k == m) && not (has_kind m seen)) ≡ not (has_kind m (seen ++ k ∷ []))
 passed_more k m seen =
     rw (list_any-append (λ n. n == m) seen (k ∷ []))
@@ -126,31 +126,31 @@ numbers_more (u ∷ ts) t = ap (λ (l : List ℕ). u.0 ∷ l) (numbers_more ts t
 
 -- ---- a required type that is not shown
 
-shown_kind : (kind : ℕ) (all : List Attr) → is_some (find (λ a. a.kind == kind) all) ≡ has_kind kind (kinds_of all)
-shown_kind kind [] = refl
-shown_kind kind (a ∷ all) =
+visible_kind : (kind : ℕ) (all : List Attr) → is_some (find (λ a. a.kind == kind) all) ≡ has_kind kind (kinds_of all)
+visible_kind kind [] = refl
+visible_kind kind (a ∷ all) =
     elim (cases_Bool (eqb a.kind kind)) [
       | inl h ↦ rw h refl
-      | inr h ↦ rw h (shown_kind kind all)
+      | inr h ↦ rw h (visible_kind kind all)
     ]
 
 pub missing_numbers : (all : List Attr) (required : List AttributeType) → list_any (λ (t : AttributeType). not (is_some (find (λ a. a.kind == t.0) all))) required ≡ is_missing all (map (λ (t : AttributeType). t.0) required)
 missing_numbers all [] = refl
 missing_numbers all (t ∷ required) =
-    rw (shown_kind t.0 all) (ap (λ (b : Bool). not (has_kind t.0 (kinds_of all)) || b) (missing_numbers all required))
+    rw (visible_kind t.0 all) (ap (λ (b : Bool). not (has_kind t.0 (kinds_of all)) || b) (missing_numbers all required))
 
 -- ---- what is wrong where no type is listed
 
--- the types that are listed are none, as their list is
+-- If the list of the unknown types is empty, there are none.
 pub none_unknown : (all : List Attr) (supported : List ℕ) (listed : List AttributeType) → map (λ (t : AttributeType). t.0) listed ≡ unknown_kinds all supported → length listed ≡ 0 → unknown_kinds all supported ≡ []
 none_unknown all supported [] is none = sym is
 none_unknown all supported (t ∷ listed) is none = absurd (omega (arith, none))
 
--- whether a required type is missing, as it was looked for
+-- A required type is missing exactly if the code finds one that is not visible.
 pub missing_is : (all : List Attr) (required : List AttributeType) (lacks answer : Bool) → lacks ≡ list_any (λ (t : AttributeType). not (is_some (find (λ a. a.kind == t.0) all))) required → lacks ≡ answer → is_missing all (map (λ (t : AttributeType). t.0) required) ≡ answer
-missing_is all required lacks answer is told = sym (missing_numbers all required) ∙ sym is ∙ told
+missing_is all required lacks answer is decoded = sym (missing_numbers all required) ∙ sym is ∙ decoded
 
--- ---- whether an unknown type is shown
+-- ---- whether an unknown type is visible
 
 no_unknown : (p : ℕ → Bool) (all : List Attr) → list_any (λ (a : Attr). p a.kind) all ≡ false → filter p (kinds_of all) ≡ []
 no_unknown p [] h = refl
@@ -160,12 +160,12 @@ no_unknown p (a ∷ all) h =
       | inr isnt ↦ rw isnt (no_unknown p all (rw isnt at h))
     ]
 
--- where none is shown, none is listed
-pub none_shown : (all : List Attr) (supported : List ℕ) → list_any (λ (a : Attr). is_unknown supported a.kind) all ≡ false → unknown_kinds all supported ≡ []
+-- If no unknown type is visible, the list is empty.
+pub none_visible : (all : List Attr) (supported : List ℕ) → list_any (λ (a : Attr). is_unknown supported a.kind) all ≡ false → unknown_kinds all supported ≡ []
 unfolding unknown_kinds each_once
-none_shown all supported h = ap each_once (no_unknown (is_unknown supported) all h)
+none_visible all supported h = ap each_once (no_unknown (is_unknown supported) all h)
 
--- some numbers
+-- The list is not empty.
 record AreSome (kinds : List ℕ) : Type 0 where
   first : ℕ
   rest : List ℕ
@@ -189,14 +189,14 @@ some_objection kinds missing h = rw (h.is) refl
 some_refusal : (limit : Option ℕ) (kinds : List ℕ) (missing : Bool) → AreSome kinds → objection_refusal_to limit kinds missing ≡ unknown_refusal limit (length kinds)
 some_refusal limit kinds missing h = rw (h.is) refl
 
-some_shown : (all : List Attr) (supported : List ℕ) → list_any (λ (a : Attr). is_unknown supported a.kind) all ≡ true → AreSome (unknown_kinds all supported)
+some_visible : (all : List Attr) (supported : List ℕ) → list_any (λ (a : Attr). is_unknown supported a.kind) all ≡ true → AreSome (unknown_kinds all supported)
 unfolding unknown_kinds
-some_shown all supported h = some_once _ (some_unknown (is_unknown supported) all h)
+some_visible all supported h = some_once _ (some_unknown (is_unknown supported) all h)
 
--- where one is shown, the response lists them
+-- If an unknown type is visible, the response lists the unknown types.
 pub unknown_objection : (all : List Attr) (supported required : List ℕ) → list_any (λ (a : Attr). is_unknown supported a.kind) all ≡ true → objection all supported required ≡ Some (unknown_response_attributes (unknown_kinds all supported))
-unknown_objection all supported required h = some_objection _ (is_missing all required) (some_shown all supported h)
+unknown_objection all supported required h = some_objection _ (is_missing all required) (some_visible all supported h)
 
 pub unknown_refused : (limit : Option ℕ) (all : List Attr) (supported required : List ℕ) (count : ℕ) → list_any (λ (a : Attr). is_unknown supported a.kind) all ≡ true → count ≡ length (unknown_kinds all supported)
     → unknown_refusal limit count ≡ objection_refusal limit all supported required
-unknown_refused limit all supported required count h counted = ap (λ (n : ℕ). unknown_refusal limit n) counted ∙ sym (some_refusal limit _ (is_missing all required) (some_shown all supported h))
+unknown_refused limit all supported required count h counted = ap (λ (n : ℕ). unknown_refusal limit n) counted ∙ sym (some_refusal limit _ (is_missing all required) (some_visible all supported h))

@@ -1,4 +1,4 @@
--- Why an attribute that is shown is not read.
+-- The errors of reading a visible attribute.
 use Rattle.std.proofs.Common.{◌≡◌, Option, Some, sym, subst}
 use Rattle.std.specs.Prelude.{Result}
 use Rattle.stun_types_base.specs.Refusals.{RefusesFor}
@@ -8,6 +8,6 @@ use Rattle.stun_types_wire.specs.declared.error.StunParseError.TheVariants.{NoMe
 use Rattle.stun_types_wire.specs.Attributes.{Attr}
 use Rattle.stun_types_message.specs.TypedReading.{read_of_refusal}
 
-pub refused_as : {A : Type 0} (asked : AttributeType) (read_refusal : Attr → Option StunParseError) (there : Option Attr) (a : Attr) (result : Result A StunParseError) → there ≡ Some a → RefusesFor NoMemory (read_refusal a) result
-    → RefusesFor NoMemory (read_of_refusal asked read_refusal there) result
-refused_as asked read_refusal there a result is h = subst (λ (o : Option Attr). RefusesFor NoMemory (read_of_refusal asked read_refusal o) result) (sym is) h
+pub refused_as : {A : Type 0} (requested : AttributeType) (read_refusal : Attr → Option StunParseError) (there : Option Attr) (a : Attr) (result : Result A StunParseError) → there ≡ Some a → RefusesFor NoMemory (read_refusal a) result
+    → RefusesFor NoMemory (read_of_refusal requested read_refusal there) result
+refused_as requested read_refusal there a result is h = subst (λ (o : Option Attr). RefusesFor NoMemory (read_of_refusal requested read_refusal o) result) (sym is) h

@@ -1,4 +1,4 @@
--- The list of unknown types: it has each of them once, in the order in which they are first shown.
+-- The list of unknown types has each of them once, in the order in which they first appear.
 use Rattle.std.specs.Prelude.{◌≡◌, ℕ, Bool, true, false, not, ◌&&◌, eqb, ◌==◌, List, [], ◌∷◌, filter}
 use Rattle.std.specs.List.{AllByRecursion, IsDistinct}
 use Rattle.std.proofs.Common.{refl, sym, ap, ◌∙◌, inl, inr}
@@ -6,7 +6,7 @@ use Rattle.std.proofs.lemmas.Bool.{cases_Bool, eqb-true}
 use Rattle.stun_types_wire.specs.Attributes.{Attr}
 use Rattle.stun_types_wire.specs.Shape.{kinds_of}
 use Rattle.stun_types_write.specs.Adding.{has_kind}
-use Rattle.stun_types_message.specs.Objections.{IsInOrder, IsShownBefore, IsUnknownList, each_once, is_unknown, unknown_kinds}
+use Rattle.stun_types_message.specs.Objections.{IsInOrder, IsVisibleBefore, IsUnknownList, each_once, is_unknown, unknown_kinds}
 
 -- ---- facts on each element
 
@@ -97,15 +97,15 @@ has-once k (n ∷ ns) =
 
 -- ---- in order
 
-before-more : (k a b : ℕ) (kinds : List ℕ) → eqb k b ≡ false → IsShownBefore kinds a b → IsShownBefore (k ∷ kinds) a b
+before-more : (k a b : ℕ) (kinds : List ℕ) → eqb k b ≡ false → IsVisibleBefore kinds a b → IsVisibleBefore (k ∷ kinds) a b
 before-more k a b kinds other h = record {
   before = k ∷ h.before;
-  behind = h.behind;
+  following = h.following;
   parts = ap (λ (l : List ℕ). k ∷ l) h.parts;
   none = rw other h.none;
 }
 
-all-before : (k a : ℕ) (kinds ns : List ℕ) → AllByRecursion (λ b. eqb k b ≡ false) ns → AllByRecursion (IsShownBefore kinds a) ns → AllByRecursion (IsShownBefore (k ∷ kinds) a) ns
+all-before : (k a : ℕ) (kinds ns : List ℕ) → AllByRecursion (λ b. eqb k b ≡ false) ns → AllByRecursion (IsVisibleBefore kinds a) ns → AllByRecursion (IsVisibleBefore (k ∷ kinds) a) ns
 all-before k a kinds [] other h = tt
 all-before k a kinds (b ∷ ns) other h = (before-more k a b kinds other.0 h.0, all-before k a kinds ns other.1 h.1)
 
@@ -119,7 +119,7 @@ unfolding IsInOrder
 order-filter p kinds [] h = tt
 order-filter p kinds (n ∷ ns) h =
     elim (cases_Bool (p n)) [
-      | inl is ↦ rw is (all-filter (IsShownBefore kinds n) p ns h.0, order-filter p kinds ns h.1)
+      | inl is ↦ rw is (all-filter (IsVisibleBefore kinds n) p ns h.0, order-filter p kinds ns h.1)
       | inr is ↦ rw is (order-filter p kinds ns h.1)
     ]
 
@@ -138,7 +138,7 @@ order-once p (k ∷ kinds) =
     let rest = order-once p kinds in
     elim (cases_Bool (p k)) [
       | inl is ↦ rw is (
-        all-every (IsShownBefore (k ∷ kinds) k) (λ b. record { before = []; behind = kinds; parts = refl; none = refl }) (filter (λ m. not (k == m)) later),
+        all-every (IsVisibleBefore (k ∷ kinds) k) (λ b. record { before = []; following = kinds; parts = refl; none = refl }) (filter (λ m. not (k == m)) later),
         order-more k kinds (filter (λ m. not (k == m)) later) (others k later) (order-filter (λ m. not (k == m)) kinds later rest),
       )
       | inr fails ↦

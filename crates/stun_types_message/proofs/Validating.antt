@@ -1,4 +1,4 @@
--- The attribute that is validated: where it stands, and that it is the only one of its type.
+-- The offset of the attribute that is validated, and that it is the only one of its type.
 use Rattle.std.proofs.Common.{◌≡◌, ℕ, zero, suc, ◌+◌, ◌-◌, ◌<◌, ◌≤◌, Bool, true, ltb, eqb, cond, List, [], ◌∷◌, ◌++◌, length, take, drop, get_or, Option, Some, None, refl, sym, ap, subst, ◌∙◌, arith, inl, inr}
 use Rattle.std.specs.Prelude.{find, map, IsSomeAnd, IfOk, IfErr, OnOk, Result, Ok, Err}
 use Rattle.std.proofs.lemmas.Bool.{cases_Bool, ltb-true, ltb-false, eqb-true, ne_eqb, eq-eqb}
@@ -10,14 +10,14 @@ use Rattle.byteorder.specs.Endian.{big_bytes}
 use Rattle.stun_types_wire.specs.declared.error.StunParseError.{StunParseError}
 use Rattle.stun_types_wire.specs.declared.algorithm.IntegrityAlgorithm.{IntegrityAlgorithm}
 use Rattle.stun_types_wire.specs.Attributes.{Attr, attr_size, padded, attr_at, kind_at, length_at, size_at, is_whole, numbered}
-use Rattle.stun_types_wire.specs.Shape.{rank, may_follow, kinds_of, shown_after}
+use Rattle.stun_types_wire.specs.Shape.{rank, may_follow, kinds_of, visible_after}
 use Rattle.stun_types_wire.specs.Registry.{integrity_kind, sha256_kind, sha512_kind}
-use Rattle.stun_types_wire.specs.Grammar.{Header, IsMessage, shown, refusal, header_refusal, length_refusal, body_refusal}
+use Rattle.stun_types_wire.specs.Grammar.{Header, IsMessage, visible, refusal, header_refusal, length_refusal, body_refusal}
 use Rattle.stun_types_wire.proofs.Whole.{whole_long, size_whole}
 use Rattle.std.specs.List.{AllByRecursion, starts_with}
 use Rattle.stun_types_wire.proofs.Left.{left_at, map_numbered, none_past, none_stops, left_step}
-use Rattle.stun_types_wire.proofs.Scan.{shown_short}
-use Rattle.stun_types_wire.proofs.Longest.{Follows, front_follows}
+use Rattle.stun_types_wire.proofs.Scan.{visible_short}
+use Rattle.stun_types_wire.proofs.Longest.{Follows, head_follows}
 use Rattle.stun_types_wire.specs.Covered.{covered_text, with_length}
 use Rattle.stun_types_wire.specs.declared.algorithm.IntegrityAlgorithm.TheVariants.{Sha1, Sha256, Sha512}
 use Rattle.stun_types_wire.specs.declared.error.StunParseError.TheVariants.{MissingAttribute, InvalidAttributeData}
@@ -27,10 +27,10 @@ use Rattle.stun_types_integrity.specs.Integrity.{IsSigned, Validates, algorithm_
 use Rattle.stun_types_integrity.specs.Credentials.{Key}
 use Rattle.stun_types_integrity.specs.Keys.{key_of}
 use Rattle.stun_types_integrity.proofs.Keys.{key_for}
-use Rattle.stun_types_add.proofs.Pieces.{told_front}
+use Rattle.stun_types_add.proofs.Chunks.{decoded_head}
 use Rattle.stun_types_integrity.specs.declared.credentials.MessageIntegrityCredentials.{MessageIntegrityCredentials}
 use Rattle.stun_types_message.specs.Parsed.{IsParsed}
-use Rattle.stun_types_message.specs.MessageValidation.{HasDigest, IsLawful, IsRefused, IsRight, StandsAt, first_of_kind, last_algorithm}
+use Rattle.stun_types_message.specs.MessageValidation.{HasDigest, IsLawful, IsRefused, IsRight, OccursAt, first_of_kind, last_algorithm}
 
 -- ---- how long a message is
 
@@ -52,19 +52,19 @@ length_none bytes h =
       ]
     ]
 
-pub told_length : (bytes : List ℕ) (told : Header) → IsParsed bytes told → length bytes ≡ 20 + told.len
+pub decoded_length : (bytes : List ℕ) (decoded : Header) → IsParsed bytes decoded → length bytes ≡ 20 + decoded.len
 unfolding refusal
-told_length bytes told h =
+decoded_length bytes decoded h =
     let later = (option_or_none (header_refusal bytes) (option_or (length_refusal bytes) (body_refusal bytes)) h.message).1 in
     let fits = (option_or_none (length_refusal bytes) (body_refusal bytes) later).0 in
     length_none bytes fits ∙ ap (λ n. 20 + n) (sym (ap (λ (t : Header). t.len) h.header))
 
 -- ---- where an attribute stands
 
-found_stands : (n : ℕ) (p : ℕ × Attr → Bool) (before offset : ℕ) (bytes : List ℕ) (e : ℕ × Attr) → length bytes ≤ offset + n → find p (left_at before offset bytes) ≡ Some e
+found_occurs : (n : ℕ) (p : ℕ × Attr → Bool) (before offset : ℕ) (bytes : List ℕ) (e : ℕ × Attr) → length bytes ≤ offset + n → find p (left_at before offset bytes) ≡ Some e
     → (offset ≤ e.0) × (e.0 + attr_size e.1 ≤ length bytes) × (attr_size e.1 ≡ size_at (drop e.0 bytes))
-found_stands zero p before offset bytes e few h = absurd (let q = rw (none_past before offset bytes (omega arith)) at h in cc)
-found_stands (suc n) p before offset bytes e few h =
+found_occurs zero p before offset bytes e few h = absurd (let q = rw (none_past before offset bytes (omega arith)) at h in cc)
+found_occurs (suc n) p before offset bytes e few h =
     let rest = drop offset bytes in
     elim (cases_Bool (is_whole rest)) [
       | inl w ↦ elim (cases_Bool (may_follow before (rank (kind_at rest)))) [
@@ -76,27 +76,27 @@ found_stands (suc n) p before offset bytes e few h =
             left_step before offset (rank (kind_at rest)) (kind_at rest) (size_at rest) (length_at rest) bytes rest (attr_at rest) refl four refl refl follows refl long refl refl refl in
             let found : cond (p (offset, attr_at rest)) (Some (offset, attr_at rest)) (find p later) ≡ Some e = ap (λ (l : List (ℕ × Attr)). find p l) (sym step) ∙ h in
             elim (cases_Bool (p (offset, attr_at rest))) [
-              | inl told ↦
-                  let same : Some (offset, attr_at rest) ≡ Some e = rw (told) at found in
+              | inl decoded ↦
+                  let same : Some (offset, attr_at rest) ≡ Some e = rw (decoded) at found in
                   let is : (offset, attr_at rest) ≡ e = cc in
                   let P : ℕ × Attr → Type 0 = λ x. (offset ≤ x.0) × (x.0 + attr_size x.1 ≤ length bytes) × (attr_size x.1 ≡ size_at (drop x.0 bytes)) in
                   let size = size_whole rest w in
                   subst P is (omega arith, omega (arith, size, length-drop offset bytes), size)
               | inr untold ↦
                   let further : find p later ≡ Some e = rw (untold) at found in
-                  let found-later = found_stands n p (rank (kind_at rest)) (offset + size_at rest) bytes e (omega arith) further in
+                  let found-later = found_occurs n p (rank (kind_at rest)) (offset + size_at rest) bytes e (omega arith) further in
                   (omega (arith, found-later.0), found-later.1, found-later.2)
             ]
         | inr stops ↦ absurd (let q = rw (none_stops before offset (rank (kind_at rest)) (kind_at rest) bytes rest refl refl refl stops) at h in cc)
       ]
-      | inr short ↦ absurd (let q = rw (shown_short before rest short) at h in cc)
+      | inr short ↦ absurd (let q = rw (visible_short before rest short) at h in cc)
     ]
 
-pub stands : (kind : ℕ) (bytes : List ℕ) (e : ℕ × Attr) → first_of_kind kind bytes ≡ Some e → StandsAt bytes e.0 e.1.value
-unfolding shown
-stands kind bytes e h =
-    let all = found_stands (length bytes) (λ x. eqb x.1.kind kind) 0 20 bytes e (omega arith) h in
-    record { behind_header = all.0; whole = all.1; size = all.2 }
+pub occurs : (kind : ℕ) (bytes : List ℕ) (e : ℕ × Attr) → first_of_kind kind bytes ≡ Some e → OccursAt bytes e.0 e.1.value
+unfolding visible
+occurs kind bytes e h =
+    let all = found_occurs (length bytes) (λ x. eqb x.1.kind kind) 0 20 bytes e (omega arith) h in
+    record { after_header = all.0; whole = all.1; size = all.2 }
 
 -- ---- the only one of its type
 
@@ -110,37 +110,37 @@ follows_less r s positive h =
 abbrev of_kind : ℕ → ℕ × Attr → Bool
 of_kind kind x = eqb x.1.kind kind
 
--- behind a rank that is not below that of a type none of that type is shown
-none_behind : (kind r offset : ℕ) (all : List Attr) → 0 < rank kind → rank kind ≤ r → Follows r (kinds_of all) → find (of_kind kind) (numbered offset all) ≡ None
-none_behind kind r offset [] positive le h = refl
-none_behind kind r offset (a ∷ all) positive le h =
+-- After an attribute whose rank is not below that of an ending type, no attribute of that type is visible.
+none_after : (kind r offset : ℕ) (all : List Attr) → 0 < rank kind → rank kind ≤ r → Follows r (kinds_of all) → find (of_kind kind) (numbered offset all) ≡ None
+none_after kind r offset [] positive le h = refl
+none_after kind r offset (a ∷ all) positive le h =
     let less = follows_less r (rank a.kind) (omega arith) h.0 in
     elim (cases_Bool (eqb a.kind kind)) [
-      | inl told ↦ absurd (let same = ap rank (eqb-true a.kind kind told) in omega (arith, same))
-      | inr untold ↦ rw (untold) (none_behind kind (rank a.kind) (offset + attr_size a) all positive (omega arith) h.1)
+      | inl decoded ↦ absurd (let same = ap rank (eqb-true a.kind kind decoded) in omega (arith, same))
+      | inr untold ↦ rw (untold) (none_after kind (rank a.kind) (offset + attr_size a) all positive (omega arith) h.1)
     ]
 
-only_one : (kind r offset : ℕ) (all : List Attr) (before behind : List (ℕ × Attr)) (e : ℕ × Attr) → 0 < rank kind → Follows r (kinds_of all) → numbered offset all ≡ before ++ e ∷ behind → e.1.kind ≡ kind → find (of_kind kind) (numbered offset all) ≡ Some e
-only_one kind r offset [] [] behind e positive h parts is = absurd cc
-only_one kind r offset [] (x ∷ before) behind e positive h parts is = absurd cc
-only_one kind r offset (a ∷ all) [] behind e positive h parts is =
+only_one : (kind r offset : ℕ) (all : List Attr) (before following : List (ℕ × Attr)) (e : ℕ × Attr) → 0 < rank kind → Follows r (kinds_of all) → numbered offset all ≡ before ++ e ∷ following → e.1.kind ≡ kind → find (of_kind kind) (numbered offset all) ≡ Some e
+only_one kind r offset [] [] following e positive h parts is = absurd cc
+only_one kind r offset [] (x ∷ before) following e positive h parts is = absurd cc
+only_one kind r offset (a ∷ all) [] following e positive h parts is =
     let same : (offset, a) ≡ e = cc in
     let own : a.kind ≡ kind = ap (λ (x : ℕ × Attr). x.1.kind) same ∙ is in
     rw (eq-eqb a.kind kind own) (ap (λ (x : ℕ × Attr). Some x) same)
-only_one kind r offset (a ∷ all) (x ∷ before) behind e positive h parts is =
-    let tail : numbered (offset + attr_size a) all ≡ before ++ e ∷ behind = cc in
-    let later = only_one kind (rank a.kind) (offset + attr_size a) all before behind e positive h.1 tail is in
+only_one kind r offset (a ∷ all) (x ∷ before) following e positive h parts is =
+    let tail : numbered (offset + attr_size a) all ≡ before ++ e ∷ following = cc in
+    let later = only_one kind (rank a.kind) (offset + attr_size a) all before following e positive h.1 tail is in
     elim (cases_Bool (eqb a.kind kind)) [
-      | inl told ↦
-          let same = ap rank (eqb-true a.kind kind told) in
-          let none = none_behind kind (rank a.kind) (offset + attr_size a) all positive (omega (arith, same)) h.1 in
+      | inl decoded ↦
+          let same = ap rank (eqb-true a.kind kind decoded) in
+          let none = none_after kind (rank a.kind) (offset + attr_size a) all positive (omega (arith, same)) h.1 in
           absurd (let p = sym none ∙ later in cc)
       | inr untold ↦ rw (untold) later
     ]
 
-pub only_of_kind : (kind : ℕ) (bytes : List ℕ) (before behind : List (ℕ × Attr)) (e : ℕ × Attr) → 0 < rank kind → numbered 20 (shown bytes) ≡ before ++ e ∷ behind → e.1.kind ≡ kind → first_of_kind kind bytes ≡ Some e
-unfolding shown shown_after
-only_of_kind kind bytes before behind e positive parts is = only_one kind 0 20 (shown bytes) before behind e positive (front_follows 0 _) parts is
+pub only_of_kind : (kind : ℕ) (bytes : List ℕ) (before following : List (ℕ × Attr)) (e : ℕ × Attr) → 0 < rank kind → numbered 20 (visible bytes) ≡ before ++ e ∷ following → e.1.kind ≡ kind → first_of_kind kind bytes ≡ Some e
+unfolding visible visible_after
+only_of_kind kind bytes before following e positive parts is = only_one kind 0 20 (visible bytes) before following e positive (head_follows 0 _) parts is
 
 -- ---- the last integrity attribute
 
@@ -150,45 +150,45 @@ last_step (Some a) own last = refl
 
 -- ---- what is covered
 
--- the pieces of the covered text: its front with the length, and what stands behind it
-pub covered_pieces : (bytes covered front behind : List ℕ) (offset n : ℕ) (value : List ℕ) → StandsAt bytes offset value → covered ≡ take offset bytes → front ≡ get_or covered 0 0 ∷ get_or covered 1 0 ∷ big_bytes 2 n → behind ≡ drop 4 covered
-    → n + 20 ≡ offset + 4 + padded (length value) → front ++ behind ++ [] ≡ covered_text bytes offset
+-- The chunks of the covered text: its first bytes with the new length, and the bytes after them.
+pub covered_chunks : (bytes covered attribute_head following : List ℕ) (offset n : ℕ) (value : List ℕ) → OccursAt bytes offset value → covered ≡ take offset bytes → attribute_head ≡ get_or covered 0 0 ∷ get_or covered 1 0 ∷ big_bytes 2 n → following ≡ drop 4 covered
+    → n + 20 ≡ offset + 4 + padded (length value) → attribute_head ++ following ++ [] ≡ covered_text bytes offset
 unfolding covered_text
-covered_pieces bytes covered front behind offset n value stands covered-is front-is behind-is n-is =
-    let told : n ≡ offset - 20 + size_at (drop offset bytes) = omega (arith, stands.behind_header, stands.size, n-is) in
-    let long : 20 ≤ length covered = (let size = ap length covered-is in omega (arith, size, length-take offset bytes, stands.behind_header, stands.whole)) in
-    told_front covered front behind n long front-is behind-is ∙ ap (λ (l : List ℕ). with_length l n) covered-is ∙ ap (λ m. with_length (take offset bytes) m) told
+covered_chunks bytes covered attribute_head following offset n value occurs covered-is attribute_head-is following-is n-is =
+    let decoded : n ≡ offset - 20 + size_at (drop offset bytes) = omega (arith, occurs.after_header, occurs.size, n-is) in
+    let long : 20 ≤ length covered = (let size = ap length covered-is in omega (arith, size, length-take offset bytes, occurs.after_header, occurs.whole)) in
+    decoded_head covered attribute_head following n long attribute_head-is following-is ∙ ap (λ (l : List ℕ). with_length l n) covered-is ∙ ap (λ m. with_length (take offset bytes) m) decoded
 
--- where the length is told already, the covered text stands there as it is
-pub covered_whole : (bytes covered front : List ℕ) (offset n : ℕ) (value : List ℕ) → StandsAt bytes offset value → covered ≡ take offset bytes → front ≡ get_or covered 0 0 ∷ get_or covered 1 0 ∷ big_bytes 2 n → true ≡ starts_with eqb covered front
+-- If the length field already has that value, the covered text is the contiguous bytes.
+pub covered_whole : (bytes covered attribute_head : List ℕ) (offset n : ℕ) (value : List ℕ) → OccursAt bytes offset value → covered ≡ take offset bytes → attribute_head ≡ get_or covered 0 0 ∷ get_or covered 1 0 ∷ big_bytes 2 n → true ≡ starts_with eqb covered attribute_head
     → n + 20 ≡ offset + 4 + padded (length value) → covered ++ [] ++ [] ≡ covered_text bytes offset
-covered_whole bytes covered front offset n value stands covered-is front-is told n-is =
-    let parts : covered ≡ front ++ drop (length front) covered = (starts_is Decides-eqb covered front true told).0 refl in
-    let four : length front ≡ 4 = ap length front-is in
-    let whole : front ++ drop 4 covered ≡ covered = ap (λ k. front ++ drop k covered) (sym four) ∙ sym parts in
-    append-nil (covered ++ []) ∙ append-nil covered ∙ sym whole ∙ sym (append-nil (front ++ drop 4 covered))
-    ∙ covered_pieces bytes covered front (drop 4 covered) offset n value stands covered-is front-is refl n-is
+covered_whole bytes covered attribute_head offset n value occurs covered-is attribute_head-is decoded n-is =
+    let parts : covered ≡ attribute_head ++ drop (length attribute_head) covered = (starts_is Decides-eqb covered attribute_head true decoded).0 refl in
+    let four : length attribute_head ≡ 4 = ap length attribute_head-is in
+    let whole : attribute_head ++ drop 4 covered ≡ covered = ap (λ k. attribute_head ++ drop k covered) (sym four) ∙ sym parts in
+    append-nil (covered ++ []) ∙ append-nil covered ∙ sym whole ∙ sym (append-nil (attribute_head ++ drop 4 covered))
+    ∙ covered_chunks bytes covered attribute_head (drop 4 covered) offset n value occurs covered-is attribute_head-is refl n-is
 
 -- ---- what validates
 
--- an element that passes, and those before and behind it
+-- An element that passes a test, with the elements before and after it.
 record Found {X : Type 0} (p : X → Bool) (all : List X) (e : X) : Type 0 where
   before : List X
-  behind : List X
-  parts : all ≡ before ++ e ∷ behind
+  following : List X
+  parts : all ≡ before ++ e ∷ following
   passes : p e ≡ true
 
 found_parts : {X : Type 0} (p : X → Bool) (all : List X) (e : X) → find p all ≡ Some e → Found p all e
 found_parts p [] e h = absurd cc
 found_parts p (x ∷ all) e h =
     elim (cases_Bool (p x)) [
-      | inl told ↦
-          let found : Some x ≡ Some e = rw (told) at h in
+      | inl decoded ↦
+          let found : Some x ≡ Some e = rw (decoded) at h in
           let same : x ≡ e = cc in
-          record { before = []; behind = all; parts = ap (λ y. y ∷ all) same; passes = ap p (sym same) ∙ told }
+          record { before = []; following = all; parts = ap (λ y. y ∷ all) same; passes = ap p (sym same) ∙ decoded }
       | inr untold ↦
           let later = found_parts p all e (rw (untold) at h) in
-          record { before = x ∷ later.before; behind = later.behind; parts = ap (λ l. x ∷ l) later.parts; passes = later.passes }
+          record { before = x ∷ later.before; following = later.following; parts = ap (λ l. x ∷ l) later.parts; passes = later.passes }
     ]
 
 positive_rank : (algorithm : IntegrityAlgorithm) → 0 < rank (attribute_kind algorithm)
@@ -199,14 +199,14 @@ positive_rank Sha512 = omega arith
 right_signed : (bytes key : List ℕ) (algorithm : IntegrityAlgorithm) (o : Option (ℕ × Attr)) → IsMessage bytes → first_of_kind (attribute_kind algorithm) bytes ≡ o → IsSomeAnd o (IsRight bytes key algorithm) → (text : List ℕ) × IsSigned bytes key algorithm text
 right_signed bytes key algorithm None message is right = absurd right
 right_signed bytes key algorithm (Some entry) message is right =
-    let found = found_parts (of_kind (attribute_kind algorithm)) (numbered 20 (shown bytes)) entry is in (
+    let found = found_parts (of_kind (attribute_kind algorithm)) (numbered 20 (visible bytes)) entry is in (
       covered_text bytes entry.0,
       record {
         message = message;
         before = found.before;
         offset = entry.0;
         attribute = entry.1;
-        behind = found.behind;
+        following = found.following;
         shows = found.parts;
         kind = eqb-true entry.1.kind (attribute_kind algorithm) found.passes;
         covered = refl;
@@ -219,7 +219,7 @@ pub signed : (bytes key : List ℕ) (algorithm : IntegrityAlgorithm) → IsMessa
 signed bytes key algorithm message right = right_signed bytes key algorithm (first_of_kind (attribute_kind algorithm) bytes) message refl right
 
 pub signed_first : (bytes key : List ℕ) (algorithm : IntegrityAlgorithm) (text : List ℕ) (s : IsSigned bytes key algorithm text) → first_of_kind (attribute_kind algorithm) bytes ≡ Some (s.offset, s.attribute)
-signed_first bytes key algorithm text s = only_of_kind (attribute_kind algorithm) bytes s.before s.behind (s.offset, s.attribute) (positive_rank algorithm) s.shows s.kind
+signed_first bytes key algorithm text s = only_of_kind (attribute_kind algorithm) bytes s.before s.following (s.offset, s.attribute) (positive_rank algorithm) s.shows s.kind
 
 pub signed_right : (bytes key : List ℕ) (algorithm : IntegrityAlgorithm) (text : List ℕ) → (s : IsSigned bytes key algorithm text) → HasDigest bytes key algorithm s.offset s.attribute.value
 signed_right bytes key algorithm text s = record { rest = s.digest.rest; parts = ap (λ (t : List ℕ). integrity_hmac algorithm key t) (sym s.covered) ∙ s.digest.parts }
@@ -249,10 +249,10 @@ attributes_of all = map (λ (x : ℕ × Attr). x.1) all
 record LastOf (all : List (ℕ × Attr)) (algorithm : IntegrityAlgorithm) : Type 0 where
   before : List (ℕ × Attr)
   entry : ℕ × Attr
-  behind : List (ℕ × Attr)
-  parts : all ≡ before ++ entry ∷ behind
+  following : List (ℕ × Attr)
+  parts : all ≡ before ++ entry ∷ following
   own : algorithm_of entry.1.kind ≡ Some algorithm
-  none : AllByRecursion (λ x. algorithm_of x.1.kind ≡ None) behind
+  none : AllByRecursion (λ x. algorithm_of x.1.kind ≡ None) following
 
 or_none : (a b : Option IntegrityAlgorithm) → option_or a b ≡ None → (a ≡ None) × (b ≡ None)
 or_none (Some x) b h = absurd cc
@@ -271,18 +271,18 @@ last_none (x ∷ rest) h = rw (last_none rest h.1) h.0
 last_more : (x : ℕ × Attr) (rest : List (ℕ × Attr)) (algorithm : IntegrityAlgorithm) (o : Option IntegrityAlgorithm) → (last_algorithm (attributes_of rest) ≡ Some algorithm → LastOf rest algorithm) → last_algorithm (attributes_of rest) ≡ o → option_or o (algorithm_of x.1.kind) ≡ Some algorithm → LastOf (x ∷ rest) algorithm
 last_more x rest algorithm (Some a) further is h =
     let later = further (is ∙ h) in
-    record { before = x ∷ later.before; entry = later.entry; behind = later.behind; parts = ap (λ (l : List (ℕ × Attr)). x ∷ l) later.parts; own = later.own; none = later.none }
-last_more x rest algorithm None further is h = record { before = []; entry = x; behind = rest; parts = refl; own = h; none = none_last rest is }
+    record { before = x ∷ later.before; entry = later.entry; following = later.following; parts = ap (λ (l : List (ℕ × Attr)). x ∷ l) later.parts; own = later.own; none = later.none }
+last_more x rest algorithm None further is h = record { before = []; entry = x; following = rest; parts = refl; own = h; none = none_last rest is }
 
 last_parts : (all : List (ℕ × Attr)) (algorithm : IntegrityAlgorithm) → last_algorithm (attributes_of all) ≡ Some algorithm → LastOf all algorithm
 unfolding last_algorithm
 last_parts [] algorithm h = absurd cc
 last_parts (x ∷ rest) algorithm h = last_more x rest algorithm (last_algorithm (attributes_of rest)) (last_parts rest algorithm) refl h
 
-last_of : (before behind : List (ℕ × Attr)) (entry : ℕ × Attr) (algorithm : IntegrityAlgorithm) → AllByRecursion (λ x. algorithm_of x.1.kind ≡ None) behind → algorithm_of entry.1.kind ≡ Some algorithm → last_algorithm (attributes_of (before ++ entry ∷ behind)) ≡ Some algorithm
+last_of : (before following : List (ℕ × Attr)) (entry : ℕ × Attr) (algorithm : IntegrityAlgorithm) → AllByRecursion (λ x. algorithm_of x.1.kind ≡ None) following → algorithm_of entry.1.kind ≡ Some algorithm → last_algorithm (attributes_of (before ++ entry ∷ following)) ≡ Some algorithm
 unfolding last_algorithm
-last_of [] behind entry algorithm none own = rw (last_none behind none) own
-last_of (x ∷ before) behind entry algorithm none own = rw (last_of before behind entry algorithm none own) refl
+last_of [] following entry algorithm none own = rw (last_none following none) own
+last_of (x ∷ before) following entry algorithm none own = rw (last_of before following entry algorithm none own) refl
 
 own_kind : (kind : ℕ) (algorithm : IntegrityAlgorithm) → algorithm_of kind ≡ Some algorithm → kind ≡ attribute_kind algorithm
 own_kind kind algorithm h =
@@ -311,25 +311,25 @@ kind_own Sha1 = refl
 kind_own Sha256 = refl
 kind_own Sha512 = refl
 
-pub signed_validates : (bytes key : List ℕ) (algorithm : IntegrityAlgorithm) (text : List ℕ) → last_algorithm (shown bytes) ≡ Some algorithm → IsSigned bytes key algorithm text → Validates bytes key algorithm text
+pub signed_validates : (bytes key : List ℕ) (algorithm : IntegrityAlgorithm) (text : List ℕ) → last_algorithm (visible bytes) ≡ Some algorithm → IsSigned bytes key algorithm text → Validates bytes key algorithm text
 signed_validates bytes key algorithm text is s =
-    let last = last_parts (numbered 20 (shown bytes)) algorithm (ap last_algorithm (map_numbered 20 (shown bytes)) ∙ is) in
-    let first = only_of_kind (attribute_kind algorithm) bytes last.before last.behind last.entry (positive_rank algorithm) last.parts (own_kind last.entry.1.kind algorithm last.own) in
+    let last = last_parts (numbered 20 (visible bytes)) algorithm (ap last_algorithm (map_numbered 20 (visible bytes)) ∙ is) in
+    let first = only_of_kind (attribute_kind algorithm) bytes last.before last.following last.entry (positive_rank algorithm) last.parts (own_kind last.entry.1.kind algorithm last.own) in
     let both : Some last.entry ≡ Some (s.offset, s.attribute) = sym first ∙ signed_first bytes key algorithm text s in
     let same : last.entry ≡ (s.offset, s.attribute) = cc in
     record {
-      signed = record s { before = last.before; behind = last.behind; shows = last.parts ∙ ap (λ (e : ℕ × Attr). last.before ++ e ∷ last.behind) same };
+      signed = record s { before = last.before; following = last.following; shows = last.parts ∙ ap (λ (e : ℕ × Attr). last.before ++ e ∷ last.following) same };
       last = last.none;
     }
 
-pub validates_last : (bytes key : List ℕ) (algorithm : IntegrityAlgorithm) (text : List ℕ) → Validates bytes key algorithm text → last_algorithm (shown bytes) ≡ Some algorithm
+pub validates_last : (bytes key : List ℕ) (algorithm : IntegrityAlgorithm) (text : List ℕ) → Validates bytes key algorithm text → last_algorithm (visible bytes) ≡ Some algorithm
 validates_last bytes key algorithm text v =
     let own = ap algorithm_of v.signed.kind ∙ kind_own algorithm in
-    ap last_algorithm (sym (map_numbered 20 (shown bytes)) ∙ ap attributes_of v.signed.shows) ∙ last_of v.signed.before v.signed.behind (v.signed.offset, v.signed.attribute) algorithm v.last own
+    ap last_algorithm (sym (map_numbered 20 (visible bytes)) ∙ ap attributes_of v.signed.shows) ∙ last_of v.signed.before v.signed.following (v.signed.offset, v.signed.attribute) algorithm v.last own
 
--- ---- what is answered under credentials
+-- ---- the result under credentials
 
-pub valid_by : (bytes : List ℕ) (credentials : MessageIntegrityCredentials) (key : Key) (algorithm : IntegrityAlgorithm) (result : Result IntegrityAlgorithm ValidateError) → last_algorithm (shown bytes) ≡ Some algorithm → key ≡ key_of credentials algorithm
+pub valid_by : (bytes : List ℕ) (credentials : MessageIntegrityCredentials) (key : Key) (algorithm : IntegrityAlgorithm) (result : Result IntegrityAlgorithm ValidateError) → last_algorithm (visible bytes) ≡ Some algorithm → key ≡ key_of credentials algorithm
     → IfOk result (λ answered. (answered ≡ key.algorithm) × ((text : List ℕ) × IsSigned bytes key.bytes answered text)) → IfOk result (λ answered. (text : List ℕ) × Validates bytes (key_of credentials answered).bytes answered text)
 valid_by bytes credentials key algorithm (Err error) last is h = tt
 valid_by bytes credentials key algorithm (Ok answered) last is h =
@@ -338,7 +338,7 @@ valid_by bytes credentials key algorithm (Ok answered) last is h =
     let bytes-are : key.bytes ≡ (key_of credentials answered).bytes = ap (λ (k : Key). k.bytes) is ∙ ap (λ (a : IntegrityAlgorithm). (key_of credentials a).bytes) same in
     (h.1.0, signed_validates bytes (key_of credentials answered).bytes answered h.1.0 (last ∙ ap (λ (a : IntegrityAlgorithm). Some a) same) (subst (λ (k : List ℕ). IsSigned bytes k answered h.1.0) bytes-are h.1.1))
 
-pub accepted_by : (bytes : List ℕ) (credentials : MessageIntegrityCredentials) (key : Key) (algorithm : IntegrityAlgorithm) (result : Result IntegrityAlgorithm ValidateError) → last_algorithm (shown bytes) ≡ Some algorithm → key ≡ key_of credentials algorithm
+pub accepted_by : (bytes : List ℕ) (credentials : MessageIntegrityCredentials) (key : Key) (algorithm : IntegrityAlgorithm) (result : Result IntegrityAlgorithm ValidateError) → last_algorithm (visible bytes) ≡ Some algorithm → key ≡ key_of credentials algorithm
     → ((text : List ℕ) → IsSigned bytes key.bytes key.algorithm text → result ≡ Ok key.algorithm)
     → (a : IntegrityAlgorithm) (text : List ℕ) → Validates bytes (key_of credentials a).bytes a text → result ≡ Ok a
 accepted_by bytes credentials key algorithm result last is accepts a text v =
@@ -351,10 +351,10 @@ accepted_by bytes credentials key algorithm result last is accepts a text v =
     let two = subst (λ (b : IntegrityAlgorithm). IsSigned bytes key.bytes b text) (sym own) one in
     accepts text two ∙ ap (λ (b : IntegrityAlgorithm). Ok b) own
 
-pub none_validates : (bytes key : List ℕ) (algorithm : IntegrityAlgorithm) (text : List ℕ) → last_algorithm (shown bytes) ≡ None → Validates bytes key algorithm text → ⊥
+pub none_validates : (bytes key : List ℕ) (algorithm : IntegrityAlgorithm) (text : List ℕ) → last_algorithm (visible bytes) ≡ None → Validates bytes key algorithm text → ⊥
 none_validates bytes key algorithm text none v = let p = sym none ∙ validates_last bytes key algorithm text v in absurd cc
 
--- Refusals, to be opened: to unfold this one is to unfold both that its line names.
+-- A group of errors for proofs: unfolding it unfolds both definitions named on its `unfolding` line.
 unfoldable pub refusals : Type 0
 unfolding refusal length_refusal
 refusals = Unit {0}

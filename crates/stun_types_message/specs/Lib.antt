@@ -1,6 +1,6 @@
 pub mod UnsignedCalls
 pub mod Same
-pub mod Fronts
+pub mod Heads
 pub mod MarkedTypes
 pub mod Objections
 pub mod Parsed

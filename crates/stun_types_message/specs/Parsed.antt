@@ -1,7 +1,7 @@
--- What is always true of a message: its bytes are one, and its header is theirs.
+-- The invariant of a parsed message: its bytes are a message, and the stored header is their header.
 use Rattle.std.specs.Prelude.{◌≡◌, ℕ, List}
 use Rattle.stun_types_wire.specs.Grammar.{Header, IsMessage, header_at}
 
-pub record IsParsed (bytes : List ℕ) (told : Header) : Type 0 where
+pub record IsParsed (bytes : List ℕ) (decoded : Header) : Type 0 where
   pub message : IsMessage bytes
-  pub header : told ≡ header_at bytes
+  pub header : decoded ≡ header_at bytes

@@ -1,16 +1,16 @@
--- Two messages that show the same.
+-- Messages with the same visible attributes.
 use Rattle.std.specs.Prelude.{◌≡◌, ℕ, not, ◌==◌, List}
 use Rattle.std.specs.List.{filter}
 use Rattle.stun_types_wire.specs.Attributes.{Attr, kind_at}
 use Rattle.stun_types_wire.specs.Registry.{fingerprint_kind}
-use Rattle.stun_types_wire.specs.Grammar.{shown, number_at}
+use Rattle.stun_types_wire.specs.Grammar.{visible, number_at}
 
--- attributes without a FINGERPRINT
+-- The attributes without FINGERPRINT.
 abbrev pub without_fingerprint : List Attr → List Attr
 without_fingerprint all = filter (λ a. not (a.kind == fingerprint_kind)) all
 
--- two messages of one type and number, which show the same but for a FINGERPRINT
+-- Two messages have the same type, transaction ID and visible attributes, except for a FINGERPRINT.
 pub record ShowSame (first second : List ℕ) : Type 0 where
   pub kind : kind_at first ≡ kind_at second
   pub number : number_at first ≡ number_at second
-  pub shows : without_fingerprint (shown first) ≡ without_fingerprint (shown second)
+  pub shows : without_fingerprint (visible first) ≡ without_fingerprint (visible second)

@@ -1,4 +1,4 @@
--- An attribute that is shown, read as a value of its own type.
+-- Visible attributes read as values of their own types.
 use Rattle.std.specs.Prelude.{◌≡◌, ℕ, ◌==◌, List, slice_get, Option, Some, None, IsSomeAnd}
 use Rattle.std.specs.List.{filter}
 use Rattle.stun_types_wire.specs.declared.attribute.AttributeType.{AttributeType}
@@ -6,18 +6,18 @@ use Rattle.stun_types_wire.specs.declared.error.StunParseError.{StunParseError}
 use Rattle.stun_types_wire.specs.declared.error.StunParseError.TheVariants.{MissingAttribute}
 use Rattle.stun_types_wire.specs.Attributes.{Attr}
 
--- the attribute of a type that comes after so many others of that type
+-- The attribute of a type that follows `n` others of that type.
 abbrev pub nth_of_kind : ℕ → ℕ → List Attr → Option Attr
 nth_of_kind kind n all = slice_get (filter (λ a. a.kind == kind) all) n
 
--- a value is what is read of an attribute that is there and not refused: it has its type, and its
--- value as that is written again
+-- The value `read` was read from an attribute that is present and accepted. It has the attribute's type, and
+-- its encoding is `read_value` of the attribute's value.
 abbrev pub IsReadOf : {A : Type 0} → (A → ℕ) → (A → List ℕ) → (Attr → Option StunParseError) → (List ℕ → List ℕ)
     → Option Attr → A → Type 0
 IsReadOf kind value read_refusal read_value there read = IsSomeAnd there
     (λ a. (read_refusal a ≡ None) × (kind read ≡ a.kind) × (value read ≡ read_value a.value))
 
--- why an attribute is not read: it is not there, or is refused
+-- The error, if any, of reading an attribute: it is missing, or its type rejects the value.
 abbrev pub read_of_refusal : AttributeType → (Attr → Option StunParseError) → Option Attr → Option StunParseError
-read_of_refusal asked read_refusal None = Some (MissingAttribute asked)
-read_of_refusal asked read_refusal (Some a) = read_refusal a
+read_of_refusal requested read_refusal None = Some (MissingAttribute requested)
+read_of_refusal requested read_refusal (Some a) = read_refusal a

@@ -2,7 +2,7 @@
 use Rattle.std.specs.Prelude.{⊤}
 use Rattle.stun_types_add.specs.Calls.{Add, Ordinary, Integrity, Fingerprint}
 
--- a call that adds no integrity attribute
+-- The call adds no integrity attribute.
 abbrev pub IsNoIntegrity : Add → Type 0
 IsNoIntegrity (Ordinary a) = ⊤
 IsNoIntegrity (Integrity algorithm key) = ⊥

@@ -1,11 +1,11 @@
-//! Messages that are begun, in any writer.
+//! Writes the header of a new message into any writer.
 
 ghost use Rattle.std.specs.Prelude.{◌≡◌, ◌<◌, ◌^◌, IfOk, IsOk, IsSome};
 ghost use Rattle.stun_types_wire.specs.Attributes.{kind_at};
 ghost use Rattle.stun_types_wire.specs.Types.{class_of, method_of, type_of};
 ghost use Rattle.stun_types_wire.specs.Grammar.{number_at};
-ghost use Rattle.stun_types_write.specs.Outcomes.{CanBegin, IsBegunAs};
-ghost use Rattle.stun_types_wire.specs.Generated.{drawn_number, number_words};
+ghost use Rattle.stun_types_write.specs.Outcomes.{CanBegin, IsStartedAs};
+ghost use Rattle.stun_types_wire.specs.Generated.{generated_id, number_words};
 ghost use Rattle.stun_types_base.specs.GeneratorWords.{stream_after};
 ghost use Rattle.stun_types_wire.specs.declared.class.MessageClass.TheVariants.{Request, Indication, Success, Error};
 
@@ -18,10 +18,14 @@ use stun_types_wire::transaction::TransactionId;
 use stun_types_write::writer::MessageWrite;
 
 impl<'a> Message<'a> {
-    /// Begins a message of this type and number in an empty writer with room for a header, and gives
-    /// the writer back. Where memory is refused, `NoMemory`, and the writer is dropped; a writer with a
-    /// greatest size takes none.
-    // Part of each function that calls it, so that the writer is moved no oftener than needed.
+    /// Starts a message with this type and transaction ID in an empty writer that has room for a
+    /// header, and returns the writer.
+    ///
+    /// # Errors
+    ///
+    /// - `NoMemory`: an allocation failed. The writer is dropped. A writer with a maximum size
+    ///   allocates nothing and never fails.
+    // Inlined into each caller, so that the writer is moved no more often than needed.
     #[inline(always)]
     pub fn builder<W: MessageWrite + Drop>(
         mtype: MessageType,
@@ -29,8 +33,8 @@ impl<'a> Message<'a> {
         writer: W,
     ) -> Result<W, NoMemory>
         requires empty { CanBegin (W.draft writer) }
-        ensures begun { IfOk result (λ begun. IsBegunAs mtype transaction_id
-            (W.draft writer) (W.draft begun)) }
+        ensures started { IfOk result (λ started. IsStartedAs mtype transaction_id
+            (W.draft writer) (W.draft started)) }
         ensures lent { IsSome (W.draft writer).limit → IsOk result }
     {
         let mut writer = writer;
@@ -39,9 +43,11 @@ impl<'a> Message<'a> {
         Ok(writer)
     }
 
-    /// Begins a request of a method of twelve bits, with a number of three words that are drawn from a
-    /// generator, the first of them highest. They are drawn in any case. Otherwise the same as
-    /// `builder`.
+    /// Starts a request with a 12-bit method and a generated transaction ID, and otherwise does
+    /// what `builder` does.
+    ///
+    /// The ID is three words of the generator, the first in the highest bits. They are generated
+    /// even if the call fails.
     pub fn builder_request<W: MessageWrite + Drop, R: Rng>(
         method: Method,
         rng: &mut R,
@@ -49,16 +55,16 @@ impl<'a> Message<'a> {
     ) -> Result<W, NoMemory>
         requires short { method.0 < 2 ^ 12 }
         requires empty { CanBegin (W.draft writer) }
-        ensures begun { IfOk result (λ begun. IsBegunAs (type_of Request method.0)
-            (drawn_number (R.stream rng.old))
-            (W.draft writer) (W.draft begun)) }
+        ensures started { IfOk result (λ started. IsStartedAs (type_of Request method.0)
+            (generated_id (R.stream rng.old))
+            (W.draft writer) (W.draft started)) }
         ensures lent { IsSome (W.draft writer).limit → IsOk result }
         ensures stream { R.stream rng.new ≡ stream_after number_words (R.stream rng.old) }
     {
         begin_generated(MessageClass::Request, method, rng, writer)
     }
 
-    /// Begins an indication of a method. Otherwise the same as `builder_request`.
+    /// Starts an indication of a method, and otherwise does what `builder_request` does.
     pub fn builder_indication<W: MessageWrite + Drop, R: Rng>(
         method: Method,
         rng: &mut R,
@@ -66,49 +72,49 @@ impl<'a> Message<'a> {
     ) -> Result<W, NoMemory>
         requires short { method.0 < 2 ^ 12 }
         requires empty { CanBegin (W.draft writer) }
-        ensures begun { IfOk result (λ begun. IsBegunAs (type_of Indication method.0)
-            (drawn_number (R.stream rng.old))
-            (W.draft writer) (W.draft begun)) }
+        ensures started { IfOk result (λ started. IsStartedAs (type_of Indication method.0)
+            (generated_id (R.stream rng.old))
+            (W.draft writer) (W.draft started)) }
         ensures lent { IsSome (W.draft writer).limit → IsOk result }
         ensures stream { R.stream rng.new ≡ stream_after number_words (R.stream rng.old) }
     {
         begin_generated(MessageClass::Indication, method, rng, writer)
     }
 
-    /// Begins the success response to a request, with its method and number. Otherwise the same as
-    /// `builder`.
+    /// Starts the success response to a request, with the request's method and transaction ID.
+    /// Otherwise it does what `builder` does.
     pub fn builder_success<W: MessageWrite + Drop>(
         request: &Message,
         writer: W,
     ) -> Result<W, NoMemory>
         requires request { class_of (kind_at request.now) ≡ Request }
         requires empty { CanBegin (W.draft writer) }
-        ensures begun { IfOk result (λ begun. IsBegunAs
+        ensures started { IfOk result (λ started. IsStartedAs
             (type_of Success (method_of (kind_at request.now))) (number_at request.now)
-            (W.draft writer) (W.draft begun)) }
+            (W.draft writer) (W.draft started)) }
         ensures lent { IsSome (W.draft writer).limit → IsOk result }
     {
         begin_response(MessageClass::Success, request, writer)
     }
 
-    /// Begins the error response to a request, with its method and number. Otherwise the same as
-    /// `builder`.
+    /// Starts the error response to a request, with the request's method and transaction ID.
+    /// Otherwise it does what `builder` does.
     pub fn builder_error<W: MessageWrite + Drop>(
         request: &Message,
         writer: W,
     ) -> Result<W, NoMemory>
         requires request { class_of (kind_at request.now) ≡ Request }
         requires empty { CanBegin (W.draft writer) }
-        ensures begun { IfOk result (λ begun. IsBegunAs
+        ensures started { IfOk result (λ started. IsStartedAs
             (type_of Error (method_of (kind_at request.now))) (number_at request.now)
-            (W.draft writer) (W.draft begun)) }
+            (W.draft writer) (W.draft started)) }
         ensures lent { IsSome (W.draft writer).limit → IsOk result }
     {
         begin_response(MessageClass::Error, request, writer)
     }
 }
 
-/// Begins a message of a class and a method, with a number that is drawn before memory is asked for.
+/// Starts a message of a class and a method. Its transaction ID is generated before any allocation.
 fn begin_generated<W: MessageWrite + Drop, R: Rng>(
     class: MessageClass,
     method: Method,
@@ -117,9 +123,9 @@ fn begin_generated<W: MessageWrite + Drop, R: Rng>(
 ) -> Result<W, NoMemory>
     requires short { method.0 < 2 ^ 12 }
     requires empty { CanBegin (W.draft writer) }
-    ensures begun { IfOk result (λ begun. IsBegunAs (type_of class method.0)
-        (drawn_number (R.stream rng.old))
-        (W.draft writer) (W.draft begun)) }
+    ensures started { IfOk result (λ started. IsStartedAs (type_of class method.0)
+        (generated_id (R.stream rng.old))
+        (W.draft writer) (W.draft started)) }
     ensures lent { IsSome (W.draft writer).limit → IsOk result }
     ensures stream { R.stream rng.new ≡ stream_after number_words (R.stream rng.old) }
 {
@@ -128,16 +134,16 @@ fn begin_generated<W: MessageWrite + Drop, R: Rng>(
     Message::builder(mtype, transaction_id, writer)
 }
 
-/// Begins a message of a class, with the method and the number of a request.
+/// Starts a message of a class, with the method and the transaction ID of a request.
 fn begin_response<W: MessageWrite + Drop>(
     class: MessageClass,
     request: &Message,
     writer: W,
 ) -> Result<W, NoMemory>
     requires empty { CanBegin (W.draft writer) }
-    ensures begun { IfOk result (λ begun. IsBegunAs
+    ensures started { IfOk result (λ started. IsStartedAs
         (type_of class (method_of (kind_at request.now))) (number_at request.now)
-        (W.draft writer) (W.draft begun)) }
+        (W.draft writer) (W.draft started)) }
     ensures lent { IsSome (W.draft writer).limit → IsOk result }
 {
     let mtype = MessageType::from_class_method(class, request.method());

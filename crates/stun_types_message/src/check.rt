@@ -1,4 +1,4 @@
-//! Requests checked for the attributes that they show (RFC 8489, section 6.3.1).
+//! Checks the attributes of a request (RFC 8489, section 6.3.1).
 
 ghost use Rattle.std.specs.Prelude.{◌≡◌, ◌==◌, ◌+◌, ◌<◌, ◌≤◌, ◌^◌, ◌++◌, ◌∷◌, false, ℕ, List, [], map, not, is_some, find, length, IfOk};
 ghost use Rattle.std.specs.List.{list_any};
@@ -7,14 +7,14 @@ ghost use Rattle.stun_types_base.specs.Refusals.{RefusesFor};
 ghost use Rattle.stun_types_wire.specs.Attributes.{Attr, kind_at};
 ghost use Rattle.stun_types_wire.specs.Shape.{kinds_of};
 ghost use Rattle.stun_types_wire.specs.Types.{class_of};
-ghost use Rattle.stun_types_wire.specs.Grammar.{number_at, shown};
+ghost use Rattle.stun_types_wire.specs.Grammar.{number_at, visible};
 ghost use Rattle.stun_types_wire.specs.declared.class.MessageClass.TheVariants.{Request};
 ghost use Rattle.stun_types_write.specs.Outcomes.{CanBegin};
 ghost use Rattle.stun_types_message.specs.Objections.{IsObjected, IsUnknownList, error_type, is_unknown, objection, objection_refusal, unknown_kinds, with_unknown};
 ghost use Rattle.stun_types_message.specs.MarkedTypes.{IsListing};
 ghost use Rattle.stun_types_wire.specs.Registry.{first_optional_kind};
 
-use crate::front::Front;
+use crate::attribute_head::AttributeHead;
 use crate::parsed::Message;
 use crate::refuse::room_for_types;
 use std::alloc::Global;
@@ -25,13 +25,21 @@ use stun_types_write::among::has_type;
 use stun_types_write::writer::MessageWrite;
 
 impl<'a> Message<'a> {
-    /// Checks the attributes that a request shows. Where types that have to be understood (those below
-    /// 0x8000) are shown and not supported, writes the error response of `unknown_attributes` that
-    /// lists each of them once, in the order in which they are first shown; else, where a required
-    /// type is not shown, the error response of `bad_request`. The writer is empty and has room for a
-    /// header; it is given back with the response, and dropped where nothing is wrong (None). Refused
-    /// as `unknown_attributes` and `bad_request` are, want of memory last, for the list too. A refusal drops
-    /// the writer.
+    /// Checks the visible attributes of a request, and writes an error response if they are at
+    /// fault. The writer has to be empty and have room for a header.
+    ///
+    /// 1. If comprehension-required types (those below 0x8000) are visible and not in `supported`,
+    ///    writes the response of `unknown_attributes`. It lists each of these types once, in the
+    ///    order in which they first appear.
+    /// 2. Otherwise, if a type in `required` is not visible, writes the response of `bad_request`.
+    /// 3. Otherwise drops the writer and returns `None`.
+    ///
+    /// # Errors
+    ///
+    /// Any failure drops the writer.
+    ///
+    /// 1. The errors of `unknown_attributes` or `bad_request`, except `NoMemory`.
+    /// 2. `NoMemory`: an allocation failed, which includes that for the list of unknown types.
     pub fn check_attribute_types<W: MessageWrite + Drop>(
         alloc: Global,
         msg: &Message,
@@ -41,13 +49,14 @@ impl<'a> Message<'a> {
     ) -> Result<Option<W>, StunWriteError>
         requires request { class_of (kind_at msg.now) ≡ Request }
         requires empty { CanBegin (W.draft writer) }
-        // None where nothing is wrong, and otherwise a response that shows what is.
+        // `None` if nothing is wrong, and otherwise the response that reports the fault.
         ensures ok { IfOk result (λ answered. IsObjected
-            (objection (shown msg.now) (map (λ t. t.0) supported.now) (map (λ t. t.0) required.now))
+            (objection (visible msg.now) (map (λ t. t.0) supported.now) (map (λ t. t.0)
+            required.now))
             (error_type msg.now) (number_at msg.now) (W.draft writer)
             (option_map (λ w. W.draft w) answered)) }
         ensures cause { RefusesFor StunWriteError.NoMemory
-            (objection_refusal (W.draft writer).limit (shown msg.now)
+            (objection_refusal (W.draft writer).limit (visible msg.now)
             (map (λ t. t.0) supported.now) (map (λ t. t.0) required.now)) result }
     {
         if shows_unknown(msg, supported) {
@@ -67,17 +76,18 @@ impl<'a> Message<'a> {
     }
 }
 
-/// The law of what is listed: the types of attributes that have to be understood and are not supported,
-/// none of them twice, these and no others, in the order in which they are first shown.
+/// Theorem: the list of unknown types consists of exactly the visible types that are
+/// comprehension-required and not supported, without duplicates, in the order in which they first
+/// appear.
 pub fn unknown_types_are_listed()
     ensures { (all : List Attr) (supported : List ℕ)
         → IsUnknownList (kinds_of all) supported (unknown_kinds all supported) }
 {}
 
-/// How many types have to be understood: those below the first that need not.
+/// The number of comprehension-required types: those below the first optional type.
 const REQUIRED_TYPES: usize = registry::FIRST_OPTIONAL_TYPE as usize;
 
-/// The unknown types of a message, each once. Where memory is refused they are counted on.
+/// The unknown types of a message, each once. After a failed allocation they are still counted.
 #[derive(Drop)]
 struct Unknown {
     count: usize,
@@ -85,11 +95,11 @@ struct Unknown {
     lacks_memory: bool,
 }
 
-/// Whether a message shows a type that has to be understood and is not supported.
+/// Returns whether a message has a visible type that is comprehension-required and not supported.
 #[tactic(auto, using(stun_types_wire::proofs::Left::map_numbered))]
 fn shows_unknown(msg: &Message, supported: &[AttributeType]) -> bool
     ensures { result ≡ list_any (λ a. is_unknown (map (λ t. t.0) supported.now) a.kind)
-        (shown msg.now) }
+        (visible msg.now) }
 {
     for (_, attribute) in msg.iter_attributes() {
         if is_unknown_type(attribute.get_type(), supported) {
@@ -99,14 +109,14 @@ fn shows_unknown(msg: &Message, supported: &[AttributeType]) -> bool
     false
 }
 
-/// The types that a message shows, that have to be understood and are not supported, each once, in the
-/// order in which they are first shown. It goes over the message once.
+/// Returns the visible types of a message that are comprehension-required and not supported, each
+/// once, in the order in which they first appear. It scans the message once.
 fn unknown_types(alloc: Global, msg: &Message, supported: &[AttributeType]) -> Unknown
     ensures count { result.count
-        ≡ length (unknown_kinds (shown msg.now) (map (λ t. t.0) supported.now)) }
+        ≡ length (unknown_kinds (visible msg.now) (map (λ t. t.0) supported.now)) }
     ensures few { result.count < 2 ^ 62 }
     ensures types { result.lacks_memory ≡ false → map (λ t. t.0) result.types.items
-        ≡ unknown_kinds (shown msg.now) (map (λ t. t.0) supported.now) }
+        ≡ unknown_kinds (visible msg.now) (map (λ t. t.0) supported.now) }
 {
     let mut listed = [false; REQUIRED_TYPES];
     let mut unknown = Unknown {
@@ -114,17 +124,17 @@ fn unknown_types(alloc: Global, msg: &Message, supported: &[AttributeType]) -> U
         types: Vec::new(alloc),
         lacks_memory: false,
     };
-    let mut left = msg.shown_text();
+    let mut left = msg.visible_text();
     while !left.is_empty() {
-        let front = Front::at(left);
-        list_unknown(&mut listed, &mut unknown, front.atype, supported);
-        let (_, behind) = left.split_at(front.size);
-        left = behind;
+        let attribute_head = AttributeHead::at(left);
+        list_unknown(&mut listed, &mut unknown, attribute_head.atype, supported);
+        let (_, following) = left.split_at(attribute_head.size);
+        left = following;
     }
     unknown
 }
 
-/// Lists a type, if it has to be understood, is not supported and is not listed.
+/// Lists a type if it is comprehension-required, not supported and not yet listed.
 fn list_unknown(
     listed: &mut [bool],
     unknown: &mut Unknown,
@@ -142,15 +152,15 @@ fn list_unknown(
     if !is_unknown_type(atype, supported) {
         return;
     }
-    let place = usize::from(atype.0);
-    if !listed[place] {
-        listed[place] = true;
+    let index = usize::from(atype.0);
+    if !listed[index] {
+        listed[index] = true;
         unknown.add(atype);
     }
 }
 
 impl Unknown {
-    /// Adds a type at the end. Where memory is refused it is counted.
+    /// Appends a type. If an allocation fails, it is only counted and `lacks_memory` is set.
     fn add(&mut self, atype: AttributeType)
         requires { self.old.count < 2 ^ 63 }
         ensures count { self.new.count ≡ self.old.count + 1 }
@@ -165,7 +175,7 @@ impl Unknown {
     }
 }
 
-/// Whether a type has to be understood and is not supported.
+/// Returns whether a type is comprehension-required and not supported.
 #[tactic(auto, using(stun_types_write::proofs::Types::any_numbers))]
 fn is_unknown_type(atype: AttributeType, supported: &[AttributeType]) -> bool
     ensures { result ≡ is_unknown (map (λ t. t.0) supported.now) atype.0 }
@@ -173,10 +183,10 @@ fn is_unknown_type(atype: AttributeType, supported: &[AttributeType]) -> bool
     atype.comprehension_required() && !has_type(supported, atype)
 }
 
-/// Whether a required type is not shown.
+/// Returns whether a required type is not visible.
 fn lacks_type(msg: &Message, required: &[AttributeType]) -> bool
     ensures { result ≡ list_any (λ t. not (is_some
-        (find (λ a. a.kind == t.0) (shown msg.now)))) required.now }
+        (find (λ a. a.kind == t.0) (visible msg.now)))) required.now }
 {
     required.iter().any(|t| !msg.has_attribute(*t))
 }

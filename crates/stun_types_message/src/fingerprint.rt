@@ -1,42 +1,42 @@
-//! Whether a FINGERPRINT is that of the message before it (RFC 8489, section 14.7).
+//! Compares a FINGERPRINT with the message before it (RFC 8489, section 14.7).
 
 ghost use Rattle.std.specs.Prelude.{◌≡◌, ◌+◌, ◌-◌, ◌≤◌, bytes_eq, drop, length};
 ghost use Rattle.stun_types_wire.specs.Attributes.{attr_at, length_at, size_at};
 ghost use Rattle.stun_types_wire.specs.Covered.{covered_text};
 ghost use Rattle.stun_types_wire.specs.Fingerprints.{fingerprint_value, is_wrong_fingerprint};
-ghost use Rattle.stun_types_message.specs.Fronts.{TellsFront};
+ghost use Rattle.stun_types_message.specs.Heads.{DecodesHead};
 ghost use Rattle.stun_types_wire.specs.Registry.{greatest_size, header_size};
 
-use crate::front::Front;
+use crate::attribute_head::AttributeHead;
 use stun_types_add::attribute::Fingerprint;
 use stun_types_wire::header::MessageHeader;
 use stun_types_wire::registry::FINGERPRINT_SIZE;
 use stun_types_write::attribute::AttributeStaticType;
 
-/// Whether the attribute at the front of the rest of a message is a FINGERPRINT, and not that of the
+/// Returns whether the attribute at the start of `rest` is a FINGERPRINT that does not match the
 /// message before it.
 #[tactic(auto)]
-pub(crate) fn is_wrong(bytes: &[u8], rest: &[u8], front: Front) -> bool
-    requires front { TellsFront rest.now front }
+pub(crate) fn is_wrong(bytes: &[u8], rest: &[u8], attribute_head: AttributeHead) -> bool
+    requires attribute_head { DecodesHead rest.now attribute_head }
     requires whole { size_at rest.now ≤ length rest.now }
     requires within { header_size + length rest.now ≤ length bytes.now }
     requires short { length bytes.now ≤ greatest_size }
-    requires stands { drop (length bytes.now - length rest.now) bytes.now ≡ rest.now }
+    requires occurs { drop (length bytes.now - length rest.now) bytes.now ≡ rest.now }
     ensures { result ≡ is_wrong_fingerprint bytes.now
         (length bytes.now - length rest.now, attr_at rest.now) }
 {
-    front.atype == Fingerprint::TYPE && !has_value(bytes, rest, front.length)
+    attribute_head.atype == Fingerprint::TYPE && !has_value(bytes, rest, attribute_head.length)
 }
 
-/// Whether the attribute at the front of the rest of a message has the value of the FINGERPRINT of
-/// the message before it.
+/// Returns whether the attribute at the start of `rest` has the value of the FINGERPRINT of the
+/// message before it.
 #[tactic(auto, using(crate::proofs::Fingerprints::other_length))]
 fn has_value(bytes: &[u8], rest: &[u8], len: usize) -> bool
     requires len { len ≡ length_at rest.now }
     requires whole { size_at rest.now ≤ length rest.now }
     requires within { header_size + length rest.now ≤ length bytes.now }
     requires short { length bytes.now ≤ greatest_size }
-    requires stands { drop (length bytes.now - length rest.now) bytes.now ≡ rest.now }
+    requires occurs { drop (length bytes.now - length rest.now) bytes.now ≡ rest.now }
     ensures { result ≡ bytes_eq (attr_at rest.now).value
         (fingerprint_value (covered_text bytes.now (length bytes.now - length rest.now))) }
 {
@@ -44,9 +44,9 @@ fn has_value(bytes: &[u8], rest: &[u8], len: usize) -> bool
         return false;
     }
     let offset = bytes.len() - rest.len();
-    let (front, _) = bytes.split_at(offset);
-    let told = (offset + FINGERPRINT_SIZE - MessageHeader::LENGTH) as u16;
-    let own = Fingerprint::of_message(front, told);
+    let (attribute_head, _) = bytes.split_at(offset);
+    let decoded = (offset + FINGERPRINT_SIZE - MessageHeader::LENGTH) as u16;
+    let own = Fingerprint::of_message(attribute_head, decoded);
     let (attribute, _) = rest.split_at(FINGERPRINT_SIZE);
     let (_, value) = attribute.split_at(4);
     own.has_value(value)

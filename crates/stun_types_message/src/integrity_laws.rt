@@ -1,5 +1,5 @@
-//! Laws of integrity: what a covered text fixes, and that what is signed validates. The functions
-//! do nothing; each contract is a law.
+//! Theorems on message integrity: what a covered text determines, and that what is signed
+//! validates. The functions do nothing; each contract is a theorem.
 
 ghost use Rattle.std.specs.Prelude.{◌≡◌, ◌<◌, ◌^◌, ◌++◌, ◌∷◌, List, ℕ, None, length};
 ghost use Rattle.std.specs.List.{AllByRecursion};
@@ -17,8 +17,9 @@ ghost use Rattle.stun_types_add.specs.Calls.{Add, Integrity, IsLawful, IsWritten
 ghost use Rattle.stun_types_message.specs.UnsignedCalls.{IsNoIntegrity};
 ghost use Rattle.stun_types_message.specs.Same.{ShowSame};
 
-/// Two messages that validate under one key, by one algorithm, over one covered text, have one type
-/// and one number and show the same, a FINGERPRINT aside (RFC 8489, sections 14.5 and 14.6).
+/// If two messages validate under one key, by one algorithm and with the same covered text, they
+/// have the same type, the same transaction ID and the same visible attributes, except for a
+/// FINGERPRINT (RFC 8489, sections 14.5 and 14.6).
 pub fn covered_text_fixes_message()
     ensures { (first second key : List ℕ) (algorithm : Algorithm) (text : List ℕ)
         → AreBytes first
@@ -28,41 +29,46 @@ pub fn covered_text_fixes_message()
         → ShowSame first second }
 {}
 
-/// A message as a writer writes it, one of whose attributes signs what stands before it, is signed
-/// under that key. Where no integrity attribute stands behind that one, it validates under that key
+/// Take a well-formed message as a writer encodes it, in which FINGERPRINT is right if it is there
 /// (RFC 8489, sections 14.5 and 14.6).
+///
+/// - If one of its attributes is the signature, under a key, of what precedes it, the message is
+///   signed under that key.
+/// - If also no integrity attribute follows that one, the message validates under that key.
 pub fn signed_validates()
     ensures signed { (kind number : ℕ) (adds : List Attr) (key : List ℕ) (algorithm : Algorithm)
-        (behind all : List Attr)
-        → all ≡ adds ++ signature algorithm key (message_text kind number adds) ∷ behind
+        (following all : List Attr)
+        → all ≡ adds ++ signature algorithm key (message_text kind number adds) ∷ following
         → kind < 2 ^ 14
         → number < 2 ^ 96
         → AllByRecursion FitsAttribute adds
-        → AllByRecursion FitsAttribute behind
+        → AllByRecursion FitsAttribute following
         → IsShape (kinds_of all)
         → length (body_text all) < 2 ^ 16
         → HasOwnFingerprint kind number all
         → IsSigned (message_text kind number all) key algorithm
         (text_to_sign algorithm (message_text kind number adds)) }
     ensures validates { (kind number : ℕ) (adds : List Attr) (key : List ℕ) (algorithm : Algorithm)
-        (behind all : List Attr)
-        → all ≡ adds ++ signature algorithm key (message_text kind number adds) ∷ behind
+        (following all : List Attr)
+        → all ≡ adds ++ signature algorithm key (message_text kind number adds) ∷ following
         → kind < 2 ^ 14
         → number < 2 ^ 96
         → AllByRecursion FitsAttribute adds
-        → AllByRecursion FitsAttribute behind
+        → AllByRecursion FitsAttribute following
         → IsShape (kinds_of all)
         → length (body_text all) < 2 ^ 16
         → HasOwnFingerprint kind number all
-        → AllByRecursion (λ a. algorithm_of a.kind ≡ None) behind
+        → AllByRecursion (λ a. algorithm_of a.kind ≡ None) following
         → Validates (message_text kind number all) key algorithm
         (text_to_sign algorithm (message_text kind number adds)) }
 {}
 
-/// What a writer holds that was begun and took calls, each accepted (attributes, integrity attributes,
-/// FINGERPRINT): the text of the attributes that they added, in order. It is read as a message that
-/// shows just these, and validates under the key of the last integrity attribute (RFC 8489, sections
-/// 5 and 14).
+/// Take a writer in which a message was started and to which attributes, integrity attributes and a
+/// FINGERPRINT were added by accepted calls (RFC 8489, sections 5 and 14).
+///
+/// - Its bytes are the encoding of the attributes that the calls added, in order.
+/// - They parse as a message with exactly these attributes.
+/// - The message validates under the key of the last integrity attribute.
 pub fn calls_compose()
     ensures text { (mtype number : ℕ) (calls : List Add) (draft : Draft)
         → IsWritten mtype number calls draft
@@ -73,20 +79,20 @@ pub fn calls_compose()
         → AllByRecursion IsLawful calls
         → IsWritten mtype number calls draft
         → IsReadAs mtype number (attributes_of mtype number calls) draft.bytes }
-    ensures validates { (mtype number : ℕ) (earlier behind : List Add) (algorithm : Algorithm)
+    ensures validates { (mtype number : ℕ) (earlier following : List Add) (algorithm : Algorithm)
         (key : List ℕ) (draft : Draft)
         → mtype < 2 ^ 14
         → number < 2 ^ 96
-        → AllByRecursion IsLawful (earlier ++ Integrity algorithm key ∷ behind)
-        → IsWritten mtype number (earlier ++ Integrity algorithm key ∷ behind) draft
-        → AllByRecursion IsNoIntegrity behind
+        → AllByRecursion IsLawful (earlier ++ Integrity algorithm key ∷ following)
+        → IsWritten mtype number (earlier ++ Integrity algorithm key ∷ following) draft
+        → AllByRecursion IsNoIntegrity following
         → Validates draft.bytes key algorithm
         (text_to_sign algorithm (message_text mtype number
         (attributes_of mtype number earlier))) }
 {}
 
-/// Two writers, of whatever kinds, hold the same bytes where both were begun as a message of one type
-/// and number and took the same calls.
+/// If messages of one type and transaction ID were started in two writers of any kinds, and both
+/// took the same calls, the writers hold the same bytes.
 pub fn same_adds_same_bytes()
     ensures { (mtype number : ℕ) (calls : List Add) (one other : Draft)
         → IsWritten mtype number calls one

@@ -1,18 +1,18 @@
-//! The attributes that a message shows, one by one.
+//! Iterates over the visible attributes of a message.
 
 ghost use Rattle.std.specs.Prelude.{◌≡◌};
 ghost use Rattle.stun_types_wire.specs.Attributes.{numbered};
-ghost use Rattle.stun_types_wire.specs.Grammar.{shown};
+ghost use Rattle.stun_types_wire.specs.Grammar.{visible};
 ghost use Rattle.stun_types_wire.specs.Registry.{header_size};
 
-use crate::front::Front;
+use crate::attribute_head::AttributeHead;
 use crate::stage::Stage;
 use std::marker::Model;
 use stun_types_wire::attribute::RawAttribute;
 use stun_types_wire::header::MessageHeader;
 
-/// The attributes that a message shows, each with the offset at which its header stands. Once it
-/// has ended it stays ended.
+/// An iterator over the visible attributes of a message, each with the offset of its header. After
+/// the end it keeps returning `None`.
 #[derive(Debug, Drop)]
 pub struct MessageAttributesIter<'a> {
     bytes: &'a [u8],
@@ -23,21 +23,21 @@ pub struct MessageAttributesIter<'a> {
 impl<'a> Model for MessageAttributesIter<'a> {
     ghost use Rattle.std.specs.Prelude.{List, ℕ, drop};
     ghost use Rattle.stun_types_wire.specs.Attributes.{Attr, numbered};
-    ghost use Rattle.stun_types_wire.specs.Shape.{shown_after};
+    ghost use Rattle.stun_types_wire.specs.Shape.{visible_after};
 
     ghost Value = { List (ℕ × Attr) };
 
     ghost use Rattle.stun_types_message.specs.ShapeStages.{stage_rank};
 
-    ghost view = { λ it. numbered it.offset (shown_after (stage_rank it.stage)
+    ghost view = { λ it. numbered it.offset (visible_after (stage_rank it.stage)
         (drop it.offset it.bytes.now)) };
 }
 
 impl<'a> MessageAttributesIter<'a> {
-    /// The attributes that the bytes of a message show behind its header.
-    #[tactic(auto, unfolding(stun_types_wire::specs::Grammar::shown))]
+    /// Creates the iterator over the visible attributes after the header of a message.
+    #[tactic(auto, unfolding(stun_types_wire::specs::Grammar::visible))]
     pub fn new(bytes: &'a [u8]) -> MessageAttributesIter<'a>
-        ensures { result ≡ numbered header_size (shown bytes.now) }
+        ensures { result ≡ numbered header_size (visible bytes.now) }
     {
         MessageAttributesIter {
             bytes,
@@ -61,20 +61,20 @@ impl<'a> Iterator for MessageAttributesIter<'a> {
             return None;
         }
         let (_, rest) = self.bytes.split_at(self.offset);
-        let Some(front) = Front::of(rest) else {
+        let Some(attribute_head) = AttributeHead::of(rest) else {
             return None;
         };
-        let Some(stage) = self.stage.after(front.atype) else {
+        let Some(stage) = self.stage.after(attribute_head.atype) else {
             return None;
         };
-        if rest.len() < front.size {
+        if rest.len() < attribute_head.size {
             return None;
         }
         let offset = self.offset;
-        self.offset += front.size;
+        self.offset += attribute_head.size;
         self.stage = stage;
-        let (_, behind_header) = rest.split_at(4);
-        let (value, _) = behind_header.split_at(front.length);
-        Some((offset, RawAttribute::new(front.atype, value)))
+        let (_, after_header) = rest.split_at(4);
+        let (value, _) = after_header.split_at(attribute_head.length);
+        Some((offset, RawAttribute::new(attribute_head.atype, value)))
     }
 }

@@ -1,4 +1,4 @@
-//! Error responses to requests that are refused by their form (RFC 8489, section 6.3.1).
+//! Error responses to malformed requests (RFC 8489, section 6.3.1).
 
 ghost use Rattle.std.specs.Prelude.{◌≡◌, ◌≢◌, ◌∷◌, ◌+◌, ◌<◌, ◌^◌, [], length, map, IfOk, IfErr, MatchResult, None, Some};
 ghost use Rattle.stun_types_wire.specs.Attributes.{attr_size, kind_at};
@@ -22,20 +22,25 @@ use stun_types_wire::attribute::{AttributeType, pad_attribute_len};
 use stun_types_wire::error::StunWriteError;
 use stun_types_write::writer::MessageWrite;
 
-/// How many bytes the header of a message and that of an attribute have.
+/// The length in bytes of a message header and an attribute header.
 const MIN_ERROR_LENGTH: usize = 24;
 
-/// How many bytes a response has that shows ERROR-CODE 420 (Unknown Attribute) alone.
+/// The length in bytes of a response whose only attribute is ERROR-CODE 420 (Unknown Attribute).
 const UNKNOWN_LENGTH: usize = 48;
 
-/// The same, and the header of UNKNOWN-ATTRIBUTES.
+/// `UNKNOWN_LENGTH` and the length of the header of UNKNOWN-ATTRIBUTES.
 const MIN_TYPES_LENGTH: usize = 52;
 
 impl<'a> Message<'a> {
-    /// Writes the error response to a request that shows ERROR-CODE 400 (Bad Request) alone, in an
-    /// empty writer with room for a header, and gives the writer back. Refused with `TooSmall` where
-    /// the writer has not the room for its 40 bytes; where memory is refused, with `NoMemory`. A
-    /// refusal drops the writer.
+    /// Writes the error response to a request whose only attribute is ERROR-CODE 400 (Bad Request),
+    /// and returns the writer. The writer has to be empty and have room for a header.
+    ///
+    /// # Errors
+    ///
+    /// Any failure drops the writer.
+    ///
+    /// 1. `TooSmall`: the writer's maximum size is below the response's 40 bytes.
+    /// 2. `NoMemory`: an allocation failed.
     #[tactic(auto, unfolding(stun_types_attributes::specs::ErrorCodes::error_refusal))]
     pub fn bad_request<W: MessageWrite + Drop>(
         alloc: Global,
@@ -54,13 +59,20 @@ impl<'a> Message<'a> {
         write_error(alloc, ErrorCode::BAD_REQUEST, request, writer)
     }
 
-    /// Writes the error response to a request that shows ERROR-CODE 420 (Unknown Attribute) and
-    /// UNKNOWN-ATTRIBUTES of these types, in their order and as often as they stand there, in an empty
-    /// writer with room for a header, and gives the writer back. Refused, in this order: `TooLarge`
-    /// where there are more than 32,767 types, `TooSmall` where the writer has not the room for header
-    /// and ERROR-CODE, which take 48 bytes, `TooLarge` where the length field would pass 65,535,
-    /// `TooSmall` where the writer has not the room for UNKNOWN-ATTRIBUTES; where memory is refused,
-    /// `NoMemory`. A refusal drops the writer.
+    /// Writes the error response to a request with ERROR-CODE 420 (Unknown Attribute) and
+    /// UNKNOWN-ATTRIBUTES, and returns the writer. The types are listed as given, in order and with
+    /// duplicates. The writer has to be empty and have room for a header.
+    ///
+    /// # Errors
+    ///
+    /// Any failure drops the writer.
+    ///
+    /// 1. `TooLarge`: there are more than 32,767 types.
+    /// 2. `TooSmall`: the writer's maximum size is below 48 bytes, the size of the header and
+    ///    ERROR-CODE.
+    /// 3. `TooLarge`: the length field would exceed 65,535.
+    /// 4. `TooSmall`: UNKNOWN-ATTRIBUTES would exceed the writer's maximum size.
+    /// 5. `NoMemory`: an allocation failed.
     #[tactic(auto, using(crate::proofs::Refusing::room), unfolding(crate::proofs::Refusing::added))]
     pub fn unknown_attributes<W: MessageWrite + Drop>(
         alloc: Global,
@@ -85,7 +97,7 @@ impl<'a> Message<'a> {
     }
 }
 
-/// Looks at all that refuses the error response that lists so many types, but memory.
+/// Fails as `unknown_attributes` with `count` types would, except for `NoMemory`.
 #[tactic(auto, using(crate::proofs::Refusing::too_many, crate::proofs::Refusing::types_answer))]
 pub(crate) fn room_for_types<W: MessageWrite>(
     writer: &W,
@@ -110,8 +122,8 @@ pub(crate) fn room_for_types<W: MessageWrite>(
     Ok(())
 }
 
-/// Writes the error response to a request that shows ERROR-CODE of a code, with the reason that goes
-/// with it, and nothing else.
+/// Writes the error response to a request whose only attribute is ERROR-CODE, with a code and its
+/// default reason.
 #[tactic(auto, using(crate::proofs::Refusing::room), unfolding(crate::proofs::Refusing::added))]
 fn write_error<W: MessageWrite + Drop>(
     alloc: Global,

@@ -1,4 +1,4 @@
-//! How far the shape of a message has come.
+//! How far the visible attributes of a message have come in their prescribed order.
 
 ghost use Rattle.std.specs.Prelude.{◌≡◌};
 ghost use Rattle.stun_types_wire.specs.Shape.{rank};
@@ -9,11 +9,11 @@ use stun_types_wire::registry::{
     FINGERPRINT, MESSAGE_INTEGRITY, MESSAGE_INTEGRITY_SHA256, MESSAGE_INTEGRITY_SHA512,
 };
 
-/// What the last attribute was, of those that are shown so far. A message shows ordinary
-/// attributes, and then each of the other four at most once, in this order.
+/// The kind of the last visible attribute so far. The visible attributes are ordinary ones, and
+/// then each of the other four kinds at most once, in this order.
 #[derive(Clone, Copy, Debug, PartialEq, Eq, PartialOrd, Ord)]
 pub(crate) enum Stage {
-    /// An ordinary attribute, or none.
+    /// An ordinary attribute, or no attribute yet.
     Ordinary,
     /// MESSAGE-INTEGRITY.
     Integrity,
@@ -26,7 +26,7 @@ pub(crate) enum Stage {
 }
 
 impl Stage {
-    /// The stage that an attribute of this type stands for.
+    /// Returns the stage of an attribute type.
     fn of(atype: AttributeType) -> Stage
         ensures { stage_rank result ≡ rank atype.0 }
     {
@@ -39,7 +39,7 @@ impl Stage {
         }
     }
 
-    /// The stage after an attribute of this type, where it may follow.
+    /// Returns the stage after an attribute of this type, or `None` if it may not follow.
     pub(crate) fn after(self, atype: AttributeType) -> Option<Stage>
         ensures { LeadsTo self atype.0 result }
     {

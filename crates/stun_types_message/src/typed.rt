@@ -1,8 +1,8 @@
-//! The attributes that a message shows, as values of their own types.
+//! Reads the visible attributes of a message as values of their own types.
 
 ghost use Rattle.std.specs.Prelude.{◌≡◌, ◌==◌, IfErr, IfOk, IsTrue, find};
 ghost use Rattle.stun_types_base.specs.Refusals.{RefusesFor};
-ghost use Rattle.stun_types_wire.specs.Grammar.{shown};
+ghost use Rattle.stun_types_wire.specs.Grammar.{visible};
 ghost use Rattle.stun_types_message.specs.TypedReading.{IsReadOf, nth_of_kind, read_of_refusal};
 
 use crate::parsed::Message;
@@ -12,17 +12,21 @@ use stun_types_wire::error::StunParseError;
 use stun_types_write::attribute::{AttributeFromRaw, AttributeStaticType};
 
 impl<'a> Message<'a> {
-    /// The first attribute of its type that the message shows. Refused with `MissingAttribute` of that
-    /// type where none is shown, else as `A::from_raw` refuses what is shown. Memory is wanted only
-    /// where `A::from_raw` takes some.
+    /// Returns the first visible attribute of type `A`. It allocates memory only if `A::from_raw`
+    /// does.
+    ///
+    /// # Errors
+    ///
+    /// 1. `MissingAttribute` of that type: no such attribute is visible.
+    /// 2. The errors of `A::from_raw`.
     pub fn attribute<A: AttributeFromRaw<'a> + AttributeStaticType>(
         &self,
         alloc: Global,
     ) -> Result<A, StunParseError>
         ensures ok { IfOk result (IsReadOf A.kind A.value A.read_refusal A.read_value
-            (find (λ a. a.kind == A.TYPE.0) (shown self.now))) }
+            (find (λ a. a.kind == A.TYPE.0) (visible self.now))) }
         ensures cause { RefusesFor StunParseError.NoMemory (read_of_refusal A.TYPE A.read_refusal
-            (find (λ a. a.kind == A.TYPE.0) (shown self.now))) result }
+            (find (λ a. a.kind == A.TYPE.0) (visible self.now))) result }
         ensures memory { IfErr result (λ error. error ≡ StunParseError.NoMemory
             → IsTrue A.reading_takes_memory) }
     {
@@ -32,17 +36,17 @@ impl<'a> Message<'a> {
         }
     }
 
-    /// The attribute of its type that comes after so many others of that type: `nth_attribute(0)` is
-    /// `attribute`. Refused as `attribute` is.
+    /// Returns the visible attribute of type `A` that follows `n` others of that type;
+    /// `nth_attribute(0)` is `attribute`. Fails as `attribute` does.
     pub fn nth_attribute<A: AttributeFromRaw<'a> + AttributeStaticType>(
         &self,
         alloc: Global,
         n: usize,
     ) -> Result<A, StunParseError>
         ensures ok { IfOk result (IsReadOf A.kind A.value A.read_refusal A.read_value
-            (nth_of_kind A.TYPE.0 n (shown self.now))) }
+            (nth_of_kind A.TYPE.0 n (visible self.now))) }
         ensures cause { RefusesFor StunParseError.NoMemory (read_of_refusal A.TYPE A.read_refusal
-            (nth_of_kind A.TYPE.0 n (shown self.now))) result }
+            (nth_of_kind A.TYPE.0 n (visible self.now))) result }
         ensures memory { IfErr result (λ error. error ≡ StunParseError.NoMemory
             → IsTrue A.reading_takes_memory) }
     {
@@ -52,9 +56,9 @@ impl<'a> Message<'a> {
         }
     }
 
-    /// The attribute of a type that comes after so many others of that type, where it is shown.
+    /// Returns the visible attribute of a type that follows `n` others of that type, or `None`.
     fn nth_of_type(&self, atype: AttributeType, n: usize) -> Option<RawAttribute<'a>>
-        ensures { result ≡ nth_of_kind atype.0 n (shown self.now) }
+        ensures { result ≡ nth_of_kind atype.0 n (visible self.now) }
     {
         let mut before = n;
         for (_, attribute) in self.iter_attributes() {

@@ -1,11 +1,11 @@
-//! Whether a message is what a holder of a key has sent.
+//! Validates that a message was sent by a holder of a key.
 
 ghost use Rattle.std.specs.Prelude.{◌≡◌, ◌↔◌, ◌-◌, ℕ, List, Ok, Some, None, IsTrue, IsSomeAnd, IfOk, IfErr, OnOk};
 ghost use Rattle.stun_types_wire.specs.declared.algorithm.IntegrityAlgorithm.{IntegrityAlgorithm as Algorithm};
-ghost use Rattle.stun_types_wire.specs.Grammar.{IsMessage, shown};
+ghost use Rattle.stun_types_wire.specs.Grammar.{IsMessage, visible};
 ghost use Rattle.stun_types_integrity.specs.Integrity.{IsSigned, Validates, attribute_kind};
 ghost use Rattle.stun_types_integrity.specs.Keys.{key_of};
-ghost use Rattle.stun_types_message.specs.MessageValidation.{HasDigest, IsNotValid, IsRefused, IsRight, StandsAt, first_of_kind, last_algorithm};
+ghost use Rattle.stun_types_message.specs.MessageValidation.{HasDigest, IsNotValid, IsRefused, IsRight, OccursAt, first_of_kind, last_algorithm};
 
 use crate::parsed::Message;
 use stun_types_integrity::algorithm::{algorithm_of, attribute_type, is_lawful_length};
@@ -15,13 +15,13 @@ use stun_types_wire::algorithm::IntegrityAlgorithm;
 use stun_types_wire::attribute::pad_attribute_len;
 use stun_types_wire::error::{StunParseError, ValidateError};
 use stun_types_wire::registry::MESSAGE_INTEGRITY;
-use stun_types_write::text::front_told;
+use stun_types_write::text::head_decoded;
 
 impl<'a> Message<'a> {
-    /// The algorithm of the last integrity attribute that the message shows, where it shows one.
+    /// Returns the algorithm of the last visible integrity attribute, or `None`.
     #[tactic(auto, using(crate::proofs::Last::steps), unfolding(crate::proofs::Last::last))]
     pub fn last_integrity(&self) -> Option<IntegrityAlgorithm>
-        ensures { result ≡ last_algorithm (shown self.now) }
+        ensures { result ≡ last_algorithm (visible self.now) }
     {
         let mut last = None;
         for (_, attribute) in self.iter_attributes() {
@@ -32,10 +32,13 @@ impl<'a> Message<'a> {
         last
     }
 
-    /// Validates the message by the last integrity attribute that it shows, under the key that the
-    /// credentials make for that attribute's algorithm, and answers the algorithm. Refused with
-    /// `Parse(MissingAttribute)` of MESSAGE-INTEGRITY where the message shows no integrity
-    /// attribute, and else as `validate_integrity_with_key` is.
+    /// Validates the message by its last visible integrity attribute, with the key that the
+    /// credentials make for that attribute's algorithm. Returns the algorithm.
+    ///
+    /// # Errors
+    ///
+    /// 1. `Parse(MissingAttribute)` of MESSAGE-INTEGRITY: no integrity attribute is visible.
+    /// 2. The errors of `validate_integrity_with_key`.
     pub fn validate_integrity(
         &self,
         credentials: &MessageIntegrityCredentials,
@@ -54,11 +57,14 @@ impl<'a> Message<'a> {
         self.validate_integrity_with_key(&key)
     }
 
-    /// Validates the message by the integrity attribute of the algorithm for which a key was made,
-    /// and answers that algorithm. Refused with `Parse(MissingAttribute)` of that attribute's type
-    /// where the message shows none, with `Parse(InvalidAttributeData)` where its length is
-    /// unlawful, and with `IntegrityFailed` where its value is not the HMAC of the text that it
-    /// covers (RFC 8489, sections 14.5 and 14.6).
+    /// Validates the message by the integrity attribute of the algorithm for which the key was
+    /// made, and returns that algorithm (RFC 8489, sections 14.5 and 14.6).
+    ///
+    /// # Errors
+    ///
+    /// 1. `Parse(MissingAttribute)` of that attribute's type: no such attribute is visible.
+    /// 2. `Parse(InvalidAttributeData)`: the length of its value is not allowed.
+    /// 3. `IntegrityFailed`: its value is not the HMAC of the text that it covers.
     pub fn validate_integrity_with_key(
         &self,
         key: &IntegrityKey<'_>,
@@ -70,12 +76,13 @@ impl<'a> Message<'a> {
         ensures refused { IfErr result (λ error.
             IsRefused self.now key.now.bytes key.now.algorithm error) }
     {
-        // The paths are taken below. What their answer means for the signed text is proved here, once
-        // for all of them.
+        // The checks are in `integrity_by`. What its result means for the signed text is proved
+        // here, once for all of its branches.
         self.integrity_by(key)
     }
 
-    /// Whether the attribute of a key's algorithm is of a lawful length and has the right digest.
+    /// Checks that the integrity attribute of the key's algorithm has an allowed length and the
+    /// right HMAC. Returns the algorithm, and fails as `validate_integrity_with_key` does.
     fn integrity_by(&self, key: &IntegrityKey<'_>) -> Result<IntegrityAlgorithm, ValidateError>
         ensures message { IsMessage self.now }
         ensures algorithm { IfOk result (λ algorithm. algorithm ≡ key.now.algorithm) }
@@ -101,21 +108,22 @@ impl<'a> Message<'a> {
         }
     }
 
-    /// Whether the value at an offset is the digest of what it covers, or a front of it.
-    #[tactic(auto, using(crate::proofs::Validating::covered_pieces))]
+    /// Returns whether the value at an offset is the HMAC of the text that it covers, possibly
+    /// truncated.
+    #[tactic(auto, using(crate::proofs::Validating::covered_chunks))]
     fn has_digest(&self, offset: usize, value: &[u8], key: &IntegrityKey<'_>) -> bool
-        requires { StandsAt self.now offset value.now }
+        requires { OccursAt self.now offset value.now }
         ensures { IsTrue result
             ↔ HasDigest self.now key.now.bytes key.now.algorithm offset value.now }
     {
         let (covered, _) = self.as_ref().split_at(offset);
         let end = offset + 4 + pad_attribute_len(value.len());
-        let front = front_told(covered, self.length_up_to(end));
-        // Where nothing follows the attribute, its text stands there in one piece.
-        if covered.starts_with(&front) {
+        let attribute_head = head_decoded(covered, self.length_up_to(end));
+        // If nothing follows the attribute, the covered text is one contiguous chunk.
+        if covered.starts_with(&attribute_head) {
             return key.signs(covered, &[], &[], value);
         }
-        let (_, behind) = covered.split_at(4);
-        key.signs(&front, behind, &[], value)
+        let (_, following) = covered.split_at(4);
+        key.signs(&attribute_head, following, &[], value)
     }
 }

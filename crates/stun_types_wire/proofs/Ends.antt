@@ -1,4 +1,4 @@
--- Where an attribute of a written message stands, and what it covers.
+-- The offset of an attribute in a written message, and what it covers.
 use Rattle.std.proofs.Common.{◌≡◌, ℕ, ◌+◌, ◌-◌, ◌^◌, ◌<◌, List, [], ◌∷◌, ◌++◌, length, take, drop, replicate, refl, sym, ap, ◌∙◌, append_assoc, arith}
 use Rattle.std.specs.Prelude.{sum_by}
 use Rattle.std.specs.List.{AllByRecursion}
@@ -31,23 +31,23 @@ pub text_length : (kind number : ℕ) (all : List Attr) → length (message_text
 unfolding message_text
 text_length kind number all = length-header_text kind (length (body_text all)) number (body_text all) ∙ ap (λ n. 20 + n) (length-body_text all)
 
--- ---- attributes behind others
+-- ---- attributes after others
 
 pub numbered_both : (offset : ℕ) (xs ys : List Attr) → numbered offset (xs ++ ys) ≡ numbered offset xs ++ numbered (offset + sum_by attr_size xs) ys
 numbered_both offset [] ys = ap (λ n. numbered n ys) (omega arith)
 numbered_both offset (x ∷ xs) ys =
     let later = numbered_both (offset + attr_size x) xs ys in
-    let place : offset + attr_size x + sum_by attr_size xs ≡ offset + sum_by attr_size (x ∷ xs) = omega (arith, sum_by-cons attr_size x xs) in
-    ap (λ (l : List (ℕ × Attr)). (offset, x) ∷ l) (later ∙ ap (λ n. numbered (offset + attr_size x) xs ++ numbered n ys) place)
+    let index : offset + attr_size x + sum_by attr_size xs ≡ offset + sum_by attr_size (x ∷ xs) = omega (arith, sum_by-cons attr_size x xs) in
+    ap (λ (l : List (ℕ × Attr)). (offset, x) ∷ l) (later ∙ ap (λ n. numbered (offset + attr_size x) xs ++ numbered n ys) index)
 
 body_text-both : (xs ys : List Attr) → body_text (xs ++ ys) ≡ body_text xs ++ body_text ys
 unfolding body_text
 body_text-both [] ys = refl
 body_text-both (x ∷ xs) ys = ap (λ (l : List ℕ). attribute_text x ++ l) (body_text-both xs ys) ∙ sym (append_assoc (attribute_text x) (body_text xs) (body_text ys))
 
-body_text-first : (a : Attr) (behind : List Attr) → body_text (a ∷ behind) ≡ attribute_text a ++ body_text behind
+body_text-first : (a : Attr) (following : List Attr) → body_text (a ∷ following) ≡ attribute_text a ++ body_text following
 unfolding body_text
-body_text-first a behind = refl
+body_text-first a following = refl
 
 pub fit_both : (xs ys : List Attr) → AllByRecursion FitsAttribute xs → AllByRecursion FitsAttribute ys → AllByRecursion FitsAttribute (xs ++ ys)
 fit_both [] ys h k = k
@@ -71,23 +71,24 @@ drop_all : (xs ys : List ℕ) → drop (length xs) (xs ++ ys) ≡ ys
 drop_all [] ys = refl
 drop_all (x ∷ xs) ys = drop_all xs ys
 
--- the text before an attribute, told the length that reaches through it
-pub covered_at : (kind number : ℕ) (adds : List Attr) (a : Attr) (behind : List Attr) → length a.value < 2 ^ 16
-    → covered_text (message_text kind number (adds ++ a ∷ behind)) (length (message_text kind number adds)) ≡ with_length (message_text kind number adds) (length (message_text kind number adds) - 20 + attr_size a)
+-- An attribute of a written message covers the text before it, with a length field that includes the
+-- attribute.
+pub covered_at : (kind number : ℕ) (adds : List Attr) (a : Attr) (following : List Attr) → length a.value < 2 ^ 16
+    → covered_text (message_text kind number (adds ++ a ∷ following)) (length (message_text kind number adds)) ≡ with_length (message_text kind number adds) (length (message_text kind number adds) - 20 + attr_size a)
 unfolding covered_text message_text
-covered_at kind number adds a behind short =
+covered_at kind number adds a following short =
     let body = body_text adds in
-    let whole = body_text (adds ++ a ∷ behind) in
-    let end = attribute_text a ++ body_text behind in
-    let more : whole ≡ body ++ end = body_text-both adds (a ∷ behind) ∙ ap (λ (l : List ℕ). body ++ l) (body_text-first a behind) in
-    let front = header_text kind (length whole) number ++ body in
+    let whole = body_text (adds ++ a ∷ following) in
+    let end = attribute_text a ++ body_text following in
+    let more : whole ≡ body ++ end = body_text-both adds (a ∷ following) ∙ ap (λ (l : List ℕ). body ++ l) (body_text-first a following) in
+    let head = header_text kind (length whole) number ++ body in
     let own = header_text kind (length body) number ++ body in
     let o = length own in
-    let size : o ≡ length front = length-header_text kind (length body) number body ∙ sym (length-header_text kind (length whole) number body) in
-    let text : header_text kind (length whole) number ++ whole ≡ front ++ end =
+    let size : o ≡ length head = length-header_text kind (length body) number body ∙ sym (length-header_text kind (length whole) number body) in
+    let text : header_text kind (length whole) number ++ whole ≡ head ++ end =
     ap (λ (l : List ℕ). header_text kind (length whole) number ++ l) more ∙ sym (append_assoc (header_text kind (length whole) number) body end) in
-    let taken : take o (header_text kind (length whole) number ++ whole) ≡ front = ap (λ n. take n (header_text kind (length whole) number ++ whole)) size ∙ ap (λ (l : List ℕ). take (length front) l) text ∙ take_all front end in
-    let dropped : drop o (header_text kind (length whole) number ++ whole) ≡ end = ap (λ n. drop n (header_text kind (length whole) number ++ whole)) size ∙ ap (λ (l : List ℕ). drop (length front) l) text ∙ drop_all front end in
-    let told : size_at (drop o (header_text kind (length whole) number ++ whole)) ≡ attr_size a = ap size_at dropped ∙ size_text a (body_text behind) short in
-    ap (λ (l : List ℕ). with_length l (o - 20 + size_at (drop o (header_text kind (length whole) number ++ whole)))) taken ∙ ap (λ n. with_length front (o - 20 + n)) told
+    let taken : take o (header_text kind (length whole) number ++ whole) ≡ head = ap (λ n. take n (header_text kind (length whole) number ++ whole)) size ∙ ap (λ (l : List ℕ). take (length head) l) text ∙ take_all head end in
+    let dropped : drop o (header_text kind (length whole) number ++ whole) ≡ end = ap (λ n. drop n (header_text kind (length whole) number ++ whole)) size ∙ ap (λ (l : List ℕ). drop (length head) l) text ∙ drop_all head end in
+    let decoded : size_at (drop o (header_text kind (length whole) number ++ whole)) ≡ attr_size a = ap size_at dropped ∙ size_text a (body_text following) short in
+    ap (λ (l : List ℕ). with_length l (o - 20 + size_at (drop o (header_text kind (length whole) number ++ whole)))) taken ∙ ap (λ n. with_length head (o - 20 + n)) decoded
     ∙ with_length-header_text kind (length whole) (o - 20 + attr_size a) number body ∙ sym (with_length-header_text kind (length body) (o - 20 + attr_size a) number body)

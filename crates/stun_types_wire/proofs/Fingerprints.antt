@@ -1,4 +1,4 @@
--- Which FINGERPRINT is right, and that a writer's is.
+-- Which FINGERPRINT is right, and that the one that a writer adds is.
 use Rattle.std.proofs.Common.{◌≡◌, ℕ, ◌+◌, ◌-◌, ◌^◌, ◌<◌, false, eqb, bytes_eq, List, [], ◌∷◌, ◌++◌, length, None, refl, sym, ap, subst, ◌∙◌, arith, inl, inr}
 use Rattle.std.specs.Prelude.{sum_by}
 use Rattle.std.specs.List.{list_any}
@@ -83,10 +83,10 @@ last_right kind number all h =
     let before = message_text kind number h.before in
     let own = fingerprint_of before in
     let bytes = message_text kind number (h.before ++ own ∷ []) in
-    let place : 20 + sum_by attr_size h.before ≡ length before = omega (arith, text_length kind number h.before) in
+    let index : 20 + sum_by attr_size h.before ≡ length before = omega (arith, text_length kind number h.before) in
     let short : length own.value < 2 ^ 16 = omega (arith, fingerprint_size before) in
     let covers : own.value ≡ fingerprint_value (covered_text bytes (length before)) = fingerprint_covers before ∙ ap fingerprint_value (sym (covered_at kind number h.before own [] short)) in
-    let there : AreRightFingerprints bytes ((20 + sum_by attr_size h.before, own) ∷ []) = subst (λ n. AreRightFingerprints bytes ((n, own) ∷ [])) (sym place) ((λ _. covers), tt) in
+    let there : AreRightFingerprints bytes ((20 + sum_by attr_size h.before, own) ∷ []) = subst (λ n. AreRightFingerprints bytes ((n, own) ∷ [])) (sym index) ((λ _. covers), tt) in
     let whole : AreRightFingerprints bytes (numbered 20 (h.before ++ own ∷ [])) =
     subst (AreRightFingerprints bytes) (sym (numbered_both 20 h.before (own ∷ []))) (both_right bytes (numbered 20 h.before) ((20 + sum_by attr_size h.before, own) ∷ []) (other_kinds bytes 20 h.before h.none) there) in
     subst (λ (l : List Attr). AreRightFingerprints (message_text kind number l) (numbered 20 l)) (sym h.parts) whole

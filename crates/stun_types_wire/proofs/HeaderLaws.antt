@@ -1,4 +1,4 @@
--- What the refusals of a header mean.
+-- What the errors of decoding a header mean.
 use Rattle.std.proofs.Common.{◌≡◌, ℕ, ◌^◌, ◌<◌, ◌≤◌, Bool, true, false, ltb, eqb, ◌&&◌, List, [], ◌∷◌, ◌++◌, length, take, drop, slice_index, Some, None, refl, sym, ap, ◌∙◌, append_assoc, arith, inl, inr}
 use Rattle.std.specs.Prelude.{◌↔◌}
 use Rattle.std.specs.List.{list_all, starts_with}
@@ -12,7 +12,7 @@ use Rattle.stun_types_wire.specs.Attributes.{kind_at, length_at}
 use Rattle.stun_types_wire.specs.Grammar.{may_begin, header_refusal, number_at}
 use Rattle.stun_types_wire.specs.Registry.{cookie}
 use Rattle.stun_types_wire.specs.Text.{header_text}
-use Rattle.stun_types_wire.proofs.Headers.{header_front}
+use Rattle.stun_types_wire.proofs.Headers.{header_head}
 use Rattle.stun_types_wire.specs.Headers.{AreBytes, BeginsWithHeader, MayBecomeHeader}
 use Rattle.stun_types_wire.proofs.Numbers.{byte_below, bytes_again}
 
@@ -34,24 +34,24 @@ header_cases bytes =
       | inr other ↦ wrong other (rw other refl)
     ]
 
--- ---- a header at the front is not refused
+-- ---- a header at the head is not refused
 
 pub begins_fine : (bytes : List ℕ) → BeginsWithHeader bytes → header_refusal bytes ≡ None
-begins_fine bytes h = rw h.text (header_front h.kind h.len h.number h.rest h.kind_fits)
+begins_fine bytes h = rw h.text (header_head h.kind h.len h.number h.rest h.kind_fits)
 
--- ---- what is not refused has a header at the front
+-- ---- what is not refused has a header at the head
 
 pub are_parts : (n : ℕ) (bytes : List ℕ) → AreBytes bytes → AreBytes (take n bytes) × AreBytes (drop n bytes)
 are_parts n bytes h =
     let whole : list_all (λ b. ltb b 256) (take n bytes ++ drop n bytes) ≡ true = ap (list_all (λ b. ltb b 256)) (take-append-drop n bytes) ∙ h in
     and_parts (list_all (λ b. ltb b 256) (take n bytes)) (list_all (λ b. ltb b 256) (drop n bytes)) (sym (list_all-append (λ b. ltb b 256) (take n bytes) (drop n bytes)) ∙ whole)
 
--- the first n bytes are those of their number
+-- Encoding the number that is decoded from n bytes gives these bytes again.
 pub first_bytes : (n : ℕ) (bytes : List ℕ) → AreBytes bytes → n ≤ length bytes → big_bytes n (big_number n bytes) ≡ take n bytes
 first_bytes n bytes h long =
     ap (big_bytes n) (sym (big_from-take 0 n n bytes (omega arith))) ∙ bytes_again n (take n bytes) (byte_below (take n bytes) (are_parts n bytes h).0) (omega (arith, length-take n bytes))
 
--- the cookie, once its four tests have passed
+-- Four bytes that pass the test of the magic cookie are the cookie.
 cookie_is : (l : List ℕ) → length l ≡ 4 → starts_with eqb cookie l ≡ true → l ≡ cookie
 cookie_is (e ∷ f ∷ g ∷ h ∷ []) four p =
     let p1 = and_parts (eqb e 0x21) (eqb f 0x12 && (eqb g 0xA4 && (eqb h 0x42 && true))) p in
@@ -69,39 +69,39 @@ cookie_is (e ∷ f ∷ []) four p = absurd (omega arith)
 cookie_is (e ∷ f ∷ g ∷ []) four p = absurd (omega arith)
 cookie_is (e ∷ f ∷ g ∷ h ∷ i ∷ l) four p = absurd (omega arith)
 
--- some bytes, piece by piece
-pieces : (bytes : List ℕ) → bytes ≡ take 2 bytes ++ (take 2 (drop 2 bytes) ++ (take 4 (drop 4 bytes) ++ (take 12 (drop 8 bytes) ++ drop 20 bytes)))
-pieces bytes =
+-- Bytes are the concatenation of the fields of a header and the rest.
+chunks : (bytes : List ℕ) → bytes ≡ take 2 bytes ++ (take 2 (drop 2 bytes) ++ (take 4 (drop 4 bytes) ++ (take 12 (drop 8 bytes) ++ drop 20 bytes)))
+chunks bytes =
     sym (take-append-drop 2 bytes)
     ∙ ap (λ (l : List ℕ). take 2 bytes ++ l) (sym (take-append-drop 2 (drop 2 bytes))
     ∙ ap (λ (l : List ℕ). take 2 (drop 2 bytes) ++ l) (drop-drop 2 2 bytes ∙ sym (take-append-drop 4 (drop 4 bytes))
     ∙ ap (λ (l : List ℕ). take 4 (drop 4 bytes) ++ l) (drop-drop 4 4 bytes ∙ sym (take-append-drop 12 (drop 8 bytes))
     ∙ ap (λ (l : List ℕ). take 12 (drop 8 bytes) ++ l) (drop-drop 12 8 bytes))))
 
--- what the front tells as a header, and that it is the front's text
-pub record TellsHeader (bytes : List ℕ) : Type 0 where
+-- The bytes begin with the text of the header that is decoded from them.
+pub record DecodesHeader (bytes : List ℕ) : Type 0 where
   pub text : bytes ≡ header_text (kind_at bytes) (length_at bytes) (number_at bytes) ++ drop 20 bytes
   pub kind_fits : kind_at bytes < 2 ^ 14
   pub len_fits : length_at bytes < 2 ^ 16
   pub number_fits : number_at bytes < 2 ^ 96
 
-pub tells_header : (bytes : List ℕ) → AreBytes bytes → may_begin bytes ≡ true → 20 ≤ length bytes → TellsHeader bytes
+pub decodes_header : (bytes : List ℕ) → AreBytes bytes → may_begin bytes ≡ true → 20 ≤ length bytes → DecodesHeader bytes
 unfolding header_text number_at
-tells_header bytes h begins long =
+decodes_header bytes h begins long =
     let tests = and_parts (ltb (slice_index bytes 0) 64) (starts_with eqb cookie (take 4 (drop 4 bytes))) begins in
     let top = ltb-true (slice_index bytes 0) 64 tests.0 in
     let second = byte_below bytes h 1 in
-    let behind_type = (are_parts 2 bytes h).1 in
-    let behind_cookie = (are_parts 8 bytes h).1 in
+    let after_type = (are_parts 2 bytes h).1 in
+    let after_cookie = (are_parts 8 bytes h).1 in
     let type_is = first_bytes 2 bytes h (omega arith) in
-    let length_is = first_bytes 2 (drop 2 bytes) behind_type (omega (arith, length-drop 2 bytes)) in
-    let number_is = first_bytes 12 (drop 8 bytes) behind_cookie (omega (arith, length-drop 8 bytes)) in
+    let length_is = first_bytes 2 (drop 2 bytes) after_type (omega (arith, length-drop 2 bytes)) in
+    let number_is = first_bytes 12 (drop 8 bytes) after_cookie (omega (arith, length-drop 8 bytes)) in
     let cookie-is = cookie_is (take 4 (drop 4 bytes)) (omega (arith, length-take 4 (drop 4 bytes), length-drop 4 bytes)) tests.1 in
     record {
-      text = pieces bytes ∙ joined (take 2 bytes) (take 2 (drop 2 bytes)) (take 4 (drop 4 bytes)) (take 12 (drop 8 bytes)) (drop 20 bytes) (big_bytes 2 (kind_at bytes)) (big_bytes 2 (length_at bytes)) cookie (big_bytes 12 (big_number 12 (drop 8 bytes))) (sym type_is) (sym length_is) cookie-is (sym number_is);
+      text = chunks bytes ∙ joined (take 2 bytes) (take 2 (drop 2 bytes)) (take 4 (drop 4 bytes)) (take 12 (drop 8 bytes)) (drop 20 bytes) (big_bytes 2 (kind_at bytes)) (big_bytes 2 (length_at bytes)) cookie (big_bytes 12 (big_number 12 (drop 8 bytes))) (sym type_is) (sym length_is) cookie-is (sym number_is);
       kind_fits = omega arith;
-      len_fits = big_from-lt 0 2 (drop 2 bytes) (byte_below (drop 2 bytes) behind_type);
-      number_fits = big_from-lt 0 12 (drop 8 bytes) (byte_below (drop 8 bytes) behind_cookie);
+      len_fits = big_from-lt 0 2 (drop 2 bytes) (byte_below (drop 2 bytes) after_type);
+      number_fits = big_from-lt 0 12 (drop 8 bytes) (byte_below (drop 8 bytes) after_cookie);
     }
   where
     joined : (a b c d rest a' b' c' d' : List ℕ) → a ≡ a' → b ≡ b' → c ≡ c' → d ≡ d' → a ++ (b ++ (c ++ (d ++ rest))) ≡ ((a' ++ b') ++ c' ++ d') ++ rest
@@ -109,12 +109,12 @@ tells_header bytes h begins long =
 
 pub begins_with : (bytes : List ℕ) → AreBytes bytes → may_begin bytes ≡ true → 20 ≤ length bytes → BeginsWithHeader bytes
 begins_with bytes h begins long =
-    let told = tells_header bytes h begins long in
-    record { kind = kind_at bytes; len = length_at bytes; number = number_at bytes; rest = drop 20 bytes; text = told.text; kind_fits = told.kind_fits; len_fits = told.len_fits; number_fits = told.number_fits }
+    let decoded = decodes_header bytes h begins long in
+    record { kind = kind_at bytes; len = length_at bytes; number = number_at bytes; rest = drop 20 bytes; text = decoded.text; kind_fits = decoded.kind_fits; len_fits = decoded.len_fits; number_fits = decoded.number_fits }
 
 -- ---- some bytes that may begin a header become one
 
--- what is left of a header of zeros behind its first bytes
+-- Bytes that complete some bytes to a header, with zeros in each field but the magic cookie.
 pub record Completion (bytes : List ℕ) : Type 0 where
   pub rest : List ℕ
   pub are : AreBytes (bytes ++ rest)
@@ -150,31 +150,31 @@ first_of p q h = and_from p true (and_parts p q h).0 refl
 inner : (p q r s : Bool) → (q && r ≡ true → q && s ≡ true) → p && (q && r) ≡ true → p && (q && s) ≡ true
 inner p q r s f h = let both = and_parts p (q && r) h in and_from p (q && s) both.0 (f both.1)
 
-pub front_begins : (bytes rest : List ℕ) → may_begin (bytes ++ rest) ≡ true → may_begin bytes ≡ true
-front_begins [] rest h = refl
-front_begins (a ∷ []) rest h = first_of (ltb a 64) (starts_with eqb cookie (take 4 (drop 3 rest))) h
-front_begins (a ∷ b ∷ []) rest h = first_of (ltb a 64) (starts_with eqb cookie (take 4 (drop 2 rest))) h
-front_begins (a ∷ b ∷ c ∷ []) rest h = first_of (ltb a 64) (starts_with eqb cookie (take 4 (drop 1 rest))) h
-front_begins (a ∷ b ∷ c ∷ d ∷ []) rest h = first_of (ltb a 64) (starts_with eqb cookie (take 4 rest)) h
-front_begins (a ∷ b ∷ c ∷ d ∷ e ∷ []) rest h =
+pub head_begins : (bytes rest : List ℕ) → may_begin (bytes ++ rest) ≡ true → may_begin bytes ≡ true
+head_begins [] rest h = refl
+head_begins (a ∷ []) rest h = first_of (ltb a 64) (starts_with eqb cookie (take 4 (drop 3 rest))) h
+head_begins (a ∷ b ∷ []) rest h = first_of (ltb a 64) (starts_with eqb cookie (take 4 (drop 2 rest))) h
+head_begins (a ∷ b ∷ c ∷ []) rest h = first_of (ltb a 64) (starts_with eqb cookie (take 4 (drop 1 rest))) h
+head_begins (a ∷ b ∷ c ∷ d ∷ []) rest h = first_of (ltb a 64) (starts_with eqb cookie (take 4 rest)) h
+head_begins (a ∷ b ∷ c ∷ d ∷ e ∷ []) rest h =
     inner (ltb a 64) (eqb e 0x21) (starts_with eqb (0x12 ∷ 0xA4 ∷ 0x42 ∷ []) (take 3 rest)) true
     (first_of (eqb e 0x21) (starts_with eqb (0x12 ∷ 0xA4 ∷ 0x42 ∷ []) (take 3 rest))) h
-front_begins (a ∷ b ∷ c ∷ d ∷ e ∷ f ∷ []) rest h =
+head_begins (a ∷ b ∷ c ∷ d ∷ e ∷ f ∷ []) rest h =
     let others = starts_with eqb (0xA4 ∷ 0x42 ∷ []) (take 2 rest) in
     inner (ltb a 64) (eqb e 0x21) (eqb f 0x12 && others) (eqb f 0x12 && true)
     (inner (eqb e 0x21) (eqb f 0x12) others true (first_of (eqb f 0x12) others)) h
-front_begins (a ∷ b ∷ c ∷ d ∷ e ∷ f ∷ g ∷ []) rest h =
+head_begins (a ∷ b ∷ c ∷ d ∷ e ∷ f ∷ g ∷ []) rest h =
     let others = starts_with eqb (0x42 ∷ []) (take 1 rest) in
     inner (ltb a 64) (eqb e 0x21) (eqb f 0x12 && (eqb g 0xA4 && others)) (eqb f 0x12 && (eqb g 0xA4 && true))
     (inner (eqb e 0x21) (eqb f 0x12) (eqb g 0xA4 && others) (eqb g 0xA4 && true)
     (inner (eqb f 0x12) (eqb g 0xA4) others true (first_of (eqb g 0xA4) others))) h
-front_begins (a ∷ b ∷ c ∷ d ∷ e ∷ f ∷ g ∷ i ∷ more) rest h = h
+head_begins (a ∷ b ∷ c ∷ d ∷ e ∷ f ∷ g ∷ i ∷ more) rest h = h
 
 -- ---- the refusals
 
 no_header : (bytes : List ℕ) → header_refusal bytes ≡ Some NotStun → ¬ MayBecomeHeader bytes
 no_header bytes e more =
-    let begins = front_begins bytes more.0 (begins_of (bytes ++ more.0) (begins_fine (bytes ++ more.0) more.1)) in
+    let begins = head_begins bytes more.0 (begins_of (bytes ++ more.0) (begins_fine (bytes ++ more.0) more.1)) in
     elim (header_cases bytes) [
       | wrong other _ ↦ absurd cc
       | short _ _ is ↦ absurd cc

@@ -1,21 +1,21 @@
--- What is shown is in the shape, and is the longest front of it.
+-- The visible attributes are in the shape, and are the longest prefix that is.
 use Rattle.std.proofs.Common.{◌≡◌, ℕ, ◌≤◌, true, eqb, List, [], ◌∷◌, ◌++◌, length, refl, sym, ap, subst, ◌∙◌, arith, inl, inr}
 use Rattle.std.specs.List.{AllByRecursion}
 use Rattle.std.proofs.lemmas.Bool.{cases_Bool, eqb-true}
 use Rattle.stun_types_wire.specs.Attributes.{Attr}
-use Rattle.stun_types_wire.specs.Shape.{rank, may_follow, shape_front, IsOptional, IsShape, kinds_of, IsLongestFront}
+use Rattle.stun_types_wire.specs.Shape.{rank, may_follow, shape_prefix, IsOptional, IsShape, kinds_of, IsLongestPrefix}
 use Rattle.stun_types_wire.specs.Registry.{integrity_kind, sha256_kind, sha512_kind, fingerprint_kind}
 
--- each type may follow the one before
+-- Each type may follow the one before it, and the first may follow a type of rank `before`.
 abbrev pub Follows : ℕ → List ℕ → Type 0
 Follows before [] = Unit {0}
 Follows before (k ∷ kinds) = (may_follow before (rank k) ≡ true) × Follows (rank k) kinds
 
--- a type that is there at most once, in front of types of higher ranks
+-- A type that is present at most once may come before types of higher ranks.
 optional_follow : (before kind : ℕ) (one rest : List ℕ) → may_follow before (rank kind) ≡ true → IsOptional kind one → Follows before rest → Follows (rank kind) rest → Follows before (one ++ rest)
 optional_follow before kind one rest may h before-rest own-rest = elim h [ inl is ↦ rw is before-rest | inr is ↦ rw is (may, own-rest) ]
 
--- FINGERPRINT, behind any lower rank
+-- FINGERPRINT may follow any type of lower rank.
 fingerprint_follow : (before : ℕ) (f : List ℕ) → may_follow before 4 ≡ true → IsOptional fingerprint_kind f → Follows before f
 fingerprint_follow before f may h = elim h [ inl is ↦ rw is tt | inr is ↦ rw is (may, tt) ]
 
@@ -34,14 +34,14 @@ ordinary_follow : (o rest : List ℕ) → AllByRecursion (λ k. rank k ≡ 0) o 
 ordinary_follow [] rest h p = p
 ordinary_follow (k ∷ o) rest h p = rw h.0 (refl, ordinary_follow o rest h.1 p)
 
--- in a list that is in the shape each type may follow the one before
+-- In a list that is in the shape, each type may follow the one before it.
 pub shape_follows : (kinds : List ℕ) → IsShape kinds → Follows 0 kinds
 shape_follows kinds h = subst (λ (l : List ℕ). Follows 0 l) (sym h.parts)
     (ordinary_follow h.ordinary (h.integrity ++ (h.sha256 ++ (h.sha512 ++ h.fingerprint))) h.each (ending_follow h.integrity h.sha256 h.sha512 h.fingerprint h.first h.second h.third h.fourth))
 
 -- ---- the other way: where each type may follow the one before, the list is in the shape
 
--- a type by its rank
+-- The cases of a type, by its rank.
 pub data Kind (kind : ℕ) : Type 0 where
   ordinary_is : rank kind ≡ 0 → Kind kind
   integrity_is : kind ≡ integrity_kind → rank kind ≡ 1 → Kind kind
@@ -65,7 +65,7 @@ kind_cases kind =
       ]
     ]
 
--- a claim of the rank, where it is known
+-- `Follows` for a list whose first type has rank r.
 at_rank : (before r : ℕ) (kinds : List ℕ) (k : ℕ) → rank k ≡ r → Follows before (k ∷ kinds) → (may_follow before r ≡ true) × Follows r kinds
 at_rank before r kinds k e h = let P : ℕ → Type 0 = λ n. (may_follow before n ≡ true) × Follows n kinds in subst P e h
 
@@ -91,7 +91,7 @@ fingerprint_at_most (k ∷ kinds) h =
       | fingerprint_is is e ↦ inr (rw (is, nothing_after_fingerprint kinds (at_rank 3 4 kinds k e h).1) refl)
     ]
 
--- what stands behind a rank, each type at most once: SHA-512 and FINGERPRINT
+-- MESSAGE-INTEGRITY-SHA512 and FINGERPRINT, each at most once, in this order.
 pub record LastEnds (kinds : List ℕ) : Type 0 where
   pub sha512 : List ℕ
   pub fingerprint : List ℕ
@@ -99,7 +99,7 @@ pub record LastEnds (kinds : List ℕ) : Type 0 where
   pub third : IsOptional sha512_kind sha512
   pub fourth : IsOptional fingerprint_kind fingerprint
 
--- SHA-256, and these
+-- MESSAGE-INTEGRITY-SHA256 at most once, followed by the types of `LastEnds`.
 pub record Ends (kinds : List ℕ) : Type 0 where
   pub sha256 : List ℕ
   pub rest : List ℕ
@@ -107,18 +107,18 @@ pub record Ends (kinds : List ℕ) : Type 0 where
   pub second : IsOptional sha256_kind sha256
   pub last : LastEnds rest
 
--- a type of its rank in front of what may follow it
+-- One type is a list that has this type at most once.
 one_optional : (kind k : ℕ) → k ≡ kind → IsOptional kind (k ∷ [])
 one_optional kind k is = inr (rw is refl)
 
 none_last : LastEnds []
 none_last = record { sha512 = []; fingerprint = []; parts = refl; third = inl refl; fourth = inl refl }
 
--- of FINGERPRINT, with what may follow it
+-- FINGERPRINT, followed by what may follow it, satisfies `LastEnds`.
 marked_last : (kinds : List ℕ) (k : ℕ) → k ≡ fingerprint_kind → Follows 4 kinds → LastEnds (k ∷ kinds)
 marked_last kinds k is h = record { sha512 = []; fingerprint = k ∷ kinds; parts = refl; third = inl refl; fourth = inr (rw (is, nothing_after_fingerprint kinds h) refl) }
 
--- of SHA-512, with what may follow it
+-- MESSAGE-INTEGRITY-SHA512, followed by what may follow it, satisfies `LastEnds`.
 signed_last : (kinds : List ℕ) (k : ℕ) → k ≡ sha512_kind → Follows 3 kinds → LastEnds (k ∷ kinds)
 signed_last kinds k is h = record { sha512 = k ∷ []; fingerprint = kinds; parts = refl; third = one_optional sha512_kind k is; fourth = fingerprint_at_most kinds h }
 
@@ -133,11 +133,11 @@ ends_after_sha256 (k ∷ kinds) h =
       | fingerprint_is is e ↦ marked_last kinds k is (at_rank 2 4 kinds k e h).1
     ]
 
--- no SHA-256 in front of what may end a message
+-- The types of `LastEnds` satisfy `Ends`, without MESSAGE-INTEGRITY-SHA256.
 only_last : (kinds : List ℕ) → LastEnds kinds → Ends kinds
 only_last kinds last = record { sha256 = []; rest = kinds; parts = refl; second = inl refl; last = last }
 
--- SHA-256, with what may follow it
+-- MESSAGE-INTEGRITY-SHA256, followed by what may follow it, satisfies `Ends`.
 sha256_first : (kinds : List ℕ) (k : ℕ) → k ≡ sha256_kind → Follows 2 kinds → Ends (k ∷ kinds)
 sha256_first kinds k is h = record { sha256 = k ∷ []; rest = kinds; parts = refl; second = one_optional sha256_kind k is; last = ends_after_sha256 kinds h }
 
@@ -152,7 +152,7 @@ ends_after (k ∷ kinds) h =
       | fingerprint_is is e ↦ only_last (k ∷ kinds) (marked_last kinds k is (at_rank 1 4 kinds k e h).1)
     ]
 
--- what ends a message, and MESSAGE-INTEGRITY in front of it or not
+-- MESSAGE-INTEGRITY at most once, followed by the types of `Ends`, is in the shape.
 with_ends : (kinds integrity rest : List ℕ) → kinds ≡ integrity ++ rest → IsOptional integrity_kind integrity → Ends rest → IsShape kinds
 with_ends kinds integrity rest is first ends = record {
   ordinary = [];
@@ -194,35 +194,35 @@ follows_shape (k ∷ kinds) h =
       | fingerprint_is is e ↦ with_ends (k ∷ kinds) [] (k ∷ kinds) refl (inl refl) (only_last (k ∷ kinds) (marked_last kinds k is (at_rank 0 4 kinds k e h).1))
     ]
 
--- ---- the longest front
+-- ---- the longest head
 
-pub front_follows : (before : ℕ) (all : List Attr) → Follows before (kinds_of (shape_front before all))
-unfolding shape_front
-front_follows before [] = tt
-front_follows before (a ∷ all) =
+pub head_follows : (before : ℕ) (all : List Attr) → Follows before (kinds_of (shape_prefix before all))
+unfolding shape_prefix
+head_follows before [] = tt
+head_follows before (a ∷ all) =
     elim (cases_Bool (may_follow before (rank a.kind))) [
-      | inl h ↦ rw h (h, front_follows (rank a.kind) all)
+      | inl h ↦ rw h (h, head_follows (rank a.kind) all)
       | inr h ↦ rw h tt
     ]
 
-no_longer : (before : ℕ) (other rest : List Attr) → Follows before (kinds_of other) → length other ≤ length (shape_front before (other ++ rest))
-unfolding shape_front
+no_longer : (before : ℕ) (other rest : List Attr) → Follows before (kinds_of other) → length other ≤ length (shape_prefix before (other ++ rest))
+unfolding shape_prefix
 no_longer before [] rest h = omega arith
 no_longer before (a ∷ other) rest h = rw h.0 (omega (arith, no_longer (rank a.kind) other rest h.1))
 
-front_parts : (before : ℕ) (all : List Attr) → (behind : List Attr) × (all ≡ shape_front before all ++ behind)
-unfolding shape_front
-front_parts before [] = ([], refl)
-front_parts before (a ∷ all) =
+head_parts : (before : ℕ) (all : List Attr) → (following : List Attr) × (all ≡ shape_prefix before all ++ following)
+unfolding shape_prefix
+head_parts before [] = ([], refl)
+head_parts before (a ∷ all) =
     elim (cases_Bool (may_follow before (rank a.kind))) [
-      | inl h ↦ let p = front_parts (rank a.kind) all in rw h (p.0, ap (λ (l : List Attr). a ∷ l) p.1)
+      | inl h ↦ let p = head_parts (rank a.kind) all in rw h (p.0, ap (λ (l : List Attr). a ∷ l) p.1)
       | inr h ↦ rw h (a ∷ all, refl)
     ]
 
-pub front_is_longest : (all : List Attr) → IsLongestFront (shape_front 0 all) all
-front_is_longest all = record {
-  behind = (front_parts 0 all).0;
-  parts = (front_parts 0 all).1;
-  shape = follows_shape (kinds_of (shape_front 0 all)) (front_follows 0 all);
-  longest = λ other rest e h. subst (λ (l : List Attr). length other ≤ length (shape_front 0 l)) (sym e) (no_longer 0 other rest (shape_follows (kinds_of other) h));
+pub head_is_longest : (all : List Attr) → IsLongestPrefix (shape_prefix 0 all) all
+head_is_longest all = record {
+  following = (head_parts 0 all).0;
+  parts = (head_parts 0 all).1;
+  shape = follows_shape (kinds_of (shape_prefix 0 all)) (head_follows 0 all);
+  longest = λ other rest e h. subst (λ (l : List Attr). length other ≤ length (shape_prefix 0 l)) (sym e) (no_longer 0 other rest (shape_follows (kinds_of other) h));
 }

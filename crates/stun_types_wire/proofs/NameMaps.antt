@@ -1,4 +1,4 @@
--- The maps of names, as the fields keep them and as contracts see them.
+-- The maps of names, as the fields store them and as contracts see them.
 use Rattle.std.proofs.Common.{◌≡◌, ℕ, List, Option, Some, Bor, sym, ap, ◌∙◌}
 use Rattle.std.specs.BTreeMap as tree
 use Rattle.std.specs.Cmp.{nat_cmp_total}
@@ -12,13 +12,13 @@ use Rattle.stun_types_wire.specs.NamesView.{names_in}
 abbrev text_of : Bor (List ℕ) → List ℕ
 text_of name = name.now
 
--- the name that is found for a number
-pub get-names : (kept : tree.BTreeMap ℕ (Bor (List ℕ))) (n : ℕ) (found : Option (Bor (List ℕ)))
-    → found ≡ tree.get nat_cmp kept n → map.get (names_in kept) n ≡ option_map text_of found
-get-names kept n found is =
-    get-finite_map (λ key. key) nat_cmp_total text_of kept n ∙ ap (option_map text_of) (sym is)
+-- Looking up a number in the map of contracts gives the name that the stored map has for it.
+pub get-names : (stored : tree.BTreeMap ℕ (Bor (List ℕ))) (n : ℕ) (found : Option (Bor (List ℕ)))
+    → found ≡ tree.get nat_cmp stored n → map.get (names_in stored) n ≡ option_map text_of found
+get-names stored n found is =
+    get-finite_map (λ key. key) nat_cmp_total text_of stored n ∙ ap (option_map text_of) (sym is)
 
--- a number is given a name
+-- Adding a name for a number to the stored map adds it to the map of contracts.
 pub insert-names : (old new : tree.BTreeMap ℕ (Bor (List ℕ))) (n : ℕ) (name : Bor (List ℕ))
     → tree.Updates nat_cmp old new n (Some name) → names_in new ≡ map.insert (names_in old) n name.now
 insert-names old new n name updates =

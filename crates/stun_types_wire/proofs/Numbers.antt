@@ -1,4 +1,4 @@
--- Numbers and their bytes, the highest first.
+-- Numbers and their bytes, the highest byte first.
 use Rattle.std.proofs.Common.{◌≡◌, ℕ, zero, suc, ◌+◌, ◌*◌, ◌/◌, ◌^◌, ◌<◌, ltb, List, [], ◌∷◌, length, slice_index, refl, sym, ap, ◌∙◌, arith}
 use Rattle.std.specs.List.{list_all}
 use Rattle.std.specs.Int.{byte_at, bytes_high_first}
@@ -10,7 +10,7 @@ use Rattle.byteorder.specs.Endian.{big_from}
 use Rattle.byteorder.specs.Numbers.{big_from-cons, big_from-lt, big_number-reads_back, length-bytes_high_first}
 use Rattle.stun_types_wire.specs.Headers.{AreBytes}
 
--- each place of a list of bytes holds one
+-- Each number in a list of bytes is below 256.
 pub byte_below : (bytes : List ℕ) → AreBytes bytes → (i : ℕ) → slice_index bytes i < 256
 byte_below [] h i = omega arith
 byte_below (b ∷ bytes) h zero = ltb-true b 256 (and_parts (ltb b 256) (list_all (λ n. ltb n 256) bytes) h).0
@@ -25,7 +25,7 @@ high_below zero x i = omega arith
 high_below (suc n) x zero = byte_at-lt n x
 high_below (suc n) x (suc i) = high_below n x i
 
--- two lists of n bytes with one number are one
+-- Two lists of n bytes that encode the same number are equal.
 same_bytes : (n : ℕ) (xs ys : List ℕ) → ((i : ℕ) → slice_index xs i < 256) → ((i : ℕ) → slice_index ys i < 256) → length xs ≡ n → length ys ≡ n → big_from 0 n xs ≡ big_from 0 n ys → xs ≡ ys
 same_bytes zero [] [] bx by lx ly e = refl
 same_bytes zero [] (y ∷ ys) bx by lx ly e = absurd (omega arith)
@@ -44,7 +44,7 @@ same_bytes (suc n) (x ∷ xs) (y ∷ ys) bx by lx ly e =
     let tails = same_bytes n xs ys (λ i. bx (suc i)) (λ i. by (suc i)) (omega arith) (omega arith) rest in
     ap (λ v. v ∷ xs) first ∙ ap (λ (l : List ℕ). y ∷ l) tails
 
--- the bytes of the number of n bytes are these bytes
+-- Encoding the number that is decoded from n bytes gives these bytes again.
 pub bytes_again : (n : ℕ) (xs : List ℕ) → ((i : ℕ) → slice_index xs i < 256) → length xs ≡ n → bytes_high_first n (big_from 0 n xs) ≡ xs
 bytes_again n xs bx lx =
     let number = big_from 0 n xs in

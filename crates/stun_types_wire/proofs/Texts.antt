@@ -1,4 +1,4 @@
--- The text of a message is read as that message.
+-- The text of a message is decoded as that message.
 use Rattle.std.proofs.Common.{◌≡◌, ◌⊎◌, ℕ, ◌+◌, ◌^◌, ◌<◌, ◌≤◌, true, false, List, [], ◌∷◌, ◌++◌, length, take, drop, None, refl, sym, ap, subst, ◌∙◌, append_assoc, arith, inl, inr}
 use Rattle.std.specs.Prelude.{sum_by}
 use Rattle.std.specs.List.{AllByRecursion}
@@ -8,16 +8,16 @@ use Rattle.std.proofs.lemmas.List.Sums.{sum_by-cons}
 use Rattle.byteorder.specs.Endian.{big_bytes}
 use Rattle.byteorder.specs.Numbers.{big_number-reads_back}
 use Rattle.stun_types_wire.specs.Attributes.{Attr, attr_size, attr_at, kind_at, length_at, size_at, padded, is_whole, numbered}
-use Rattle.stun_types_wire.specs.Shape.{rank, may_follow, shown_after, behind_shown, shown_rank, last_rank, IsShape, kinds_of}
-use Rattle.stun_types_wire.specs.Grammar.{header_refusal, length_refusal, fingerprint_refusal, rest_refusal, body_refusal, refusal, shown, number_at}
+use Rattle.stun_types_wire.specs.Shape.{rank, may_follow, visible_after, after_visible, visible_rank, last_rank, IsShape, kinds_of}
+use Rattle.stun_types_wire.specs.Grammar.{header_refusal, length_refusal, fingerprint_refusal, rest_refusal, body_refusal, refusal, visible, number_at}
 use Rattle.stun_types_wire.specs.Registry.{cookie}
 use Rattle.stun_types_wire.specs.Text.{header_text, padded_text, Part, part_text, parts_text, attributes_of, FitsPart, LeavesShape, IsTextOf}
-use Rattle.stun_types_wire.proofs.Headers.{header_front}
+use Rattle.stun_types_wire.proofs.Headers.{header_head}
 use Rattle.stun_types_wire.specs.Fingerprinted.{AreRightFingerprints}
 use Rattle.stun_types_wire.specs.MessageReading.{IsReadAs}
 use Rattle.stun_types_wire.proofs.Fingerprints.{not_refused}
 use Rattle.stun_types_wire.proofs.Whole.{whole_from, not_whole}
-use Rattle.stun_types_wire.proofs.Scan.{shown_step, shown_short, shown_stops}
+use Rattle.stun_types_wire.proofs.Scan.{visible_step, visible_short, visible_stops}
 use Rattle.stun_types_wire.proofs.Longest.{Follows, shape_follows, follows_shape}
 
 -- ---- one attribute with its padding
@@ -68,32 +68,33 @@ drop_again part rest h = drop_at (part_text part) rest (size_at (part_text part 
 
 -- ---- all of them
 
--- nothing of the shape stands behind a rank
+-- After an attribute of this rank the shape ends: nothing follows, or at least four bytes that begin with a
+-- type that may not follow.
 abbrev pub Ended : ℕ → List ℕ → Type 0
-Ended before behind = (behind ≡ []) ⊎ ((4 ≤ length behind) × (may_follow before (rank (kind_at behind)) ≡ false))
+Ended before following = (following ≡ []) ⊎ ((4 ≤ length following) × (may_follow before (rank (kind_at following)) ≡ false))
 
-nothing_shown : (before : ℕ) (behind : List ℕ) → Ended before behind → shown_after before behind ≡ []
-nothing_shown before behind (inl none) = shown_short before behind (not_whole behind (inl (rw none (omega arith))))
-nothing_shown before behind (inr more) = shown_stops before behind more.1
+nothing_visible : (before : ℕ) (following : List ℕ) → Ended before following → visible_after before following ≡ []
+nothing_visible before following (inl none) = visible_short before following (not_whole following (inl (rw none (omega arith))))
+nothing_visible before following (inr more) = visible_stops before following more.1
 
--- the bytes of the parts, and then what is behind, with the brackets to the right
-next_text : (part : Part) (parts : List Part) (behind : List ℕ) → parts_text (part ∷ parts) ++ behind ≡ part_text part ++ (parts_text parts ++ behind)
+-- The text of the parts and the bytes after them, regrouped to begin with the text of the first part.
+next_text : (part : Part) (parts : List Part) (following : List ℕ) → parts_text (part ∷ parts) ++ following ≡ part_text part ++ (parts_text parts ++ following)
 unfolding parts_text
-next_text part parts behind = append_assoc (part_text part) (parts_text parts) behind
+next_text part parts following = append_assoc (part_text part) (parts_text parts) following
 
-pub shown_again : (before : ℕ) (parts : List Part) (behind : List ℕ) → AllByRecursion FitsPart parts → Follows before (kinds_of (attributes_of parts)) → Ended (last_rank before (attributes_of parts)) behind
-    → shown_after before (parts_text parts ++ behind) ≡ attributes_of parts
+pub visible_again : (before : ℕ) (parts : List Part) (following : List ℕ) → AllByRecursion FitsPart parts → Follows before (kinds_of (attributes_of parts)) → Ended (last_rank before (attributes_of parts)) following
+    → visible_after before (parts_text parts ++ following) ≡ attributes_of parts
 unfolding last_rank
-shown_again before [] behind h f e = unfold parts_text in nothing_shown before behind e
-shown_again before (part ∷ parts) behind h f e =
+visible_again before [] following h f e = unfold parts_text in nothing_visible before following e
+visible_again before (part ∷ parts) following h f e =
     let a = part.attribute in
-    let rest = parts_text parts ++ behind in
+    let rest = parts_text parts ++ following in
     let bytes = part_text part ++ rest in
     let follows : may_follow before (rank (kind_at bytes)) ≡ true = ap (λ k. may_follow before (rank k)) (kind_again part rest h.0) ∙ f.0 in
-    let later : shown_after (rank (kind_at bytes)) (drop (size_at bytes) bytes) ≡ attributes_of parts =
-    ap (λ k. shown_after (rank k) (drop (size_at bytes) bytes)) (kind_again part rest h.0) ∙ ap (λ (l : List ℕ). shown_after (rank a.kind) l) (drop_again part rest h.0) ∙ shown_again (rank a.kind) parts behind h.1 f.1 e in
-    ap (λ (l : List ℕ). shown_after before l) (next_text part parts behind) ∙ shown_step before bytes (whole_again part rest h.0) follows
-    ∙ ap (λ (b : Attr). b ∷ shown_after (rank (kind_at bytes)) (drop (size_at bytes) bytes)) (attr_again part rest h.0) ∙ ap (λ (l : List Attr). a ∷ l) later
+    let later : visible_after (rank (kind_at bytes)) (drop (size_at bytes) bytes) ≡ attributes_of parts =
+    ap (λ k. visible_after (rank k) (drop (size_at bytes) bytes)) (kind_again part rest h.0) ∙ ap (λ (l : List ℕ). visible_after (rank a.kind) l) (drop_again part rest h.0) ∙ visible_again (rank a.kind) parts following h.1 f.1 e in
+    ap (λ (l : List ℕ). visible_after before l) (next_text part parts following) ∙ visible_step before bytes (whole_again part rest h.0) follows
+    ∙ ap (λ (b : Attr). b ∷ visible_after (rank (kind_at bytes)) (drop (size_at bytes) bytes)) (attr_again part rest h.0) ∙ ap (λ (l : List Attr). a ∷ l) later
 
 length-parts_text : (parts : List Part) → AllByRecursion FitsPart parts → length (parts_text parts) ≡ sum_by attr_size (attributes_of parts)
 unfolding parts_text
@@ -104,10 +105,10 @@ length-parts_text (part ∷ parts) h =
     let both = length-append (part_text part) (parts_text parts) in
     omega (arith, sum_by-cons attr_size part.attribute (attributes_of parts))
 
-pub behind_again : (parts : List Part) (behind : List ℕ) → AllByRecursion FitsPart parts → shown_after 0 (parts_text parts ++ behind) ≡ attributes_of parts → behind_shown 0 (parts_text parts ++ behind) ≡ behind
-unfolding behind_shown
-behind_again parts behind h shows =
-    ap (λ (l : List Attr). drop (sum_by attr_size l) (parts_text parts ++ behind)) shows ∙ drop_at (parts_text parts) behind (sum_by attr_size (attributes_of parts)) (length-parts_text parts h)
+pub after_again : (parts : List Part) (following : List ℕ) → AllByRecursion FitsPart parts → visible_after 0 (parts_text parts ++ following) ≡ attributes_of parts → after_visible 0 (parts_text parts ++ following) ≡ following
+unfolding after_visible
+after_again parts following h shows =
+    ap (λ (l : List Attr). drop (sum_by attr_size l) (parts_text parts ++ following)) shows ∙ drop_at (parts_text parts) following (sum_by attr_size (attributes_of parts)) (length-parts_text parts h)
 
 -- ---- where the shape is left
 
@@ -121,20 +122,20 @@ unfolding last_rank
 follows_last before [] kind f = f.0
 follows_last before (a ∷ all) kind f = follows_last (rank a.kind) all kind f.1
 
-pub ended_by : (all : List Attr) (behind : List ℕ) → IsShape (kinds_of all) → (behind ≡ []) ⊎ LeavesShape (kinds_of all) behind → Ended (last_rank 0 all) behind
-ended_by all behind shape (inl none) = inl none
-ended_by all behind shape (inr leaves) =
+pub ended_by : (all : List Attr) (following : List ℕ) → IsShape (kinds_of all) → (following ≡ []) ⊎ LeavesShape (kinds_of all) following → Ended (last_rank 0 all) following
+ended_by all following shape (inl none) = inl none
+ended_by all following shape (inr leaves) =
     inr (
       leaves.four,
-      elim (cases_Bool (may_follow (last_rank 0 all) (rank (kind_at behind)))) [
-        | inl h ↦ absurd (leaves.leaves (follows_shape (kinds_of all ++ kind_at behind ∷ []) (follows_more 0 all (kind_at behind) (shape_follows (kinds_of all) shape) h)))
+      elim (cases_Bool (may_follow (last_rank 0 all) (rank (kind_at following)))) [
+        | inl h ↦ absurd (leaves.leaves (follows_shape (kinds_of all ++ kind_at following ∷ []) (follows_more 0 all (kind_at following) (shape_follows (kinds_of all) shape) h)))
         | inr h ↦ h
       ],
     )
 
-pub leaves_by : (all : List Attr) (behind : List ℕ) → Ended (last_rank 0 all) behind → (behind ≡ []) ⊎ LeavesShape (kinds_of all) behind
-leaves_by all behind (inl none) = inl none
-leaves_by all behind (inr more) = inr (record { four = more.0; leaves = λ shape. absurd (let h = follows_last 0 all (kind_at behind) (shape_follows (kinds_of all ++ kind_at behind ∷ []) shape) in let n = more.1 in cc) })
+pub leaves_by : (all : List Attr) (following : List ℕ) → Ended (last_rank 0 all) following → (following ≡ []) ⊎ LeavesShape (kinds_of all) following
+leaves_by all following (inl none) = inl none
+leaves_by all following (inr more) = inr (record { four = more.0; leaves = λ shape. absurd (let h = follows_last 0 all (kind_at following) (shape_follows (kinds_of all ++ kind_at following ∷ []) shape) in let n = more.1 in cc) })
 
 -- ---- the whole message
 
@@ -166,28 +167,28 @@ length_fine kind number body h =
     let all = header_text kind (length body) number ++ body in
     rw (le-ltb (length all) (20 + length_at all) (omega arith), le-ltb (20 + length_at all) (length all) (omega arith)) refl
 
-rest_fine : (before : ℕ) (behind : List ℕ) → Ended before behind → rest_refusal before behind ≡ None
+rest_fine : (before : ℕ) (following : List ℕ) → Ended before following → rest_refusal before following ≡ None
 unfolding rest_refusal
-rest_fine before behind (inl none) = rw none refl
-rest_fine before behind (inr more) = rw (ne_eqb (length behind) 0 (λ e. let four = more.0 in omega arith), le-ltb (length behind) 4 more.0, more.1) refl
+rest_fine before following (inl none) = rw none refl
+rest_fine before following (inr more) = rw (ne_eqb (length following) 0 (λ e. let four = more.0 in omega arith), le-ltb (length following) 4 more.0, more.1) refl
 
 pub text_read : (kind number : ℕ) (all : List Attr) (bytes : List ℕ) → IsTextOf kind number all bytes → AreRightFingerprints bytes (numbered 20 all) → IsReadAs kind number all bytes
-unfolding refusal shown body_refusal shown_rank
+unfolding refusal visible body_refusal visible_rank
 text_read kind number all bytes h right =
-    let body = parts_text h.parts ++ h.behind in
+    let body = parts_text h.parts ++ h.following in
     let follows : Follows 0 (kinds_of (attributes_of h.parts)) = subst (λ (l : List Attr). Follows 0 (kinds_of l)) (sym h.shows) (shape_follows (kinds_of all) h.shape) in
-    let ended : Ended (last_rank 0 (attributes_of h.parts)) h.behind = subst (λ (l : List Attr). Ended (last_rank 0 l) h.behind) (sym h.shows) (ended_by all h.behind h.shape h.ended) in
-    let shows = shown_again 0 h.parts h.behind h.each follows ended in
-    let behind = behind_again h.parts h.behind h.each shows in
-    let header_fine : header_refusal bytes ≡ None = ap header_refusal h.text ∙ header_front kind (length body) number body h.kind_fits in
+    let ended : Ended (last_rank 0 (attributes_of h.parts)) h.following = subst (λ (l : List Attr). Ended (last_rank 0 l) h.following) (sym h.shows) (ended_by all h.following h.shape h.ended) in
+    let shows = visible_again 0 h.parts h.following h.each follows ended in
+    let following = after_again h.parts h.following h.each shows in
+    let header_fine : header_refusal bytes ≡ None = ap header_refusal h.text ∙ header_head kind (length body) number body h.kind_fits in
     let size_fine : length_refusal bytes ≡ None = ap length_refusal h.text ∙ length_fine kind number body h.length_fits in
     let body_is : drop 20 bytes ≡ body = ap (drop 20) h.text ∙ header_drop kind (length body) number body in
-    let shown_is : shown_after 0 (drop 20 bytes) ≡ attributes_of h.parts = ap (shown_after 0) body_is ∙ shows in
-    let right_fine : fingerprint_refusal bytes (numbered 20 (shown_after 0 (drop 20 bytes))) ≡ None = ap (λ (l : List Attr). fingerprint_refusal bytes (numbered 20 l)) (shown_is ∙ h.shows) ∙ not_refused bytes (numbered 20 all) right in
-    let behind_is : behind_shown 0 (drop 20 bytes) ≡ h.behind = ap (behind_shown 0) body_is ∙ behind in
+    let visible_is : visible_after 0 (drop 20 bytes) ≡ attributes_of h.parts = ap (visible_after 0) body_is ∙ shows in
+    let right_fine : fingerprint_refusal bytes (numbered 20 (visible_after 0 (drop 20 bytes))) ≡ None = ap (λ (l : List Attr). fingerprint_refusal bytes (numbered 20 l)) (visible_is ∙ h.shows) ∙ not_refused bytes (numbered 20 all) right in
+    let after_is : after_visible 0 (drop 20 bytes) ≡ h.following = ap (after_visible 0) body_is ∙ following in
     record {
-      message = rw (header_fine, size_fine, right_fine, shown_is, behind_is) (rest_fine (last_rank 0 (attributes_of h.parts)) h.behind ended);
+      message = rw (header_fine, size_fine, right_fine, visible_is, after_is) (rest_fine (last_rank 0 (attributes_of h.parts)) h.following ended);
       kind = ap kind_at h.text ∙ header_kind kind (length body) number body h.kind_fits;
       number = ap number_at h.text ∙ header_number kind (length body) number body h.number_fits;
-      shows = shown_is ∙ h.shows;
+      shows = visible_is ∙ h.shows;
     }

@@ -1,4 +1,4 @@
--- The list of whole attributes at the front of some bytes, one by one.
+-- The list of complete attributes with which some bytes begin, one by one.
 use Rattle.std.proofs.Common.{◌≡◌, ◌⊎◌, ℕ, zero, suc, ◌+◌, ◌<◌, ◌≤◌, true, false, leb, List, [], ◌∷◌, length, take, drop, refl, sym, ap, arith, inl, inr}
 use Rattle.std.proofs.lemmas.Bool.{cases_Bool, and_parts, and_from, and_left, and_right, leb-true, le-leb, lt-leb}
 use Rattle.std.proofs.lemmas.List.{length-drop, length-take}
@@ -20,7 +20,7 @@ none_short zero bytes p = refl
 none_short (suc n) [] p = refl
 none_short (suc n) (b ∷ bytes) p = absurd (omega arith)
 
--- any count that isn't below the length gives them all
+-- Any maximum count that is at least the number of bytes gives all complete attributes.
 enough : (n m : ℕ) (bytes : List ℕ) → length bytes ≤ n → length bytes ≤ m → first_attributes n bytes ≡ first_attributes m bytes
 unfolding first_attributes
 enough zero m bytes p q = sym (none_short m bytes p)
@@ -35,7 +35,7 @@ enough (suc n) (suc m) bytes p q =
       | inr h ↦ rw h refl
     ]
 
--- the first of the attributes, and the others
+-- If bytes begin with a complete attribute, their attributes are that one followed by those of the rest.
 pub attributes_whole : (bytes : List ℕ) → is_whole bytes ≡ true → attributes bytes ≡ attr_at bytes ∷ attributes (drop (size_at bytes) bytes)
 unfolding first_attributes attributes
 attributes_whole [] h = absurd cc
@@ -50,7 +50,8 @@ unfolding first_attributes attributes
 attributes_short [] h = refl
 attributes_short (b ∷ bytes) h = rw h refl
 
--- the value of a whole attribute has the length that it tells, so its size is the one that it tells
+-- The value of a complete attribute has the length in its header, so its encoded length is the one in its
+-- header.
 pub size_whole : (bytes : List ℕ) → is_whole bytes ≡ true → attr_size (attr_at bytes) ≡ size_at bytes
 size_whole bytes h =
     let long = whole_long bytes h in

@@ -1,4 +1,4 @@
--- A message as it is written is read as that message.
+-- A message that a writer writes is decoded as that message.
 use Rattle.std.proofs.Common.{◌≡◌, ℕ, ◌^◌, ◌<◌, List, [], ◌∷◌, ◌++◌, length, replicate, map, refl, sym, ap, ◌∙◌, inl}
 use Rattle.std.specs.List.{AllByRecursion}
 use Rattle.std.proofs.lemmas.List.{append-nil, length-replicate}
@@ -10,7 +10,7 @@ use Rattle.stun_types_wire.specs.MessageReading.{IsReadAs}
 use Rattle.stun_types_wire.proofs.Fingerprints.{written_right}
 use Rattle.stun_types_wire.proofs.Texts.{text_read}
 
--- an attribute with a padding of zeros
+-- An attribute padded with zeros.
 abbrev zero_padded : Attr → Part
 zero_padded a = record { attribute = a; padding = replicate (padding_len (length a.value)) 0 }
 
@@ -34,7 +34,7 @@ written_text kind number all k n fits shape short =
     let body : parts_text (map zero_padded all) ++ [] ≡ body_text all = append-nil (parts_text (map zero_padded all)) ∙ parts_of-text all in
     record {
       parts = map zero_padded all;
-      behind = [];
+      following = [];
       text = ap (λ (l : List ℕ). header_text kind (length l) number ++ l) (sym body);
       kind_fits = k;
       number_fits = n;

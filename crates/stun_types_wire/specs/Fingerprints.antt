@@ -7,11 +7,11 @@ use Rattle.stun_types_wire.specs.Attributes.{Attr}
 use Rattle.stun_types_wire.specs.Registry.{fingerprint_kind, fingerprint_mask, fingerprint_size, header_size}
 use Rattle.stun_types_wire.specs.Covered.{covered_text, with_length}
 
--- the value of the FINGERPRINT of a text: its CRC-32, combined with the letters, in four bytes
+-- The value of a FINGERPRINT over a text: four bytes, the CRC-32 of the text xored with `STUN`.
 unfoldable pub fingerprint_value : List ℕ → List ℕ
 fingerprint_value text = big_bytes 4 (bit_xor (crc32 text) fingerprint_mask)
 
--- the FINGERPRINT of a message with these bytes, to stand at its end
+-- The FINGERPRINT to be added at the end of a message with these bytes.
 unfoldable pub fingerprint_of : List ℕ → Attr
 fingerprint_of bytes = record {
   kind = fingerprint_kind;
@@ -19,11 +19,12 @@ fingerprint_of bytes = record {
       (with_length bytes (length bytes - header_size + fingerprint_size));
 }
 
--- among some attributes is a FINGERPRINT
+-- Whether one of the attributes is a FINGERPRINT.
 abbrev pub shows_fingerprint : List Attr → Bool
 shows_fingerprint all = list_any (λ a. a.kind == fingerprint_kind) all
 
--- an attribute of some bytes, at its offset, is a FINGERPRINT, and not that of what it covers
+-- Whether the attribute at this offset is a FINGERPRINT with another value than that of the bytes that it
+-- covers.
 abbrev pub is_wrong_fingerprint : List ℕ → ℕ × Attr → Bool
 is_wrong_fingerprint bytes entry = entry.1.kind == fingerprint_kind && not
     (bytes_eq entry.1.value (fingerprint_value (covered_text bytes entry.0)))

@@ -1,4 +1,4 @@
--- Which bytes are a message, and why others are refused.
+-- Which bytes are a message, and why others are not.
 use Rattle.std.specs.Prelude.{◌≡◌, ℕ, ◌+◌, Bool, ◌&&◌, ◌==◌, not, nat_lt, nat_eq, List, length, take, drop, slice_index, Option, Some, None, if◌then◌else◌}
 use Rattle.std.specs.Option.{option_or}
 use Rattle.std.specs.List.{starts_with, list_any}
@@ -6,31 +6,32 @@ use Rattle.byteorder.specs.Endian.{big_number}
 use Rattle.stun_types_wire.specs.declared.error.StunParseError.{StunParseError}
 use Rattle.stun_types_wire.specs.declared.error.StunParseError.TheVariants.{NotStun, Truncated, TooLarge, FingerprintMismatch}
 use Rattle.stun_types_wire.specs.Attributes.{Attr, kind_at, length_at, numbered, size_at}
-use Rattle.stun_types_wire.specs.Shape.{rank, may_follow, shown_after, behind_shown, shown_rank}
+use Rattle.stun_types_wire.specs.Shape.{rank, may_follow, visible_after, after_visible, visible_rank}
 use Rattle.stun_types_wire.specs.Fingerprints.{is_wrong_fingerprint}
 use Rattle.stun_types_wire.specs.Registry.{cookie, header_size}
 
 -- ---- the header (RFC 8489, section 5)
 
--- what a header tells: the type, the length of what follows, the number
+-- A decoded header: the message type, the length of what follows the header, and the transaction ID.
 pub record Header : Type 0 where
   pub kind : ℕ
   pub len : ℕ
   pub number : ℕ
 
--- the number of the transaction
+-- The transaction ID in a header.
 unfoldable pub number_at : List ℕ → ℕ
 number_at bytes = big_number 12 (drop 8 bytes)
 
--- what the front of some bytes tells as a header
+-- The header with which some bytes begin.
 abbrev pub header_at : List ℕ → Header
 header_at bytes = record { kind = kind_at bytes; len = length_at bytes; number = number_at bytes }
 
--- the two top bits are 0, and the bytes of the cookie are right, as far as they are there
+-- Whether bytes may be the first bytes of a header: the two top bits are 0, and the magic cookie is right, as
+-- far as there are bytes of it.
 abbrev pub may_begin : List ℕ → Bool
 may_begin bytes = nat_lt (slice_index bytes 0) 0x40 && starts_with nat_eq cookie (take 4 (drop 4 bytes))
 
--- why no header stands at the front
+-- Why bytes don't begin with a header.
 unfoldable pub header_refusal : List ℕ → Option StunParseError
 header_refusal bytes =
     if not (may_begin bytes) then Some NotStun
@@ -39,7 +40,7 @@ header_refusal bytes =
 
 -- ---- the message
 
--- the length in the header is that of what follows
+-- Why the length field in the header is not the number of bytes after the header.
 unfoldable pub length_refusal : List ℕ → Option StunParseError
 length_refusal bytes =
     if nat_lt (length bytes) (header_size + length_at bytes)
@@ -48,13 +49,13 @@ length_refusal bytes =
     then Some (TooLarge (header_size + length_at bytes) (length bytes))
     else None
 
--- among attributes of a message, each with its offset, one is a FINGERPRINT and a wrong one
+-- The refusal if one of the attributes, each given with its offset, is a wrong FINGERPRINT.
 unfoldable pub fingerprint_refusal : List ℕ → List (ℕ × Attr) → Option StunParseError
 fingerprint_refusal bytes entries = if list_any (is_wrong_fingerprint bytes) entries then Some FingerprintMismatch
     else None
 
--- what may stand behind the shown attributes, the last of them of this rank: nothing, or four bytes
--- and more that begin with a type that doesn't continue the shape
+-- Why these bytes may not follow the visible attributes, the last of which has this rank. They may be empty,
+-- or be at least four bytes and begin with a type that breaks the shape.
 unfoldable pub rest_refusal : ℕ → List ℕ → Option StunParseError
 rest_refusal before rest =
     if length rest == 0 then None
@@ -62,20 +63,20 @@ rest_refusal before rest =
     else if may_follow before (rank (kind_at rest)) then Some (Truncated (size_at rest) (length rest))
     else None
 
--- why the bytes behind a header are no attributes of a message
+-- Why the bytes after a header are not the attributes of a message.
 unfoldable pub body_refusal : List ℕ → Option StunParseError
 body_refusal bytes = option_or
-    (fingerprint_refusal bytes (numbered header_size (shown_after 0 (drop header_size bytes))))
-    (rest_refusal (shown_rank 0 (drop header_size bytes)) (behind_shown 0 (drop header_size bytes)))
+    (fingerprint_refusal bytes (numbered header_size (visible_after 0 (drop header_size bytes))))
+    (rest_refusal (visible_rank 0 (drop header_size bytes)) (after_visible 0 (drop header_size bytes)))
 
--- the first refusal, in the order in which they come
+-- The first reason why bytes are not a message.
 unfoldable pub refusal : List ℕ → Option StunParseError
 refusal bytes = option_or (header_refusal bytes) (option_or (length_refusal bytes) (body_refusal bytes))
 
--- bytes that are a message
+-- The bytes are a message.
 abbrev pub IsMessage : List ℕ → Type 0
 IsMessage bytes = refusal bytes ≡ None
 
--- what a message shows
-unfoldable pub shown : List ℕ → List Attr
-shown bytes = shown_after 0 (drop header_size bytes)
+-- The visible attributes of a message.
+unfoldable pub visible : List ℕ → List Attr
+visible bytes = visible_after 0 (drop header_size bytes)

@@ -16,5 +16,5 @@ pub mod Types
 pub mod Fingerprinted
 pub mod Headers
 pub mod MessageReading
--- What stands above this crate has these through it.
+-- Crates that depend on this one use these definitions through it.
 pub use Rattle.stun_types_digest.specs as Digest

@@ -1,26 +1,26 @@
--- The numbers of the protocol, each once: methods, types of attributes, codes of errors, limits and
--- sizes (RFC 8489). `src/registry.rt` has the same numbers for the code.
+-- The numbers of the protocol, for contracts: methods, attribute types, error codes, limits and sizes (RFC
+-- 8489). Each is defined here only. `src/registry.rt` has the same numbers for the code.
 use Rattle.std.specs.Prelude.{ℕ, ◌+◌, List, [], ◌∷◌, take}
 
 -- ---- the header (section 5)
 
--- the four bytes of the cookie
+-- The four bytes of the magic cookie.
 abbrev pub cookie : List ℕ
 cookie = 0x21 ∷ 0x12 ∷ 0xA4 ∷ 0x42 ∷ []
 
--- its first half, with which a port is xored (section 14.2)
-abbrev pub cookie_front : List ℕ
-cookie_front = take 2 cookie
+-- The first half of the magic cookie, with which a port is xored (section 14.2).
+abbrev pub cookie_head : List ℕ
+cookie_head = take 2 cookie
 
--- how many bytes a header has
+-- The length of a header in bytes.
 abbrev pub header_size : ℕ
 header_size = 20
 
--- how many bytes follow a header at most: the length field has sixteen bits
+-- The maximum number of bytes after a header: the length field has sixteen bits.
 abbrev pub greatest_data : ℕ
 greatest_data = 65_535
 
--- how many bytes a message has at most
+-- The maximum length of a message in bytes.
 abbrev pub greatest_size : ℕ
 greatest_size = header_size + greatest_data
 
@@ -32,7 +32,7 @@ binding_method = 0x001
 
 -- ---- types of attributes (section 18.3)
 
--- the first type that a receiver need not understand (section 14)
+-- The first comprehension-optional type: a receiver need not understand it (section 14).
 abbrev pub first_optional_kind : ℕ
 first_optional_kind = 0x8000
 
@@ -64,7 +64,7 @@ nonce_kind = 0x0015
 abbrev pub sha256_kind : ℕ
 sha256_kind = 0x001C
 
--- MESSAGE-INTEGRITY-SHA512, which is this project's: no RFC has it
+-- MESSAGE-INTEGRITY-SHA512, an extension of this project that no RFC defines.
 abbrev pub sha512_kind : ℕ
 sha512_kind = 0x3F12
 
@@ -102,168 +102,168 @@ fingerprint_kind = 0x8028
 
 -- ---- codes of errors (section 18.4; RFC 8656, section 19; RFC 6062, section 6.3; RFC 8445, section 16.2)
 
--- the least code
+-- The least error code.
 abbrev pub least_code : ℕ
 least_code = 300
 
--- the greatest code
+-- The greatest error code.
 abbrev pub greatest_code : ℕ
 greatest_code = 699
 
--- the client should try another server
+-- The client should try another server.
 abbrev pub try_alternate_code : ℕ
 try_alternate_code = 300
 
--- the request is malformed
+-- The request is malformed.
 abbrev pub bad_request_code : ℕ
 bad_request_code = 400
 
--- the request lacks the right credentials
+-- The request lacks the right credentials.
 abbrev pub unauthorized_code : ℕ
 unauthorized_code = 401
 
--- the request is right, and not allowed
+-- The request is valid but not permitted.
 abbrev pub forbidden_code : ℕ
 forbidden_code = 403
 
--- the request has an attribute that has to be understood, and is not
+-- The request has a comprehension-required attribute that the server does not understand.
 abbrev pub unknown_attribute_code : ℕ
 unknown_attribute_code = 420
 
--- there is no allocation where one is needed, or the other way round
+-- There is no allocation where one is needed, or there is one where none may be.
 abbrev pub allocation_mismatch_code : ℕ
 allocation_mismatch_code = 437
 
--- the nonce is no longer valid
+-- The nonce is no longer valid.
 abbrev pub stale_nonce_code : ℕ
 stale_nonce_code = 438
 
--- the server has no addresses of the family
+-- The server has no addresses of the requested family.
 abbrev pub family_not_supported_code : ℕ
 family_not_supported_code = 440
 
--- the credentials are not those of the allocation
+-- The credentials are not those of the allocation.
 abbrev pub wrong_credentials_code : ℕ
 wrong_credentials_code = 441
 
--- the transport is not supported
+-- The requested transport is not supported.
 abbrev pub unsupported_transport_code : ℕ
 unsupported_transport_code = 442
 
--- the peer is of another family than the allocation
+-- The peer is of another family than the allocation.
 abbrev pub family_mismatch_code : ℕ
 family_mismatch_code = 443
 
--- there is a connection to the peer already
+-- There already is a connection to the peer.
 abbrev pub connection_exists_code : ℕ
 connection_exists_code = 446
 
--- the connection to the peer failed
+-- The connection to the peer failed.
 abbrev pub connection_failure_code : ℕ
 connection_failure_code = 447
 
--- the user has as many allocations as are allowed
+-- The user has as many allocations as the server permits.
 abbrev pub quota_reached_code : ℕ
 quota_reached_code = 486
 
--- both ICE agents have one role
+-- Both ICE agents have the same role.
 abbrev pub role_conflict_code : ℕ
 role_conflict_code = 487
 
--- the server failed
+-- The server failed.
 abbrev pub server_error_code : ℕ
 server_error_code = 500
 
--- the server lacks what the request needs
+-- The server lacks the capacity for the request.
 abbrev pub insufficient_capacity_code : ℕ
 insufficient_capacity_code = 508
 
 -- ---- limits and sizes, in bytes where nothing else is said
 
--- how many bytes a USERNAME has at most (section 14.3)
+-- The maximum length of a USERNAME in bytes (section 14.3).
 abbrev pub longest_username : ℕ
 longest_username = 513
 
--- how many bytes a REALM, a NONCE or a reason has at most (sections 14.8 to 14.10)
+-- The maximum length of a REALM, a NONCE or a reason phrase in bytes (sections 14.8 to 14.10).
 abbrev pub longest_text : ℕ
 longest_text = 763
 
--- how many bytes a SOFTWARE has at most (section 14.14)
+-- The maximum length of a SOFTWARE in bytes (section 14.14).
 abbrev pub longest_software : ℕ
 longest_software = 763
 
--- how many bytes an ALTERNATE-DOMAIN has at most (section 14.16)
+-- The maximum length of an ALTERNATE-DOMAIN in bytes (section 14.16).
 abbrev pub longest_domain : ℕ
 longest_domain = 255
 
--- how many bytes a value has at most: its length has sixteen bits (section 14)
+-- The maximum length of a value in bytes: its length field has sixteen bits (section 14).
 abbrev pub longest_value : ℕ
 longest_value = 65_535
 
--- how many bytes a USERHASH has (section 14.4)
+-- The length of a USERHASH in bytes (section 14.4).
 abbrev pub userhash_length : ℕ
 userhash_length = 32
 
--- how many bytes an HMAC-SHA1 has (section 14.5)
+-- The length of an HMAC-SHA1 in bytes (section 14.5).
 abbrev pub sha1_length : ℕ
 sha1_length = 20
 
--- how many bytes an HMAC-SHA256 has (section 14.6)
+-- The length of an HMAC-SHA256 in bytes (section 14.6).
 abbrev pub sha256_length : ℕ
 sha256_length = 32
 
--- how many bytes of an HMAC-SHA256 are left at least where it is cut short (section 14.6)
+-- The minimum length of a truncated HMAC-SHA256 in bytes (section 14.6).
 abbrev pub least_sha256_length : ℕ
 least_sha256_length = 16
 
--- how many bytes an HMAC-SHA512 has
+-- The length of an HMAC-SHA512 in bytes.
 abbrev pub sha512_length : ℕ
 sha512_length = 64
 
--- how many bytes of an HMAC-SHA512 are left at least where it is cut short
+-- The minimum length of a truncated HMAC-SHA512 in bytes.
 abbrev pub least_sha512_length : ℕ
 least_sha512_length = 16
 
--- how many algorithms a PASSWORD-ALGORITHMS has at most here, where the RFC sets no limit
+-- The maximum number of algorithms in a PASSWORD-ALGORITHMS. The RFC sets no limit; this library does.
 abbrev pub most_algorithms : ℕ
 most_algorithms = 8
 
--- how many bytes a whole FINGERPRINT has, header and value (section 14.7)
+-- The length of a complete FINGERPRINT in bytes, header and value (section 14.7).
 abbrev pub fingerprint_size : ℕ
 fingerprint_size = 8
 
--- what the CRC-32 of a FINGERPRINT is combined with: STUN in letters (section 14.7)
+-- The number with which the CRC-32 of a FINGERPRINT is xored: `STUN` in ASCII (section 14.7).
 abbrev pub fingerprint_mask : ℕ
 fingerprint_mask = 0x5354_554E
 
 -- ---- families of addresses (section 14.1)
 
--- the number of IPv4
+-- The family number of IPv4.
 abbrev pub ipv4_family : ℕ
 ipv4_family = 1
 
--- the number of IPv6
+-- The family number of IPv6.
 abbrev pub ipv6_family : ℕ
 ipv6_family = 2
 
--- how many bytes the value of an address of IPv4 has
+-- The length of the value that holds an IPv4 address, in bytes.
 abbrev pub ipv4_value_size : ℕ
 ipv4_value_size = 8
 
--- how many bytes the value of an address of IPv6 has
+-- The length of the value that holds an IPv6 address, in bytes.
 abbrev pub ipv6_value_size : ℕ
 ipv6_value_size = 20
 
 -- ---- password algorithms (section 18.5)
 
--- the number of MD5
+-- The number of MD5.
 abbrev pub md5_number : ℕ
 md5_number = 1
 
--- the number of SHA-256
+-- The number of SHA-256.
 abbrev pub sha256_number : ℕ
 sha256_number = 2
 
--- the number of SHA-512, which is this project's: no RFC has it
+-- The number of SHA-512, an extension of this project that no RFC defines.
 abbrev pub sha512_number : ℕ
 sha512_number = 0xFF12

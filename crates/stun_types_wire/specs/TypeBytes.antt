@@ -1,9 +1,9 @@
--- Which bytes begin with the type of a message.
+-- Which bytes begin with a message type.
 use Rattle.std.specs.Prelude.{ℕ, nat_lt, List, length, slice_index, Option, Some, None, if◌then◌else◌}
 use Rattle.stun_types_wire.specs.declared.error.StunParseError.{StunParseError}
 use Rattle.stun_types_wire.specs.declared.error.StunParseError.TheVariants.{NotStun, Truncated}
 
--- why no type stands at the front: a top bit is set, or there are fewer than two bytes
+-- Why bytes don't begin with a message type: a top bit is set, or there are fewer than two bytes.
 abbrev pub type_refusal : List ℕ → Option StunParseError
 type_refusal bytes =
     if nat_lt 63 (slice_index bytes 0) then Some NotStun

@@ -1,4 +1,4 @@
-//! Attributes as they stand on the wire: a type, and a value of bytes (RFC 8489, section 14).
+//! Attributes as encoded on the wire: a type, and a value of bytes (RFC 8489, section 14).
 
 ghost use Rattle.std.specs.Prelude.{◌≡◌, ◌+◌, ◌<◌, ◌^◌, ◌++◌, length, IfOk, MatchResult, None, Some, nat_lt};
 ghost use Rattle.std.specs.Box.{boxed_slice_items};
@@ -19,26 +19,27 @@ use std::ops::Bound;
 use stun_types_base::data::Data;
 use stun_types_base::memory::NoMemory;
 
-/// The type of an attribute. The field is public so that constants of types are literals.
+/// An attribute type. The field is public so that constants can be written as literals.
 #[derive(Clone, Copy, Debug, PartialEq, Eq)]
 pub struct AttributeType(pub u16);
 
 impl AttributeType {
-    /// The type of a number.
+    /// Makes an attribute type of its number.
     pub fn new(value: u16) -> AttributeType
         ensures { result.0 ≡ value }
     {
         AttributeType(value)
     }
 
-    /// The number of the type.
+    /// Returns the number of the type.
     pub fn value(self) -> u16
         ensures { result ≡ self.0 }
     {
         self.0
     }
 
-    /// Whether a receiver has to understand the attribute (RFC 8489, section 14).
+    /// Returns whether the attribute is comprehension-required: a receiver has to understand it
+    /// (RFC 8489, section 14).
     pub fn comprehension_required(self) -> bool
         ensures { result ≡ nat_lt self.0 first_optional_kind }
     {
@@ -62,7 +63,7 @@ impl From<AttributeType> for u16 {
     }
 }
 
-/// The least multiple of four that isn't below a length in bytes.
+/// Rounds a length in bytes up to a multiple of four.
 pub fn pad_attribute_len(len: usize) -> usize
     requires { len + 3 < 2 ^ 64 }
     ensures value { result ≡ padded len }
@@ -85,18 +86,21 @@ impl Model for AttributeHeader {
 
     ghost view = { λ header. record { kind = header.atype.0; len = header.length } };
 
-    ghost inverse = { λ told. record { atype = record { 0 = told.kind }; length = told.len } };
+    ghost inverse = { λ decoded. record {
+      atype = record { 0 = decoded.kind };
+      length = decoded.len;
+    } };
 }
 
 impl AttributeHeader {
-    /// The type of the attribute.
+    /// Returns the type of the attribute.
     pub fn get_type(self) -> AttributeType
         ensures { result.0 ≡ self.kind }
     {
         self.atype
     }
 
-    /// The length of the value in bytes.
+    /// Returns the length of the value in bytes.
     pub fn length(self) -> u16
         ensures { result ≡ self.len }
     {
@@ -104,7 +108,7 @@ impl AttributeHeader {
     }
 }
 
-/// The header in the first four bytes. Refused with `Truncated` where there are fewer.
+/// Decodes the header from the first four bytes. Fails with `Truncated` if there are fewer.
 impl<'a> TryFrom<&'a [u8]> for AttributeHeader {
     ghost use Rattle.std.specs.Prelude.{◌≡◌, MatchResult, Some, None};
     ghost use Rattle.stun_types_wire.specs.Attributes.{attr_header_at};
@@ -124,15 +128,15 @@ impl<'a> TryFrom<&'a [u8]> for AttributeHeader {
                 actual: value.len(),
             });
         }
-        let (_, behind_type) = value.split_at(2);
+        let (_, after_type) = value.split_at(2);
         Ok(AttributeHeader {
             atype: AttributeType(BigEndian::read_u16(value)),
-            length: BigEndian::read_u16(behind_type),
+            length: BigEndian::read_u16(after_type),
         })
     }
 }
 
-/// The four bytes, type first.
+/// Encodes the header in four bytes, the type first.
 impl From<AttributeHeader> for [u8; 4] {
     ghost use Rattle.std.specs.Prelude.{◌≡◌, ◌++◌};
     ghost use Rattle.byteorder.specs.Endian.{big_bytes};
@@ -147,8 +151,8 @@ impl From<AttributeHeader> for [u8; 4] {
     }
 }
 
-/// An attribute as it stands on the wire: a type, and a value of at most 65,535 bytes, borrowed or
-/// owned.
+/// An attribute as encoded on the wire: a type, and a value of at most 65,535 bytes. The value is
+/// borrowed or owned.
 #[derive(Debug, Drop)]
 pub struct RawAttribute<'a> {
     atype: AttributeType,
@@ -169,7 +173,7 @@ impl<'a> Model for RawAttribute<'a> {
 }
 
 impl<'a> RawAttribute<'a> {
-    /// An attribute over borrowed bytes, at most 65,535 of them.
+    /// Makes an attribute of a borrowed value of at most 65,535 bytes.
     pub fn new(atype: AttributeType, value: &'a [u8]) -> RawAttribute<'a>
         requires { length value.now < 2 ^ 16 }
         ensures kind { result.kind ≡ atype.0 }
@@ -181,7 +185,7 @@ impl<'a> RawAttribute<'a> {
         }
     }
 
-    /// An attribute over owned bytes, at most 65,535 of them.
+    /// Makes an attribute of an owned value of at most 65,535 bytes.
     pub fn new_owned(atype: AttributeType, value: BoxedSlice<u8>) -> RawAttribute<'a>
         requires { length (boxed_slice_items value) < 2 ^ 16 }
         ensures kind { result.kind ≡ atype.0 }
@@ -193,9 +197,11 @@ impl<'a> RawAttribute<'a> {
         }
     }
 
-    /// The attribute at the front of some bytes; what follows its value, padding too, is not looked
-    /// at. Refused with `Truncated` where there are fewer than four bytes, or fewer than four and
-    /// those of the value.
+    /// Decodes the attribute that begins at the first byte. The bytes after its value, padding
+    /// included, are ignored.
+    ///
+    /// Fails with `Truncated` if there are fewer than four bytes, or fewer than four plus the
+    /// length of the value.
     #[tactic(auto, unfolding(crate::specs::RawBytes::attribute_refusal))]
     pub fn from_bytes(bytes: &'a [u8]) -> Result<RawAttribute<'a>, StunParseError>
         ensures { MatchResult result (λ raw. (attribute_refusal bytes.now ≡ None)
@@ -203,25 +209,25 @@ impl<'a> RawAttribute<'a> {
     {
         let header = AttributeHeader::try_from(bytes)?;
         let length = header.length() as usize;
-        let (_, behind_header) = bytes.split_at(4);
-        if behind_header.len() < length {
+        let (_, after_header) = bytes.split_at(4);
+        if after_header.len() < length {
             return Err(StunParseError::Truncated {
                 expected: 4 + length,
                 actual: bytes.len(),
             });
         }
-        let (value, _) = behind_header.split_at(length);
+        let (value, _) = after_header.split_at(length);
         Ok(RawAttribute::new(header.get_type(), value))
     }
 
-    /// The type.
+    /// Returns the type.
     pub fn get_type(&self) -> AttributeType
         ensures { result.0 ≡ self.now.kind }
     {
         self.atype
     }
 
-    /// The bytes of the value.
+    /// Returns the bytes of the value.
     pub fn value(&self) -> &[u8]
         ensures value { result.now ≡ self.now.value }
         ensures short { length result.now < 2 ^ 16 }
@@ -229,15 +235,15 @@ impl<'a> RawAttribute<'a> {
         self.value.as_slice()
     }
 
-    /// The length of the value in bytes, without padding.
+    /// Returns the length of the value in bytes, without padding.
     pub fn length(&self) -> u16
         ensures { result ≡ length self.now.value }
     {
         self.value.as_slice().len() as u16
     }
 
-    /// The attribute as it is written: type, length, value, and zeros to a multiple of four. Where
-    /// memory is refused, `NoMemory`.
+    /// Encodes the attribute: type, length, value, and zeros up to a multiple of four bytes. Fails
+    /// only with `NoMemory`, if an allocation fails.
     #[tactic(auto, unfolding(crate::specs::Text::attribute_text, crate::specs::Text::padded_text))]
     pub fn to_bytes(&self, alloc: Global) -> Result<Vec<u8>, NoMemory>
         ensures { IfOk result (λ bytes. bytes.items ≡ attribute_text self.now) }
@@ -255,9 +261,16 @@ impl<'a> RawAttribute<'a> {
         Ok(bytes)
     }
 
-    /// Whether the attribute has this type, and a value of a length between two bounds. Refused, in
-    /// this order: `WrongAttributeImplementation` where it has another type, `Truncated` with the
-    /// least length where it is shorter, `TooLarge` with the greatest where it is longer.
+    /// Checks that the attribute has this type and that the length of its value is within two
+    /// bounds.
+    ///
+    /// # Errors
+    ///
+    /// In this order:
+    ///
+    /// - `WrongAttributeImplementation`: the type is another one.
+    /// - `Truncated`, with the least permitted length: the value is shorter.
+    /// - `TooLarge`, with the greatest permitted length: the value is longer.
     #[tactic(auto, unfolding(crate::specs::RawBytes::type_and_len_refusal))]
     pub fn check_type_and_len(
         &self,
@@ -276,7 +289,8 @@ impl<'a> RawAttribute<'a> {
         check_most(len, most)
     }
 
-    /// The same attribute over bytes of its own. Where memory is refused, `NoMemory`.
+    /// Returns the same attribute with an owned value. Fails only with `NoMemory`, if an allocation
+    /// fails.
     pub fn into_owned<'b>(self, alloc: Global) -> Result<RawAttribute<'b>, NoMemory>
         ensures { IfOk result (λ owned. owned ≡ self.entry) }
     {
@@ -286,7 +300,7 @@ impl<'a> RawAttribute<'a> {
     }
 }
 
-/// Whether a length is not below a bound.
+/// Fails with `Truncated` if a length is below the lower bound.
 fn check_least(len: usize, least: Bound<usize>) -> Result<(), StunParseError>
     ensures { MatchResult result (λ _. below_refusal least len ≡ None)
         (λ error. below_refusal least len ≡ Some error) }
@@ -304,7 +318,7 @@ fn check_least(len: usize, least: Bound<usize>) -> Result<(), StunParseError>
     }
 }
 
-/// Whether a length is not above a bound.
+/// Fails with `TooLarge` if a length is above the upper bound.
 fn check_most(len: usize, most: Bound<usize>) -> Result<(), StunParseError>
     ensures { MatchResult result (λ _. above_refusal most len ≡ None)
         (λ error. above_refusal most len ≡ Some error) }

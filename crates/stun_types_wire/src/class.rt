@@ -1,4 +1,4 @@
-//! Methods, classes and the types of messages (RFC 8489, section 5).
+//! Methods, classes and message types (RFC 8489, section 5).
 
 ghost use Rattle.std.specs.Prelude.{◌≡◌, ◌<◌, ◌≤◌, ◌^◌, ◌++◌, IsTrue, ◌↔◌, length, drop, MatchResult, Some, None, IfOk};
 ghost use Rattle.byteorder.specs.Endian.{big_bytes, big_number};
@@ -12,20 +12,20 @@ use std::convert::TryFrom;
 use std::marker::Model;
 use stun_types_base::memory::NoMemory;
 
-/// A method: what a message is about. It has twelve bits on the wire. The field is public so that
-/// constants of methods are literals.
+/// A method: the operation that a message is about, such as BINDING. It has twelve bits on the
+/// wire. The field is public so that constants can be written as literals.
 #[derive(Clone, Copy, Debug, PartialEq, Eq)]
 pub struct Method(pub u16);
 
 impl Method {
-    /// The method of a number.
+    /// Makes a method of its number.
     pub fn new(value: u16) -> Method
         ensures { result.0 ≡ value }
     {
         Method(value)
     }
 
-    /// The number of the method.
+    /// Returns the number of the method.
     pub fn value(self) -> u16
         ensures { result ≡ self.0 }
     {
@@ -33,21 +33,21 @@ impl Method {
     }
 }
 
-/// What part a message has in an exchange.
+/// The role of a message in an exchange.
 #[derive(Clone, Copy, Debug, PartialEq, Eq)]
 pub enum MessageClass {
-    /// It asks for a response.
+    /// Requests a response.
     Request,
-    /// It asks for nothing.
+    /// Requests no response.
     Indication,
-    /// It answers a request that was granted.
+    /// Responds to a request that the server granted.
     Success,
-    /// It answers a request that was refused.
+    /// Responds to a request that the server rejected.
     Error,
 }
 
 impl MessageClass {
-    /// Whether messages of this class answer a request.
+    /// Returns whether messages of this class are responses.
     pub fn is_response(self) -> bool
         ensures { result ≡ is_response_class self }
     {
@@ -73,8 +73,8 @@ impl MessageClass {
     }
 }
 
-/// The type of a message: a class and a method, of fourteen bits. Contracts see the number that
-/// stands in the header.
+/// A message type: a class and a method, in fourteen bits. Contracts see it as the number that the
+/// header encodes.
 #[derive(Clone, Copy, Debug, PartialEq, Eq)]
 pub struct MessageType {
     value: u16,
@@ -93,7 +93,7 @@ impl Model for MessageType {
 }
 
 impl MessageType {
-    /// The type of a class and a method. The method has twelve bits at most.
+    /// Makes the message type of a class and a method. The method must be below 2^12.
     pub fn from_class_method(class: MessageClass, method: Method) -> MessageType
         requires { method.0 < 2 ^ 12 }
         ensures value { result ≡ type_of class method.0 }
@@ -106,7 +106,7 @@ impl MessageType {
         MessageType { value }
     }
 
-    /// The number that stands in the header, below 2^14.
+    /// Returns the number that the header encodes. It is below 2^14.
     pub fn value(self) -> u16
         ensures value { result ≡ self }
         ensures short { result < 2 ^ 14 }
@@ -114,7 +114,7 @@ impl MessageType {
         self.value
     }
 
-    /// The class.
+    /// Returns the class.
     pub fn class(self) -> MessageClass
         ensures { result ≡ class_of self }
     {
@@ -128,21 +128,21 @@ impl MessageType {
         }
     }
 
-    /// Whether this is the class.
+    /// Returns whether the class is this one.
     pub fn has_class(self, class: MessageClass) -> bool
         ensures { IsTrue result ↔ (class_of self ≡ class) }
     {
         self.class() == class
     }
 
-    /// Whether messages of this type answer a request.
+    /// Returns whether messages of this type are responses.
     pub fn is_response(self) -> bool
         ensures { result ≡ is_response_class (class_of self) }
     {
         self.class().is_response()
     }
 
-    /// The method, of twelve bits.
+    /// Returns the method, below 2^12.
     pub fn method(self) -> Method
         ensures value { result.0 ≡ method_of self }
         ensures short { result.0 < 2 ^ 12 }
@@ -150,14 +150,15 @@ impl MessageType {
         Method(self.value % 16 + self.value / 0x20 % 8 * 16 + self.value / 0x200 * 128)
     }
 
-    /// Whether this is the method.
+    /// Returns whether the method is this one.
     pub fn has_method(self, method: Method) -> bool
         ensures { IsTrue result ↔ (method_of self ≡ method.0) }
     {
         self.method() == method
     }
 
-    /// Writes the two bytes of the type to the front, and leaves the others.
+    /// Writes the two bytes of the type to the first two bytes of `dest`. The other bytes are
+    /// unchanged.
     pub fn write_into(self, dest: &mut [u8])
         requires { 2 ≤ length dest.old }
         ensures { dest.new ≡ big_bytes 2 self ++ drop 2 dest.old }
@@ -165,15 +166,21 @@ impl MessageType {
         BigEndian::write_u16(dest, self.value);
     }
 
-    /// The two bytes of the type.
+    /// Encodes the type in two bytes. Fails only with `NoMemory`, if an allocation fails.
     pub fn to_bytes(self, alloc: Global) -> Result<Vec<u8>, NoMemory>
         ensures { IfOk result (λ bytes. bytes.items ≡ big_bytes 2 self) }
     {
         Ok(Vec::from_slice(alloc, &self.value.to_be_bytes())?)
     }
 
-    /// The type in the first two bytes. Refused, in this order: `NotStun` where one of the two top
-    /// bits is set, `Truncated` where there are fewer than two bytes.
+    /// Decodes the type from the first two bytes.
+    ///
+    /// # Errors
+    ///
+    /// In this order:
+    ///
+    /// - `NotStun`: one of the two top bits is set.
+    /// - `Truncated`: there are fewer than two bytes.
     pub fn from_bytes(bytes: &[u8]) -> Result<MessageType, StunParseError>
         ensures { MatchResult result (λ kind. (type_refusal bytes.now ≡ None)
             × (kind ≡ big_number 2 bytes.now)) (λ error. type_refusal bytes.now ≡ Some error) }
@@ -195,7 +202,7 @@ impl MessageType {
     }
 }
 
-/// The same as `from_bytes`.
+/// Decodes the type as `from_bytes` does.
 impl<'a> TryFrom<&'a [u8]> for MessageType {
     ghost use Rattle.std.specs.Prelude.{◌≡◌, MatchResult, Some, None};
     ghost use Rattle.byteorder.specs.Endian.{big_number};

@@ -1,4 +1,4 @@
-//! Why bytes are refused, why a message is not written, and why it is not validated.
+//! Errors of decoding bytes, of writing a message, and of validating it.
 
 ghost use Rattle.std.specs.Prelude.{◌≡◌};
 
@@ -7,79 +7,80 @@ use std::alloc::AllocError;
 use stun_types_base::memory::NoMemory;
 use thiserror::Error;
 
-/// Why bytes are no message, no header, or not the attribute that was asked for.
+/// Why bytes are not a message, not a header, or not the requested attribute.
 #[derive(Clone, Copy, Debug, PartialEq, Eq, Error)]
 pub enum StunParseError {
-    /// The bytes are no STUN: a top bit of the first byte is set, or the cookie is wrong
-    /// (RFC 8489, section 5).
+    /// The bytes are not STUN: one of the two top bits of the first byte is set, or the magic
+    /// cookie is wrong (RFC 8489, section 5).
     #[error("The provided data is not a STUN message")]
     NotStun,
-    /// There are fewer bytes than are needed.
+    /// There are too few bytes.
     #[error("Not enough data available to parse the packet, expected {expected}, actual {actual}")]
     Truncated {
-        /// How many bytes are needed.
+        /// The number of bytes that are needed.
         expected: usize,
-        /// How many there are.
+        /// The number of bytes there are.
         actual: usize,
     },
-    /// There are more bytes than belong here.
+    /// There are too many bytes.
     #[error("Too much data to parse, expected {expected}, actual {actual}")]
     TooLarge {
-        /// How many bytes belong here at most.
+        /// The maximum number of bytes.
         expected: usize,
-        /// How many there are.
+        /// The number of bytes there are.
         actual: usize,
     },
-    /// The message shows no attribute of this type.
+    /// The message has no visible attribute of this type.
     #[error("Missing attribute of type {}", .0.0)]
     MissingAttribute(AttributeType),
-    /// An attribute stands after the integrity. No call answers this: such an attribute is not shown
-    /// (RFC 8489, section 14.5).
+    /// An attribute follows the integrity attribute. No call returns this error: a message doesn't
+    /// show such an attribute (RFC 8489, section 14.5).
     #[error("An attribute of type {} was found after the integrity", .0.0)]
     AttributeAfterIntegrity(AttributeType),
     /// The FINGERPRINT doesn't match the bytes before it (RFC 8489, section 14.7).
     #[error("The fingerprint does not match the data")]
     FingerprintMismatch,
-    /// The attribute has another type than the one asked for.
+    /// The attribute's type is not the requested one.
     #[error("The attribute has another type than its implementation")]
     WrongAttributeImplementation,
-    /// The value of the attribute is not one that its type has.
+    /// The value is not valid for the attribute's type.
     #[error("The attribute contains invalid data")]
     InvalidAttributeData,
-    /// Memory was refused.
+    /// An allocation failed.
     #[error("no memory")]
     NoMemory,
 }
 
-/// Why nothing is added to a message.
+/// Why something can't be added to a message.
 #[derive(Clone, Copy, Debug, PartialEq, Eq, Error)]
 pub enum StunWriteError {
-    /// The message has an attribute of this type, which it may have once.
+    /// The message already has an attribute of this type, and may have only one.
     #[error("An attribute of type {} is already in the message", .0.0)]
     AttributeExists(AttributeType),
-    /// The message ends in a FINGERPRINT, after which nothing is added.
+    /// The message ends with a FINGERPRINT, after which nothing may be added.
     #[error("The message has a fingerprint already")]
     FingerprintExists,
-    /// The message has an integrity attribute, after which this is not added.
+    /// The message has an integrity attribute, after which this attribute may not be added.
     #[error("The message has an integrity attribute already")]
     MessageIntegrityExists,
-    /// The value, or the message, would be longer than its length field or its type allows.
+    /// The value or the message would be longer than its length field or its type permits.
     #[error("Too much data, expected at most {expected}, actual {actual}")]
     TooLarge {
-        /// How many bytes there may be at most.
+        /// The maximum number of bytes.
         expected: usize,
-        /// How many there would be.
+        /// The number of bytes there would be.
         actual: usize,
     },
-    /// The bytes to write into are too few.
+    /// The buffer to write to is too small.
     #[error("Not enough space, expected {expected}, actual {actual}")]
     TooSmall {
-        /// How many bytes are needed.
+        /// The number of bytes that are needed.
         expected: usize,
-        /// How many there are.
+        /// The number of bytes there are.
         actual: usize,
     },
-    /// The integrity can't be made, as with a key for another algorithm.
+    /// The integrity attribute can't be computed, for example because the key is for another
+    /// algorithm.
     #[error("The integrity could not be made")]
     IntegrityFailed,
     /// A number is outside its range.
@@ -87,23 +88,23 @@ pub enum StunWriteError {
     OutOfRange {
         /// The number.
         value: usize,
-        /// The least that is allowed.
+        /// The least permitted number.
         min: usize,
-        /// The greatest that is allowed.
+        /// The greatest permitted number.
         max: usize,
     },
-    /// Memory was refused.
+    /// An allocation failed.
     #[error("no memory")]
     NoMemory,
 }
 
-/// Why the integrity of a message is not as it should be.
+/// Why the integrity of a message doesn't validate.
 #[derive(Clone, Copy, Debug, PartialEq, Eq, Error)]
 pub enum ValidateError {
-    /// The message shows no integrity attribute, or one of unlawful length.
+    /// The message has no visible integrity attribute, or one of invalid length.
     #[error("{0}")]
     Parse(StunParseError),
-    /// The digest is not that of the message under the key.
+    /// The HMAC is not that of the message under the key.
     #[error("The integrity of the message does not hold")]
     IntegrityFailed,
 }

@@ -11,8 +11,8 @@ use crate::transaction::TransactionId;
 use byteorder::{BigEndian, ByteOrder};
 use std::marker::Model;
 
-/// The header of a message: its type, the length of what follows it, and the number of its
-/// transaction.
+/// The header of a message: its type, the length of what follows the header, and the transaction
+/// ID.
 #[derive(Clone, Copy, Debug, PartialEq, Eq)]
 pub struct MessageHeader {
     mtype: MessageType,
@@ -28,15 +28,15 @@ impl Model for MessageHeader {
     ghost view = { λ header.
         record { kind = header.mtype; len = header.length; number = header.transaction_id } };
 
-    ghost inverse = { λ told.
-        record { mtype = told.kind; length = told.len; transaction_id = told.number } };
+    ghost inverse = { λ decoded.
+        record { mtype = decoded.kind; length = decoded.len; transaction_id = decoded.number } };
 }
 
 impl MessageHeader {
-    /// How many bytes a header has.
+    /// The length of a header in bytes.
     pub const LENGTH: usize = HEADER_LENGTH;
 
-    /// A header of these three.
+    /// Makes a header of a message type, a length and a transaction ID.
     pub fn new(mtype: MessageType, length: u16, transaction_id: TransactionId) -> MessageHeader
         ensures kind { result.kind ≡ mtype }
         ensures len { result.len ≡ length }
@@ -49,9 +49,14 @@ impl MessageHeader {
         }
     }
 
-    /// The header in the first twenty bytes; what follows them is not looked at. Refused, in this
-    /// order: `NotStun` where no continuation of the bytes is a header, `Truncated` where there are
-    /// fewer than twenty.
+    /// Decodes the header from the first twenty bytes. The bytes after them are ignored.
+    ///
+    /// # Errors
+    ///
+    /// In this order:
+    ///
+    /// - `NotStun`: no header begins with these bytes.
+    /// - `Truncated`: there are fewer than twenty bytes.
     #[tactic(auto, unfolding(crate::proofs::Headers::headers))]
     pub fn from_bytes(bytes: &[u8]) -> Result<MessageHeader, StunParseError>
         ensures { MatchResult result (λ header. (header_refusal bytes.now ≡ None)
@@ -67,16 +72,16 @@ impl MessageHeader {
             });
         }
         let mtype = MessageType::from_bytes(bytes)?;
-        let (_, behind_type) = bytes.split_at(2);
-        let (_, behind_cookie) = bytes.split_at(8);
+        let (_, after_type) = bytes.split_at(2);
+        let (_, after_cookie) = bytes.split_at(8);
         Ok(MessageHeader {
             mtype,
-            length: BigEndian::read_u16(behind_type),
-            transaction_id: TransactionId::from(BigEndian::read_uint128(behind_cookie, 12)),
+            length: BigEndian::read_u16(after_type),
+            transaction_id: TransactionId::from(BigEndian::read_uint128(after_cookie, 12)),
         })
     }
 
-    /// The twenty bytes of the header.
+    /// Encodes the header in twenty bytes.
     #[tactic(auto, unfolding(crate::specs::Text::header_text))]
     pub fn to_bytes(self) -> [u8; 20]
         ensures text { result ≡ header_text self.kind self.len self.number }
@@ -92,21 +97,21 @@ impl MessageHeader {
         bytes
     }
 
-    /// The type of the message.
+    /// Returns the message type.
     pub fn get_type(self) -> MessageType
         ensures { result ≡ self.kind }
     {
         self.mtype
     }
 
-    /// The length of what follows the header, in bytes.
+    /// Returns the length in bytes of what follows the header.
     pub fn data_length(self) -> u16
         ensures { result ≡ self.len }
     {
         self.length
     }
 
-    /// The number of the transaction.
+    /// Returns the transaction ID.
     pub fn transaction_id(self) -> TransactionId
         ensures { result ≡ self.number }
     {
@@ -114,7 +119,8 @@ impl MessageHeader {
     }
 }
 
-/// Whether some continuation of the bytes is a header, as far as type and cookie go.
+/// Returns whether the bytes may be the first bytes of a header, as far as type and magic cookie
+/// show.
 fn begins(bytes: &[u8]) -> bool
     ensures { result ≡ may_begin bytes.now }
 {

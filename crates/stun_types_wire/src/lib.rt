@@ -1,6 +1,7 @@
-//! The wire of STUN (RFC 8489, sections 5 and 14): headers, types, attributes and why they are
-//! refused, with the definitions of what bytes are a message and what a message shows. [`grammar_laws`] says
-//! what these definitions mean in the words of the RFC.
+//! The wire format of STUN (RFC 8489, sections 5 and 14): headers, types, attributes and the errors
+//! of decoding them. The definitions say which bytes are a message, and which attributes of a
+//! message are visible. [`grammar_laws`] states what these definitions mean in the words of the
+//! RFC.
 #![tactic(auto)]
 
 pub mod algorithm;

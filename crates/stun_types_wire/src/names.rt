@@ -1,4 +1,4 @@
-//! The names of methods and of types of attributes, by which a program prints them.
+//! The names of methods and attribute types, for printing.
 
 ghost use Rattle.std.specs.Prelude.{◌≡◌, OnOk, OnErr};
 ghost use Rattle.std.specs.FinMap as map;
@@ -12,8 +12,8 @@ use std::collections::BTreeMap;
 use std::marker::Model;
 use stun_types_base::memory::NoMemory;
 
-/// Names of methods and of types of attributes that a program adds to those of RFC 8489. A value has
-/// one name: the one added last. Contracts see the record `Named` of `specs/Names.antt`.
+/// Names of methods and attribute types that a program adds to those of RFC 8489. Each method or
+/// type has one name: the one added last. Contracts see the record `Named` of `specs/Names.antt`.
 #[derive(Debug, Drop)]
 pub struct Names {
     methods: BTreeMap<u16, &'static str>,
@@ -33,7 +33,8 @@ impl Model for Names {
 }
 
 impl Names {
-    /// No names but those of RFC 8489. It keeps the allocator, and holds no memory yet.
+    /// Makes a table without added names. It stores the allocator, and allocates nothing until a
+    /// name is added.
     pub fn new(alloc: Global) -> Names
         ensures { result ≡ record { methods = map.empty; attributes = map.empty } }
     {
@@ -43,7 +44,8 @@ impl Names {
         }
     }
 
-    /// Names a method, in place of the name that it has. Where memory is refused, nothing changes.
+    /// Names a method, and replaces the name that it has. Fails only with `NoMemory`, if an
+    /// allocation fails; nothing changes then.
     pub fn add_method(&mut self, method: Method, name: &'static str) -> Result<(), NoMemory>
         ensures ok { OnOk result
             (self.new ≡ record self.old {
@@ -55,8 +57,8 @@ impl Names {
         Ok(())
     }
 
-    /// Names a type of attributes, in place of the name that it has. Where memory is refused,
-    /// nothing changes.
+    /// Names an attribute type, and replaces the name that it has. Fails only with `NoMemory`, if
+    /// an allocation fails; nothing changes then.
     pub fn add_attribute(
         &mut self,
         atype: AttributeType,
@@ -74,8 +76,8 @@ impl Names {
 }
 
 impl Method {
-    /// The name that was added last for the method; where there is none, `BINDING` for BINDING, and
-    /// `unknown` for any other.
+    /// Returns the name that was added last for the method. Without one, returns `BINDING` for
+    /// BINDING and `unknown` for any other method.
     pub fn name(self, names: &Names) -> &'static str
         ensures { result.now ≡ method_name names.now self.0 }
     {
@@ -87,9 +89,11 @@ impl Method {
 }
 
 impl AttributeType {
-    /// The name that was added last for the type; where there is none, its name in RFC 8489 for the
-    /// types of that RFC that this library reads, `MESSAGE-INTEGRITY-SHA512` for that type, and
-    /// `unknown` for any other.
+    /// Returns the name that was added last for the type. Without one, returns:
+    ///
+    /// - the name in RFC 8489, for the types of that RFC that this library reads;
+    /// - `MESSAGE-INTEGRITY-SHA512`, for that type;
+    /// - `unknown`, for any other type.
     pub fn name(self, names: &Names) -> &'static str
         ensures { result.now ≡ attribute_name names.now self.0 }
     {
@@ -100,7 +104,7 @@ impl AttributeType {
     }
 }
 
-/// The name of a method to which none was added.
+/// Returns the name of a method for which none was added.
 fn known_method_name(method: Method) -> &'static str
     ensures { result.now ≡ known_method method.0 }
 {
@@ -110,7 +114,7 @@ fn known_method_name(method: Method) -> &'static str
     }
 }
 
-/// The name of a type to which none was added.
+/// Returns the name of an attribute type for which none was added.
 fn known_attribute_name(atype: AttributeType) -> &'static str
     ensures { result.now ≡ known_attribute atype.0 }
 {

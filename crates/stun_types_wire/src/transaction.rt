@@ -1,15 +1,15 @@
-//! The numbers of transactions.
+//! Transaction IDs.
 
 ghost use Rattle.std.specs.Prelude.{◌≡◌};
 ghost use Rattle.stun_types_base.specs.GeneratorWords.{stream_after};
-ghost use Rattle.stun_types_wire.specs.Generated.{drawn_number, number_words};
+ghost use Rattle.stun_types_wire.specs.Generated.{generated_id, number_words};
 
 use rand_core::Rng;
 use std::fmt;
 use std::marker::Model;
 use stun_types_base::words::draw_words;
 
-/// The number of a transaction, of 96 bits: a response has that of its request.
+/// A transaction ID, of 96 bits. A response has the transaction ID of its request.
 #[derive(Clone, Copy, Debug, PartialEq, Eq, PartialOrd, Ord)]
 pub struct TransactionId {
     id: u128,
@@ -28,10 +28,11 @@ impl Model for TransactionId {
 }
 
 impl TransactionId {
-    /// A number of three words of 32 bits that are drawn from a generator, the first of them highest.
-    #[tactic(auto, unfolding(crate::proofs::Headers::drawn))]
+    /// Generates a transaction ID from three 32-bit words of a generator. The first word becomes
+    /// the highest 32 bits.
+    #[tactic(auto, unfolding(crate::proofs::Headers::generated))]
     pub fn generate<R: Rng>(rng: &mut R) -> TransactionId
-        ensures number { result ≡ drawn_number (R.stream rng.old) }
+        ensures number { result ≡ generated_id (R.stream rng.old) }
         ensures stream { R.stream rng.new ≡ stream_after number_words (R.stream rng.old) }
     {
         let [high, middle, low]: [u32; 3] = draw_words(rng);
@@ -55,7 +56,7 @@ impl fmt::Display for TransactionId {
     }
 }
 
-/// The low 96 bits.
+/// Takes the low 96 bits.
 impl From<u128> for TransactionId {
     ghost use Rattle.std.specs.Prelude.{◌≡◌, ◌%◌, ◌^◌};
 
@@ -68,7 +69,7 @@ impl From<u128> for TransactionId {
     }
 }
 
-/// The number, below 2^96.
+/// Returns the transaction ID as a number below 2^96.
 impl From<TransactionId> for u128 {
     ghost use Rattle.std.specs.Prelude.{◌≡◌};
 

@@ -1,4 +1,4 @@
--- Lent bytes, where their front is written.
+-- A borrowed slice whose first bytes are written.
 use Rattle.std.proofs.Common.{◌≡◌, ℕ, zero, suc, ◌+◌, ◌-◌, ◌≤◌, List, [], ◌∷◌, ◌++◌, length, take, drop, replicate, refl, sym, ap, ◌∙◌, arith}
 use Rattle.std.proofs.lemmas.List.{length-append, length-drop, length-replicate, length-take, length-take-le}
 use Rattle.std.proofs.Math.Seq.{drop-append_seam, drop-append-add}
@@ -7,17 +7,17 @@ use Rattle.stun_types_wire.specs.Text.{attribute_text, padded_text}
 use Rattle.byteorder.specs.Endian.{big_bytes}
 use Rattle.stun_types_wire.specs.Covered.{with_length}
 
--- what lies behind the written bytes begins where they end
+-- The bytes after the written ones begin where the written ones end.
 from_end : (lent : List ℕ) (len : ℕ) → drop (length (take len lent)) lent ≡ drop len lent
 from_end [] zero = refl
 from_end [] (suc len) = refl
 from_end (b ∷ lent) zero = refl
 from_end (b ∷ lent) (suc len) = from_end lent len
 
--- of what lies behind, a text that is written takes as much as it is long
-pub behind_after : (lent text : List ℕ) (len start n : ℕ) → start ≡ length (take len lent) → n ≡ length text
+-- Writing a text of n bytes removes n bytes from those after the written ones.
+pub after_after : (lent text : List ℕ) (len start n : ℕ) → start ≡ length (take len lent) → n ≡ length text
     → drop (start + n) (take start lent ++ (text ++ drop (start + n - start) (drop start lent))) ≡ drop n (drop len lent)
-behind_after lent text len start n start-is n-is =
+after_after lent text len start n start-is n-is =
     let short : start ≤ length lent = omega (arith, start-is, length-take len lent) in
     let size : length (take start lent) ≡ start = length-take-le start lent short in
     let same : start + n - start ≡ n = omega arith in
@@ -30,7 +30,7 @@ behind_after lent text len start n start-is n-is =
     ∙ ap (λ k. drop n (drop k lent)) start-is
     ∙ ap (λ (l : List ℕ). drop n l) (from_end lent len)
 
--- an attribute that has the room is written as long as it is
+-- If there is room for an attribute, writing it fills exactly its encoded length.
 pub attribute_fills : (lent after : List ℕ) (a : Attr) (len start n : ℕ) → start ≡ length (take len lent) → n ≡ attr_size a → length (take len lent) + attr_size a ≤ length (take len lent) + length (drop len lent)
     → after ≡ attribute_text a ++ drop (attr_size a) (take (start + n - start) (drop start lent)) → n ≡ length after
 unfolding attribute_text padded_text
@@ -41,23 +41,23 @@ attribute_fills lent after a len start n start-is n-is room after-is =
     let size : length dest ≡ n = omega (arith, length-take (start + n - start) (drop start lent), length-drop start lent, length-drop len lent, length-take len lent, start-is, n-is, room) in
     omega (arith, ap length after-is, length-append (attribute_text a) (drop (attr_size a) dest), length-drop (attr_size a) dest, text, size, n-is)
 
--- the length in a header stands in front of where the written bytes end
-pub take_told : (lent : List ℕ) (len n : ℕ) → 20 ≤ length (take len lent) → take len (with_length lent n) ≡ with_length (take len lent) n
+-- The length field of a header lies within the written bytes.
+pub take_decoded : (lent : List ℕ) (len n : ℕ) → 20 ≤ length (take len lent) → take len (with_length lent n) ≡ with_length (take len lent) n
 unfolding with_length
-take_told lent len n long = front lent len (omega (arith, long, length-take len lent)) (omega (arith, long, length-take len lent))
+take_decoded lent len n long = head lent len (omega (arith, long, length-take len lent)) (omega (arith, long, length-take len lent))
   where
-    front : (l : List ℕ) (m : ℕ) → 4 ≤ m → 4 ≤ length l → take m (take 2 l ++ big_bytes 2 n ++ drop 4 l) ≡ take 2 (take m l) ++ big_bytes 2 n ++ drop 4 (take m l)
-    front (a ∷ b ∷ c ∷ d ∷ l) m p q =
+    head : (l : List ℕ) (m : ℕ) → 4 ≤ m → 4 ≤ length l → take m (take 2 l ++ big_bytes 2 n ++ drop 4 l) ≡ take 2 (take m l) ++ big_bytes 2 n ++ drop 4 (take m l)
+    head (a ∷ b ∷ c ∷ d ∷ l) m p q =
         let e : m ≡ suc (suc (suc (suc (m - 4)))) = omega arith in
         rw e refl
-    front [] m p q = absurd (omega arith)
-    front (a ∷ []) m p q = absurd (omega arith)
-    front (a ∷ b ∷ []) m p q = absurd (omega arith)
-    front (a ∷ b ∷ c ∷ []) m p q = absurd (omega arith)
+    head [] m p q = absurd (omega arith)
+    head (a ∷ []) m p q = absurd (omega arith)
+    head (a ∷ b ∷ []) m p q = absurd (omega arith)
+    head (a ∷ b ∷ c ∷ []) m p q = absurd (omega arith)
 
-pub drop_told : (lent : List ℕ) (len n : ℕ) → 20 ≤ length (take len lent) → drop len (with_length lent n) ≡ drop len lent
+pub drop_decoded : (lent : List ℕ) (len n : ℕ) → 20 ≤ length (take len lent) → drop len (with_length lent n) ≡ drop len lent
 unfolding with_length
-drop_told lent len n long = back lent len (omega (arith, long, length-take len lent)) (omega (arith, long, length-take len lent))
+drop_decoded lent len n long = back lent len (omega (arith, long, length-take len lent)) (omega (arith, long, length-take len lent))
   where
     back : (l : List ℕ) (m : ℕ) → 4 ≤ m → 4 ≤ length l → drop m (take 2 l ++ big_bytes 2 n ++ drop 4 l) ≡ drop m l
     back (a ∷ b ∷ c ∷ d ∷ l) m p q =

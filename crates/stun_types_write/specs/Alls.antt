@@ -1,4 +1,4 @@
--- All bytes of a writer, changed in place.
+-- A writer all of whose bytes are replaced in place.
 use Rattle.std.proofs.Common.{◌≡◌, ℕ, zero, suc, List, [], ◌∷◌, ◌++◌, length, take, drop, Some, refl, ap, ◌∙◌, arith}
 use Rattle.std.proofs.lemmas.List.{append-nil}
 use Rattle.stun_types_write.specs.Lent.{Lent, Own, lent_draft, own_changed, own_draft, with_lent, with_all}
@@ -27,7 +27,7 @@ pub lent_changed : (w : Lent) (all : List ℕ) → length all ≡ length (take w
 lent_changed w all h =
     let same : length all ≡ length w.lent = h ∙ ap length (take_drop w.len w.lent) in
     ap (λ (l : List ℕ). record (lent_draft (with_lent w all)) { bytes = l }) (take_same w.len w.lent all same)
-    ∙ ap (λ (l : List ℕ). record (with_all (lent_draft w) all) { behind = l; limit = Some (length all) })
+    ∙ ap (λ (l : List ℕ). record (with_all (lent_draft w) all) { following = l; limit = Some (length all) })
     (drop_same w.len w.lent all same)
     ∙ ap (λ (n : ℕ). record (with_all (lent_draft w) all) { limit = Some n }) same
 
@@ -47,9 +47,9 @@ pub own_law : (w : Own) (all : List ℕ) → length all ≡ length (w.bytes ++ [
 own_law w all h =
     let same : length all ≡ length w.bytes = h ∙ ap length (append-nil w.bytes) in
     ap (λ (l : List ℕ). record (own_draft w) { bytes = l }) (take_all w.bytes all (drop (length all) w.bytes) same)
-    ∙ ap (λ (l : List ℕ). record (with_all (own_draft w) all) { behind = l }) (drop_all w.bytes all same)
+    ∙ ap (λ (l : List ℕ). record (with_all (own_draft w) all) { following = l }) (drop_all w.bytes all same)
 
--- a vector that is refilled
+-- Replacing the bytes of a vector in place leaves what `own_changed` says.
 pub refilled : (n : ℕ) (items bytes all : List ℕ) → n ≡ length items → items ≡ bytes
     → take n (all ++ drop (length all) items) ≡ take (length bytes) (all ++ drop (length all) bytes)
 refilled n items bytes all len same = rw (len, same) refl

@@ -1,4 +1,4 @@
--- What a writer holds, and what is written into it.
+-- The state of a writer, and what is written to it.
 use Rattle.std.specs.Prelude.{ℕ, ◌+◌, ◌≤◌, true, false, ◌==◌, List, [], ◌++◌, length, drop, Option, IfSome, if◌then◌else◌}
 use Rattle.stun_types_wire.specs.Attributes.{Attr, attr_size, attributes}
 use Rattle.stun_types_wire.specs.Shape.{kinds_of}
@@ -6,11 +6,11 @@ use Rattle.stun_types_wire.specs.Registry.{integrity_kind, sha256_kind, sha512_k
 use Rattle.stun_types_wire.specs.Text.{attribute_text}
 use Rattle.stun_types_write.specs.declared.ended.Ended.{Ended}
 
--- no attribute that ends a message was added
+-- No attribute that ends a message has been added.
 abbrev pub none_ended : Ended
 none_ended = record { integrity = false; sha256 = false; sha512 = false; fingerprint = false }
 
--- those that were added, and one of this type where it is one of the four
+-- The flags after an attribute of this type was added: its own is set, if it is one of the four.
 abbrev pub ended_by : Ended → ℕ → Ended
 ended_by ended kind = record {
   integrity = if kind == integrity_kind then true else ended.integrity;
@@ -19,44 +19,44 @@ ended_by ended kind = record {
   fingerprint = if kind == fingerprint_kind then true else ended.fingerprint;
 }
 
--- a message that is written: its bytes, the lent bytes behind them, which of the attributes that
--- end a message were added, and the greatest size where there is one
+-- A message that is being written: its bytes, the bytes of the borrowed slice after them, which of the
+-- attributes that end a message have been added, and the maximum size, if there is one.
 pub record Draft : Type 0 where
   pub bytes : List ℕ
-  pub behind : List ℕ
+  pub following : List ℕ
   pub ended : Ended
   pub limit : Option ℕ
 
--- nothing is written yet
+-- Nothing has been written yet.
 abbrev pub empty : List ℕ → Option ℕ → Draft
-empty behind limit = record { bytes = []; behind = behind; ended = none_ended; limit = limit }
+empty following limit = record { bytes = []; following = following; ended = none_ended; limit = limit }
 
--- the same draft with other bytes
+-- The same draft with other written bytes.
 abbrev pub with_bytes : Draft → List ℕ → Draft
-with_bytes draft bytes = record { bytes = bytes; behind = draft.behind; ended = draft.ended; limit = draft.limit }
+with_bytes draft bytes = record { bytes = bytes; following = draft.following; ended = draft.ended; limit = draft.limit }
 
--- so many bytes more fit
+-- There is room for `size` more bytes.
 abbrev pub HasRoom : Draft → ℕ → Type 0
 HasRoom draft size = IfSome draft.limit (λ most. length draft.bytes + size ≤ most)
 
--- bytes stand at the end
+-- The draft after bytes were added at the end.
 abbrev pub pushed : List ℕ → Draft → Draft
 pushed text draft = record {
   bytes = draft.bytes ++ text;
-  behind = drop (length text) draft.behind;
+  following = drop (length text) draft.following;
   ended = draft.ended;
   limit = draft.limit;
 }
 
--- the text of an attribute stands at the end
+-- The draft after an encoded attribute was added at the end.
 abbrev pub pushed_attribute : Attr → Draft → Draft
 pushed_attribute a draft = record {
   bytes = draft.bytes ++ attribute_text a;
-  behind = drop (attr_size a) draft.behind;
+  following = drop (attr_size a) draft.following;
   ended = ended_by draft.ended a.kind;
   limit = draft.limit;
 }
 
--- the types of the attributes that stand behind the header
+-- The types of the attributes after the header.
 abbrev pub kinds_written : List ℕ → List ℕ
 kinds_written bytes = kinds_of (attributes (drop header_size bytes))

@@ -4,4 +4,4 @@ pub mod Drafts
 pub mod Lent
 pub mod Outcomes
 pub mod ValueReading
-pub mod Walk
+pub mod Scan

@@ -1,4 +1,4 @@
--- Which types and values are read as an attribute of one type.
+-- Which types and values are decoded as an attribute of one type.
 use Rattle.std.specs.Prelude.{ℕ, List, Option, Some, None, if◌then◌else◌}
 use Rattle.std.specs.Option.{option_or}
 use Rattle.std.specs.Str.{is_utf8}
@@ -9,18 +9,18 @@ use Rattle.stun_types_wire.specs.declared.error.StunParseError.TheVariants.{Inva
 use Rattle.stun_types_wire.specs.Attributes.{Attr}
 use Rattle.stun_types_wire.specs.RawBytes.{type_and_len_refusal}
 
--- why a type and a value are not of this type, or not of a length from the least to the greatest
+-- Why an attribute doesn't have this type, or a value with a length from `least` to `most`.
 abbrev pub value_refusal : ℕ → ℕ → ℕ → Attr → Option StunParseError
 value_refusal kind least most a = type_and_len_refusal kind (Included least) (Included most) a
 
--- an error is the cause, and tells no want of memory
+-- An error is the refusal, and is not the error of a failed allocation.
 abbrev pub IsNamed : Option StunParseError → StunParseError → Type 0
 IsNamed = IsNamedBut NoMemory
 
--- bytes that are no text in UTF-8
+-- Why bytes are not a text: they are not UTF-8.
 unfoldable pub utf8_refusal : List ℕ → Option StunParseError
 utf8_refusal bytes = if is_utf8 bytes then None else Some InvalidAttributeData
 
--- why a type and a value are not a text of this type, with at most so many bytes
+-- Why an attribute is not a text of this type with at most `most` bytes.
 unfoldable pub text_read_refusal : ℕ → ℕ → Attr → Option StunParseError
 text_read_refusal kind most a = option_or (value_refusal kind 0 most a) (utf8_refusal a.value)

@@ -1,4 +1,4 @@
-//! What can be added to a message: a type and a value, however they are held.
+//! What can be added to a message: anything that has an attribute type and a value.
 
 ghost use Rattle.std.specs.Prelude.{◌≡◌, ◌≢◌, ◌+◌, ◌<◌, ◌≤◌, ◌^◌, ◌++◌, ◌||◌, length, drop, true, Bool, ℕ, List, Option, None, Some, IfOk, OnOk, IfErr, OnErr, IsTrue};
 ghost use Rattle.byteorder.specs.Endian.{big_bytes};
@@ -17,15 +17,15 @@ use stun_types_base::memory::NoMemory;
 use stun_types_wire::attribute::{AttributeType as Kind, RawAttribute, pad_attribute_len};
 use stun_types_wire::error::{StunParseError, StunWriteError};
 
-/// An attribute whose type is known without a value.
+/// An attribute whose type is known without a value of it.
 pub trait AttributeStaticType {
     ghost TYPE: { AttributeType };
 
-    /// The type of every attribute of this kind.
+    /// The attribute type of all values.
     const TYPE: Kind;
 }
 
-/// A type and a value. Contracts know an attribute by these two alone.
+/// An attribute type and a value. Contracts know an attribute by these two alone.
 pub trait Attribute: Debug + Sync + Send {
     // The number of the type.
     ghost kind: { Self → ℕ };
@@ -33,16 +33,16 @@ pub trait Attribute: Debug + Sync + Send {
     // The bytes of the value.
     ghost value: { Self → List ℕ };
 
-    /// The type.
+    /// Returns the type.
     fn get_type(&self) -> Kind
         ensures { result.0 ≡ kind self.now };
 
-    /// The length of the value in bytes, without padding.
+    /// Returns the length of the value in bytes, without padding.
     fn length(&self) -> u16
         ensures length { result ≡ length (value self.now) }
         ensures short { length (value self.now) < 2 ^ 16 };
 
-    /// How many bytes the attribute takes, header and padding included.
+    /// Returns the encoded length in bytes, header and padding included.
     fn padded_len(&self) -> usize
         ensures size { result ≡ 4 + padded (length (value self.now)) }
         ensures short { length (value self.now) < 2 ^ 16 }
@@ -51,24 +51,26 @@ pub trait Attribute: Debug + Sync + Send {
     }
 }
 
-/// An attribute that can be written.
+/// An attribute that can be encoded.
 pub trait AttributeWrite: Attribute {
-    // Whether `to_raw` takes memory: it does unless the attribute holds the bytes of its value.
+    // Whether `to_raw` allocates. It does unless the attribute stores the bytes of its value.
     ghost giving_takes_memory: { Bool } = { true };
 
-    /// Writes header, value and padding to the front of bytes that are enough.
+    /// Writes header, value and padding to the first bytes of `dest`, which must have room for
+    /// them.
     fn write_into_unchecked(&self, dest: &mut [u8])
         requires { 4 + padded (length (Self.value self.now)) ≤ length dest.old }
         ensures { dest.new ≡ attribute_text (attr_of (Self.kind self.now) (Self.value self.now))
             ++ drop (4 + padded (length (Self.value self.now))) dest.old };
 
-    /// The attribute as type and bytes. Where memory is refused, `NoMemory`. Memory is wanted where
-    /// the bytes of the value are made here, and not where the attribute holds them.
+    /// Returns the attribute as a type and bytes. Fails only with `NoMemory`, if an allocation
+    /// fails. An attribute that stores the bytes of its value allocates nothing.
     fn to_raw(&self, alloc: Global) -> Result<RawAttribute<'_>, NoMemory>
         ensures ok { IfOk result (λ raw. raw ≡ attr_of (Self.kind self.now) (Self.value self.now)) }
         ensures memory { OnErr result (IsTrue giving_takes_memory) };
 
-    /// Writes type and length to the front of at least four bytes, and answers four.
+    /// Writes type and length to the first four bytes of `dest`, which must have at least four.
+    /// Returns 4.
     fn write_header_unchecked(&self, dest: &mut [u8]) -> usize
         requires { 4 ≤ length dest.old }
         ensures count { result ≡ 4 }
@@ -79,8 +81,8 @@ pub trait AttributeWrite: Attribute {
         4
     }
 
-    /// Writes type and length to the front, and answers four. Refused with `TooSmall`, nothing being
-    /// written, where there are fewer than four bytes.
+    /// Writes type and length to the first four bytes of `dest`, and returns 4. Fails with
+    /// `TooSmall` if `dest` has fewer than four bytes; nothing is written then.
     fn write_header(&self, dest: &mut [u8]) -> Result<usize, StunWriteError>
         ensures count { IfOk result (λ n. (n ≡ 4) × (4 ≤ length dest.old)) }
         ensures bytes { OnOk result (dest.new ≡ big_bytes 2 (Self.kind self.now)
@@ -97,8 +99,8 @@ pub trait AttributeWrite: Attribute {
         Ok(self.write_header_unchecked(dest))
     }
 
-    /// Writes header, value and padding to the front, and answers how many bytes these are. Refused
-    /// with `TooSmall`, nothing being written, where there are fewer.
+    /// Writes header, value and padding to the first bytes of `dest`, and returns how many bytes
+    /// these are. Fails with `TooSmall` if `dest` has fewer; nothing is written then.
     fn write_into(&self, dest: &mut [u8]) -> Result<usize, StunWriteError>
         ensures count { IfOk result (λ n. (n ≡ 4 + padded (length (Self.value self.now)))
             × (n ≤ length dest.old)) }
@@ -122,26 +124,33 @@ pub trait AttributeWrite: Attribute {
     }
 }
 
-/// An attribute that can be read from a type and a value.
+/// An attribute that can be decoded from a type and a value.
 pub trait AttributeFromRaw<'a>: Attribute {
-    // Why a type and a value are not this attribute: the first cause in the order.
+    // The first reason why a type and a value are not this attribute.
     ghost read_refusal: { Attr → Option ParseError };
 
-    // A value as this attribute writes it again: what is not looked at is zero.
+    // A value as this attribute encodes it again: bytes that decoding ignores are zero.
     ghost read_value: { List ℕ → List ℕ };
 
-    // Why what an attribute writes is not read. There is no cause, but for a value that can be made and
-    // is not read.
+    // The reason why the encoding of an attribute isn't decoded. By default there is none. There is
+    // one for an attribute that can be made but not decoded.
     ghost written_refusal: { Self → Option ParseError } = { λ _. None };
 
-    // Whether memory is taken to read this attribute: it is of a text or a list.
+    // Whether decoding this attribute allocates. It does for a text or a list.
     ghost reading_takes_memory: { Bool } = { true };
 
-    /// The attribute of a type and a value. Refused, in this order: `WrongAttributeImplementation`
-    /// where it is another type, `Truncated` where the value is too short, `TooLarge` where it is too
-    /// long, `InvalidAttributeData` where it is no value of this type; where memory is refused,
-    /// `NoMemory`. Memory is wanted for a text or a list, and not for a value of a few bytes that the
-    /// attribute holds itself.
+    /// Decodes the attribute from a type and a value.
+    ///
+    /// # Errors
+    ///
+    /// In this order:
+    ///
+    /// - `WrongAttributeImplementation`: the type is another one.
+    /// - `Truncated`: the value is too short.
+    /// - `TooLarge`: the value is too long.
+    /// - `InvalidAttributeData`: the value is not valid for this type.
+    /// - `NoMemory`: an allocation failed. Only a text or a list needs one; an attribute that
+    ///   stores a short value itself does not.
     fn from_raw_ref(alloc: Global, raw: &RawAttribute<'_>) -> Result<Self, StunParseError>
         ensures ok { IfOk result (λ read. (Self.kind read ≡ raw.now.kind)
             × (Self.value read ≡ read_value raw.now.value)) }
@@ -149,7 +158,7 @@ pub trait AttributeFromRaw<'a>: Attribute {
         ensures memory { IfErr result (λ error. error ≡ StunParseError.NoMemory
             → IsTrue reading_takes_memory) };
 
-    /// The same, of an attribute that is given away.
+    /// Decodes the attribute as `from_raw_ref` does, and consumes the type and value.
     fn from_raw(alloc: Global, raw: RawAttribute<'a>) -> Result<Self, StunParseError>
         ensures ok { IfOk result (λ read. (Self.kind read ≡ raw.entry.kind)
             × (Self.value read ≡ read_value raw.entry.value)) }
@@ -157,18 +166,21 @@ pub trait AttributeFromRaw<'a>: Attribute {
         ensures memory { IfErr result (λ error. error ≡ StunParseError.NoMemory
             → IsTrue reading_takes_memory) };
 
-    /// Says whether what an attribute writes is read, and that what is read of it is that attribute. It
-    /// does nothing.
-    fn is_read_back(&self, read: &Self)
+    /// Proof only. Decoding what this attribute encodes fails as `written_refusal` says. The value
+    /// is encoded again unchanged, and an attribute with an equal value is equal to this one.
+    fn proof_is_read_back(&self, read: &Self)
         ensures accepted { read_refusal (attr_of (Self.kind self.now) (Self.value self.now))
             ≡ written_refusal self.now }
-        ensures kept { read_value (Self.value self.now) ≡ Self.value self.now }
+        ensures stored { read_value (Self.value self.now) ≡ Self.value self.now }
         ensures same { Self.value read.now ≡ Self.value self.now → read.now ≡ self.now };
 }
 
-/// What an attribute writes, read again: the same attribute. Refused where memory is, with `NoMemory`,
-/// and for no other cause, but where the attribute itself is one that is made and not read. Memory is
-/// wanted where `to_raw` or `from_raw_ref` takes some.
+/// Encodes an attribute and decodes it again. The result is the same attribute.
+///
+/// # Errors
+///
+/// - The error of `written_refusal`, for an attribute that can be made but not decoded.
+/// - `NoMemory`: an allocation failed. There is one only if `to_raw` or `from_raw_ref` allocates.
 pub fn written_and_read<'a, A: AttributeWrite + AttributeFromRaw<'a>>(
     alloc: Global,
     attribute: &A,
@@ -180,10 +192,10 @@ pub fn written_and_read<'a, A: AttributeWrite + AttributeFromRaw<'a>>(
     ensures memory { IfErr result (λ error. error ≡ StunParseError.NoMemory
         → IsTrue (A.giving_takes_memory || A.reading_takes_memory)) }
 {
-    attribute.is_read_back(attribute);
+    attribute.proof_is_read_back(attribute);
     let raw = attribute.to_raw(alloc)?;
     let read = A::from_raw_ref(alloc, &raw)?;
-    attribute.is_read_back(&read);
+    attribute.proof_is_read_back(&read);
     Ok(read)
 }
 

@@ -1,4 +1,4 @@
-//! Which of the attributes that end a message were added.
+//! Which of the attributes that end a message have been added.
 
 ghost use Rattle.std.specs.Prelude.{◌≡◌};
 ghost use Rattle.stun_types_write.specs.Drafts.{ended_by, none_ended};
@@ -8,21 +8,22 @@ use stun_types_wire::registry::{
     FINGERPRINT, MESSAGE_INTEGRITY, MESSAGE_INTEGRITY_SHA256, MESSAGE_INTEGRITY_SHA512,
 };
 
-/// Which of the four attributes that end a message were added (RFC 8489, sections 14.5 to 14.7).
+/// Which of the four attributes that end a message have been added (RFC 8489, sections 14.5 to
+/// 14.7).
 #[derive(Clone, Copy, Debug)]
 pub struct Ended {
-    /// MESSAGE-INTEGRITY was.
+    /// Whether MESSAGE-INTEGRITY has been added.
     pub integrity: bool,
-    /// MESSAGE-INTEGRITY-SHA256 was.
+    /// Whether MESSAGE-INTEGRITY-SHA256 has been added.
     pub sha256: bool,
-    /// MESSAGE-INTEGRITY-SHA512 was.
+    /// Whether MESSAGE-INTEGRITY-SHA512 has been added.
     pub sha512: bool,
-    /// FINGERPRINT was.
+    /// Whether FINGERPRINT has been added.
     pub fingerprint: bool,
 }
 
 impl Ended {
-    /// None of them.
+    /// Returns the value for a message to which none of the four has been added.
     pub fn none() -> Ended
         ensures { result ≡ none_ended }
     {
@@ -34,7 +35,7 @@ impl Ended {
         }
     }
 
-    /// These, and the one of this type where it is one of the four.
+    /// Returns these flags, and sets the flag of `atype` if it is one of the four.
     pub fn by(self, atype: AttributeType) -> Ended
         ensures { result ≡ ended_by self atype.0 }
     {

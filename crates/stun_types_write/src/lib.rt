@@ -1,12 +1,13 @@
-//! What an attribute is to a writer, and where messages are written.
+//! The interface between attributes and writers, and the two writers: into a vector and into a
+//! slice.
 #![tactic(auto)]
 
 pub mod among;
 pub mod attribute;
 pub mod ended;
 pub mod reading;
+mod scan;
 pub mod slice;
 pub mod text;
 pub mod vec;
-mod walk;
 pub mod writer;

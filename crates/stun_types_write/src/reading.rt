@@ -1,4 +1,4 @@
-//! What typed attributes share in reading a type and a value.
+//! What typed attributes share when they decode a type and a value.
 
 ghost use Rattle.std.specs.Prelude.{◌≡◌, ◌≤◌, ℕ, length, MatchResult, None};
 ghost use Rattle.stun_types_write.specs.Adding.{attr_of};
@@ -8,10 +8,16 @@ use std::ops::Bound;
 use stun_types_wire::attribute::{AttributeType, RawAttribute};
 use stun_types_wire::error::StunParseError;
 
-/// The value of an attribute of this type, with a length from the least to the greatest. Refused, in
-/// this order: `WrongAttributeImplementation` where it has another type, `Truncated` with the least
-/// length where it is shorter, `TooLarge` with the greatest where it is longer.
-#[tactic(auto, using(crate::proofs::Values::told))]
+/// Returns the value of an attribute of type `atype`, with a length from `least` to `most`.
+///
+/// # Errors
+///
+/// In this order:
+///
+/// - `WrongAttributeImplementation`: the type is another one.
+/// - `Truncated`, with `least`: the value is shorter.
+/// - `TooLarge`, with `most`: the value is longer.
+#[tactic(auto, using(crate::proofs::Values::decoded))]
 pub fn value_of<'raw>(
     raw: &'raw RawAttribute<'_>,
     atype: AttributeType,
@@ -27,9 +33,15 @@ pub fn value_of<'raw>(
     Ok(raw.value())
 }
 
-/// The text of an attribute of this type, with at most so many bytes. Refused, in this order:
-/// `WrongAttributeImplementation` where it has another type, `TooLarge` where it has more bytes,
-/// `InvalidAttributeData` where they are not UTF-8.
+/// Returns the text of an attribute of type `atype`, with at most `most` bytes.
+///
+/// # Errors
+///
+/// In this order:
+///
+/// - `WrongAttributeImplementation`: the type is another one.
+/// - `TooLarge`: the value is longer.
+/// - `InvalidAttributeData`: the value is not UTF-8.
 #[tactic(auto, unfolding(crate::specs::ValueReading::text_read_refusal))]
 pub fn text_of<'raw>(
     raw: &'raw RawAttribute<'_>,
@@ -45,7 +57,7 @@ pub fn text_of<'raw>(
     Ok(text)
 }
 
-/// The text of some bytes. Refused with `InvalidAttributeData` where they are not UTF-8.
+/// Decodes bytes as a text. Fails with `InvalidAttributeData` if they are not UTF-8.
 #[tactic(auto, using(crate::proofs::Values::texts))]
 pub fn read_text(bytes: &[u8]) -> Result<&str, StunParseError>
     ensures { MatchResult result (λ text. (utf8_refusal bytes.now ≡ None) × (text.now ≡ bytes.now))
@@ -57,9 +69,9 @@ pub fn read_text(bytes: &[u8]) -> Result<&str, StunParseError>
     }
 }
 
-/// Says that a text of at most so many bytes is read as the value of any type. It does nothing.
+/// Proof only. A text of at most `most` bytes is accepted as the value of an attribute of any type.
 #[tactic(auto, using(crate::proofs::Values::text_is_accepted))]
-pub fn text_is_read(text: &str, most: usize)
+pub fn proof_text_is_read(text: &str, most: usize)
     requires { length text.now ≤ most }
     ensures utf8 { utf8_refusal text.now ≡ None }
     ensures accepted { (kind : ℕ) → text_read_refusal kind most (attr_of kind text.now) ≡ None }

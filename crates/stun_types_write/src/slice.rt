@@ -1,4 +1,4 @@
-//! A writer into lent bytes.
+//! A writer into a borrowed slice.
 
 ghost use Rattle.std.specs.Prelude.{◌≡◌, Some, length};
 ghost use Rattle.stun_types_write.specs.Drafts.{empty};
@@ -11,9 +11,9 @@ use crate::writer::MessageWrite;
 use std::marker::Model;
 use stun_types_base::memory::NoMemory;
 
-/// A writer into lent bytes, from their front on. It has the number of these bytes as its greatest
-/// size, takes no memory, and gives the front that is written and the bytes behind it. Contracts see
-/// the record `Lent`.
+/// A writer into a borrowed slice, from its first byte on. Its maximum size is the length of the
+/// slice. It allocates nothing. `finish` returns the written bytes and the bytes after them.
+/// Contracts see the record `Lent`.
 #[derive(Debug, Drop)]
 pub struct MessageWriteMutSlice<'a> {
     lent: &'a mut [u8],
@@ -34,7 +34,7 @@ impl<'a> Model for MessageWriteMutSlice<'a> {
 }
 
 impl<'a> MessageWriteMutSlice<'a> {
-    /// An empty writer into these bytes.
+    /// Makes an empty writer into a slice.
     pub fn new(lent: &'a mut [u8]) -> MessageWriteMutSlice<'a>
         ensures { lent_draft result ≡ empty lent.old (Some (length lent.old)) }
     {
@@ -45,7 +45,7 @@ impl<'a> MessageWriteMutSlice<'a> {
         }
     }
 
-    /// The bytes that are written.
+    /// Returns the written bytes.
     pub fn as_slice(&self) -> &[u8]
         ensures { result.now ≡ (lent_draft self.now).bytes }
     {
@@ -53,15 +53,15 @@ impl<'a> MessageWriteMutSlice<'a> {
         &self.lent[..end]
     }
 
-    /// All bytes that were lent: those that are written, and behind them those that were never
-    /// written, as they were lent.
+    /// Returns the whole slice: the written bytes, and after them the bytes that were never
+    /// written, with the values that they had before.
     pub fn lent(&self) -> &[u8]
         ensures { result.now ≡ self.now.lent }
     {
         self.lent
     }
 
-    /// All bytes that were lent, given back.
+    /// Returns the whole borrowed slice.
     pub fn into_lent(self) -> &'a mut [u8]
         ensures { result.now ≡ self.entry.lent }
     {
@@ -73,7 +73,7 @@ impl<'a> MessageWriteMutSlice<'a> {
         lent
     }
 
-    /// Where the written bytes end.
+    /// Returns the index after the last written byte.
     fn end(&self) -> usize
         ensures { result ≡ length (lent_draft self.now).bytes }
     {
@@ -95,7 +95,7 @@ impl<'a> MessageWrite for MessageWriteMutSlice<'a> {
     ghost is_changed = { lent_changed };
 
     ghost finishes = { λ writer lent. (lent.0.now ≡ (lent_draft writer).bytes)
-        × (lent.1.now ≡ (lent_draft writer).behind) };
+        × (lent.1.now ≡ (lent_draft writer).following) };
 
     fn max_size(&self) -> Option<usize> {
         Some(self.lent.len())
@@ -117,7 +117,7 @@ impl<'a> MessageWrite for MessageWriteMutSlice<'a> {
         self.lent
     }
 
-    #[tactic(auto, using(crate::proofs::Lent::take_told, crate::proofs::Lent::drop_told))]
+    #[tactic(auto, using(crate::proofs::Lent::take_decoded, crate::proofs::Lent::drop_decoded))]
     fn set_length(&mut self, n: u16) {
         let lent = &mut *self.lent;
         write_length(lent, n);

@@ -1,4 +1,4 @@
-//! A writer into memory of its own.
+//! A writer into a vector.
 
 ghost use Rattle.std.specs.Prelude.{◌≡◌, [], None, IfOk};
 ghost use Rattle.stun_types_write.specs.Drafts.{empty};
@@ -12,8 +12,8 @@ use std::alloc::Global;
 use std::marker::Model;
 use stun_types_base::memory::NoMemory;
 
-/// A writer into a vector. It has no greatest size but that of a message, and gives the vector.
-/// Contracts see the record `Own`.
+/// A writer into a vector. It has no maximum size but that of a message. `finish` returns the
+/// vector. Contracts see the record `Own`.
 #[derive(Debug, Drop)]
 pub struct MessageWriteVec {
     bytes: Vec<u8>,
@@ -29,7 +29,7 @@ impl Model for MessageWriteVec {
 }
 
 impl MessageWriteVec {
-    /// An empty writer, which holds no memory yet.
+    /// Makes an empty writer. It allocates nothing until something is written.
     pub fn new(alloc: Global) -> MessageWriteVec
         ensures { own_draft result ≡ empty [] None }
     {
@@ -39,7 +39,8 @@ impl MessageWriteVec {
         }
     }
 
-    /// An empty writer with room for this many bytes. Where memory is refused, `NoMemory`.
+    /// Makes an empty writer with room for `capacity` bytes. Fails only with `NoMemory`, if an
+    /// allocation fails.
     pub fn with_capacity(alloc: Global, capacity: usize) -> Result<MessageWriteVec, NoMemory>
         ensures { IfOk result (λ writer. own_draft writer ≡ empty [] None) }
     {
@@ -49,7 +50,7 @@ impl MessageWriteVec {
         })
     }
 
-    /// The bytes that are written.
+    /// Returns the written bytes.
     pub fn as_slice(&self) -> &[u8]
         ensures { result.now ≡ self.now.bytes }
     {

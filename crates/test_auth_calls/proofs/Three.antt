@@ -5,17 +5,17 @@ use Rattle.std.specs.declared.net.socket_addr.SocketAddr.{SocketAddr}
 use Rattle.rand_core.specs.Stream.{Stream}
 use Rattle.stun_proto_server.specs.AuthCalls.{AuthAnswer, AuthCall, IsCalled}
 use Rattle.stun_proto_server.specs.AuthCalls as call
-use Rattle.stun_proto_server.specs.AuthRuns.{IsAuthRun, StandsAlone, concerning, concerns, is_same_address}
+use Rattle.stun_proto_server.specs.AuthRuns.{IsAuthRun, IsIsolated, concerning, concerns, is_same_address}
 use Rattle.stun_proto_server.specs.Server.{Client, SameFor, Server, nonce_at, refreshed}
 use Rattle.stun_proto_server.proofs.Alone.{filter_no, filter_yes}
 use Rattle.stun_proto_server.proofs.Apart.{apart, same_for-refl}
 use Rattle.stun_proto_server.proofs.Isolated.{same_itself}
 
--- whether a pair concerns an address
+-- The pair concerns this address.
 abbrev test : SocketAddr → AuthCall × AuthAnswer → Bool
 test address = λ pair. concerns address pair.0
 
--- three calls, each from where the one before it had left the server, are a run
+-- Three calls, each on the server that the call before it left, are a run.
 pub three : (old one two new : Server) (first second third : AuthCall × AuthAnswer) → IsCalled first.0 first.1 old one → IsCalled second.0 second.1 one two → IsCalled third.0 third.1 two new
     → IsAuthRun old (first ∷ second ∷ third ∷ []) new
 unfolding IsAuthRun
@@ -23,16 +23,16 @@ three old one two new first second third a b c = (one, a, (two, b, (new, c, refl
 
 -- ---- for two addresses
 
--- what the law on runs says
+-- The statement of the theorem on runs.
 abbrev pub Alone : Type 0
-Alone = (address : SocketAddr) (old other new : Server) (pairs : List (AuthCall × AuthAnswer)) → SameFor address old other → IsAuthRun old pairs new → StandsAlone address other pairs new
+Alone = (address : SocketAddr) (old other new : Server) (pairs : List (AuthCall × AuthAnswer)) → SameFor address old other → IsAuthRun old pairs new → IsIsolated address other pairs new
 
 module _ (one other : SocketAddr) (now : ℕ) (stream left again remains : Stream) where
-  -- a nonce stands for one, another is drawn for another, that one is forgotten
+  -- The run: the nonce of `one` is refreshed, then that of `other`, and then `other` is removed.
   abbrev pub pairs : List (AuthCall × AuthAnswer)
   pairs = (call.Refresh one now stream, call.Refreshed left) ∷ (call.Refresh other now again, call.Refreshed remains) ∷ (call.RemoveClient other, call.Done) ∷ []
 
-  -- the first alone concerns the one
+  -- Only the first call concerns `one`.
   own_calls : one ≢ other → concerning one pairs ≡ (call.Refresh one now stream, call.Refreshed left) ∷ []
   own_calls different =
       let own : is_same_address one one ≡ true = same_itself one in
@@ -45,9 +45,9 @@ module _ (one other : SocketAddr) (now : ℕ) (stream left again remains : Strea
   unfolding IsAuthRun
   run_of_one old after run = run.2 ∙ run.1.1
 
-  -- the nonce of the one is what it is where the other never called
+  -- The nonce of `one` is what it would be if `other` had never called.
   pub own_nonce : Alone → (old new : Server) → one ≢ other → IsAuthRun old pairs new → nonce_at new one ≡ nonce_at (refreshed old one now stream) one
   own_nonce law old new different run =
       let alone = law one old old new pairs (same_for-refl one old old refl) run in
       let own = subst (λ (l : List (AuthCall × AuthAnswer)). IsAuthRun old l alone.left) (own_calls different) alone.run in
-      sym (ap (option_map (λ (kept : Client). kept.nonce)) alone.alike.kept) ∙ ap (λ (s : Server). nonce_at s one) (run_of_one old alone.left own)
+      sym (ap (option_map (λ (stored : Client). stored.nonce)) alone.alike.stored) ∙ ap (λ (s : Server). nonce_at s one) (run_of_one old alone.left own)

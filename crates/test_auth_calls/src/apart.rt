@@ -1,4 +1,4 @@
-//! A run of calls for two addresses.
+//! A sequence of calls for two addresses.
 
 ghost use Rattle.std.specs.Prelude.{◌≡◌, ◌≢◌, [], ◌∷◌, OnOk};
 ghost use Rattle.stun_proto_server.specs.AuthCalls as call;
@@ -8,13 +8,13 @@ ghost use Rattle.stun_proto_server.specs.Server.{nonce_at, refreshed};
 use crate::calls::{refresh, remove_client};
 use rand_core::Rng;
 use std::net::SocketAddr;
-use stun_proto_server::laws::addresses_stand_alone;
+use stun_proto_server::laws::addresses_are_isolated;
 use stun_proto_server::long_term::LongTermServerAuth;
 use stun_types_base::instant::Instant;
 use stun_types_base::memory::NoMemory;
 
-/// A nonce stands for one address, another is drawn for another, and that one is forgotten. The calls
-/// are a run, and by the law the nonce of the one address is what it is where the other never called.
+/// Refreshes the nonce of `one` and that of `other`, and then removes `other`. The calls are a run,
+/// and by the theorem the nonce of `one` is what it would be if `other` had never called.
 pub fn draw_apart<R: Rng>(
     server: &mut LongTermServerAuth,
     one: SocketAddr,
@@ -33,6 +33,6 @@ pub fn draw_apart<R: Rng>(
     refresh(server, one, now, rng)?;
     refresh(server, other, now, again)?;
     remove_client(server, other);
-    addresses_stand_alone();
+    addresses_are_isolated();
     Ok(())
 }

@@ -1,9 +1,9 @@
-//! One call each, as a step of a run.
+//! One call per function, as a step of a run.
 
 ghost use Rattle.std.specs.Prelude.{◌≡◌, ◌≢◌, ◌≤◌, ◌*◌, MatchResult, OnOk};
 ghost use Rattle.std.specs.Duration.{as_nanos};
 ghost use Rattle.std.specs.Option.{option_copied};
-ghost use Rattle.stun_types_write.specs.Adding.{IsBegun};
+ghost use Rattle.stun_types_write.specs.Adding.{IsStarted};
 ghost use Rattle.stun_types_wire.specs.declared.error.StunWriteError.TheVariants as write;
 ghost use Rattle.stun_proto_server.specs.AuthCalls.{IsCalled};
 ghost use Rattle.stun_proto_server.specs.AuthCalls as call;
@@ -25,7 +25,7 @@ use stun_types_wire::algorithm::IntegrityAlgorithm;
 use stun_types_wire::error::StunWriteError;
 use stun_types_write::writer::MessageWrite;
 
-/// `validate_incoming_message`.
+/// Calls `validate_incoming_message`.
 pub fn validate<R: Rng>(
     server: &mut LongTermServerAuth,
     message: &Message<'_>,
@@ -43,13 +43,13 @@ pub fn validate<R: Rng>(
     server.validate_incoming_message(message, from, now, rng)
 }
 
-/// `sign_outgoing_message`.
+/// Calls `sign_outgoing_message`.
 pub fn sign<W: MessageWrite + Drop>(
     server: &LongTermServerAuth,
     writer: W,
     to: SocketAddr,
 ) -> Result<W, StunWriteError>
-    requires { IsBegun (W.draft writer).bytes }
+    requires { IsStarted (W.draft writer).bytes }
     ensures { MatchResult result
         (λ signed. IsCalled (call.Sign (W.draft writer) to) (call.Signed (W.draft signed))
         server.now server.now)
@@ -60,30 +60,30 @@ pub fn sign<W: MessageWrite + Drop>(
     server.sign_outgoing_message(writer, to)
 }
 
-/// `message_signature_bytes`.
+/// Calls `message_signature_bytes`.
 pub fn size(server: &LongTermServerAuth, to: SocketAddr, is_request: bool) -> usize
-    ensures { IsCalled (call.SizeAsked to is_request) (call.Size result) server.now server.now }
+    ensures { IsCalled (call.SizeRequested to is_request) (call.Size result) server.now server.now }
 {
     server.message_signature_bytes(to, is_request)
 }
 
-/// `nonce_for_client`.
+/// Calls `nonce_for_client`.
 pub fn nonce(server: &LongTermServerAuth, client: SocketAddr) -> Option<&str>
-    ensures { IsCalled (call.NonceAsked client) (call.Nonce (option_copied result))
+    ensures { IsCalled (call.NonceRequested client) (call.Nonce (option_copied result))
         server.now server.now }
 {
     server.nonce_for_client(client)
 }
 
-/// `validated_user`.
+/// Calls `validated_user`.
 pub fn user(server: &LongTermServerAuth, client: SocketAddr) -> Option<&ValidatedUser>
-    ensures { IsCalled (call.UserAsked client) (call.User (option_copied result))
+    ensures { IsCalled (call.UserRequested client) (call.User (option_copied result))
         server.now server.now }
 {
     server.validated_user(client)
 }
 
-/// `refresh_nonce`.
+/// Calls `refresh_nonce`.
 pub fn refresh<R: Rng>(
     server: &mut LongTermServerAuth,
     from: SocketAddr,
@@ -96,21 +96,21 @@ pub fn refresh<R: Rng>(
     server.refresh_nonce(from, now, rng)
 }
 
-/// `remove_client`.
+/// Calls `remove_client`.
 pub fn remove_client(server: &mut LongTermServerAuth, client: SocketAddr)
     ensures { IsCalled (call.RemoveClient client) call.Done server.old server.new }
 {
     server.remove_client(client);
 }
 
-/// `realm`.
+/// Calls `realm`.
 pub fn realm(server: &LongTermServerAuth) -> &str
-    ensures { IsCalled call.RealmAsked (call.Realm result.now) server.now server.now }
+    ensures { IsCalled call.RealmRequested (call.Realm result.now) server.now server.now }
 {
     server.realm()
 }
 
-/// `add_user`.
+/// Calls `add_user`.
 pub fn add_user(server: &mut LongTermServerAuth, user: LongTermCredentials) -> Result<(), NoMemory>
     ensures { OnOk result (IsCalled (call.AddUser user.username user.password) call.Done
         server.old server.new) }
@@ -118,49 +118,49 @@ pub fn add_user(server: &mut LongTermServerAuth, user: LongTermCredentials) -> R
     server.add_user(user)
 }
 
-/// `remove_user`.
+/// Calls `remove_user`.
 pub fn remove_user(server: &mut LongTermServerAuth, user: &str)
     ensures { IsCalled (call.RemoveUser user.now) call.Done server.old server.new }
 {
     server.remove_user(user);
 }
 
-/// `supported_integrity`.
+/// Calls `supported_integrity`.
 pub fn algorithms(server: &LongTermServerAuth) -> &[IntegrityAlgorithm]
-    ensures { IsCalled call.AlgorithmsAsked (call.Algorithms result.now) server.now server.now }
+    ensures { IsCalled call.AlgorithmsRequested (call.Algorithms result.now) server.now server.now }
 {
     server.supported_integrity()
 }
 
-/// `add_supported_integrity`.
+/// Calls `add_supported_integrity`.
 pub fn add_algorithm(server: &mut LongTermServerAuth, algorithm: IntegrityAlgorithm)
     ensures { IsCalled (call.AddAlgorithm algorithm) call.Done server.old server.new }
 {
     server.add_supported_integrity(algorithm);
 }
 
-/// `set_supported_integrity`.
+/// Calls `set_supported_integrity`.
 pub fn set_algorithm(server: &mut LongTermServerAuth, algorithm: IntegrityAlgorithm)
     ensures { IsCalled (call.SetAlgorithm algorithm) call.Done server.old server.new }
 {
     server.set_supported_integrity(algorithm);
 }
 
-/// `anonymous_username`.
+/// Calls `anonymous_username`.
 pub fn anonymity(server: &LongTermServerAuth) -> Feature
-    ensures { IsCalled call.AnonymityAsked (call.Anonymity result) server.now server.now }
+    ensures { IsCalled call.AnonymityRequested (call.Anonymity result) server.now server.now }
 {
     server.anonymous_username()
 }
 
-/// `set_anonymous_username`.
+/// Calls `set_anonymous_username`.
 pub fn set_anonymity(server: &mut LongTermServerAuth, feature: Feature)
     ensures { IsCalled (call.SetAnonymity feature) call.Done server.old server.new }
 {
     server.set_anonymous_username(feature);
 }
 
-/// `set_nonce_expiry_duration`.
+/// Calls `set_nonce_expiry_duration`.
 pub fn set_expiry(server: &mut LongTermServerAuth, duration: Duration)
     requires { MIN_NONCE_EXPIRY * 1_000_000_000 ≤ as_nanos duration }
     ensures { IsCalled (call.SetExpiry (as_nanos duration)) call.Done server.old server.new }

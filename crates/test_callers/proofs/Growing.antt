@@ -8,12 +8,12 @@ use Rattle.stun_types.specs.Outcomes.{IsAdded}
 use Rattle.stun_types.specs.Text.{message_text}
 use Rattle.test_callers.specs.Redirected.{GrowsBy, alternate}
 
--- by none
+-- A message grows by no servers into itself.
 pub grows_by_none : (text : List ℕ) → GrowsBy [] text text
 grows_by_none text mtype number adds h = h ∙ ap (λ (all : List Attr). message_text mtype number all)
     (sym (append-nil adds))
 
--- by one more
+-- A message that grew by some servers, and then by one more, grew by all of them.
 pub grows_by_one : (servers : List SocketAddr) (server : SocketAddr) (first : List ℕ) (old new : Draft)
     → GrowsBy servers first old.bytes
     → IsAdded (alternate server) old new
@@ -22,6 +22,6 @@ grows_by_one servers server first old new grown one mtype number adds h =
     let more : (adds ++ map alternate servers) ++ alternate server ∷ []
     ≡ adds ++ map alternate (servers ++ server ∷ []) =
     append_assoc adds (map alternate servers) (alternate server ∷ []) ∙ ap
-    (λ (behind : List Attr). adds ++ behind) (sym (map_push alternate servers server)) in
+    (λ (following : List Attr). adds ++ following) (sym (map_push alternate servers server)) in
     one.text mtype number (adds ++ map alternate servers) (grown mtype number adds h)
     ∙ ap (λ (all : List Attr). message_text mtype number all) more

@@ -1,4 +1,5 @@
--- Where nothing is sent to a peer: where there is a refusal, as where no permission stands for its address.
+-- When nothing is sent to a peer: sending is refused, for instance because there is no permission for its
+-- address.
 use Rattle.std.proofs.Common.{◌≡◌, ◌≢◌, ℕ, Bool, true, false, List, Option, Some, None, Ok, Err, refl, subst, ap}
 use Rattle.std.specs.Prelude.{MatchOption, MatchResult, if◌then◌else◌, not, is_none, is_some}
 use Rattle.std.specs.Net.Socket.{socket_ip}
@@ -8,15 +9,15 @@ use Rattle.turn_client_proto.specs.Allocation.declared.channel.Channel.{Channel}
 use Rattle.turn_client_proto.specs.Api.declared.error.SendError.{SendError}
 use Rattle.turn_client_proto.specs.Api.declared.error.SendError.TheVariants.{NoMemory, NoPermission}
 use Rattle.turn_client_proto.specs.Getters.{has_permission}
-use Rattle.turn_client_proto.specs.Kept.{Protocol}
+use Rattle.turn_client_proto.specs.ClientState.{Protocol}
 use Rattle.turn_client_proto.specs.Sending.{Answer, Full, IsSendAnswered, IsSentBy, IsSentOver, Numbered, channel_to, send_refusal, standing, way_refusal}
 
 module _ (old : Protocol) (to : SocketAddr) (bytes : List ℕ) where
   is_refused : has_permission Udp (socket_ip to) old ≡ false → send_refusal Udp old to bytes ≡ Some NoPermission
   unfolding send_refusal
-  is_refused none = ap (λ (stands : Bool). if not stands then Some NoPermission else way_refusal Udp old to bytes) none
+  is_refused none = ap (λ (occurs : Bool). if not occurs then Some NoPermission else way_refusal Udp old to bytes) none
 
-  -- without a permission nothing is sent, and nothing changes
+  -- Without a permission nothing is sent, and nothing changes.
   pub nothing_sent : has_permission Udp (socket_ip to) old ≡ false → (now : ℕ) (answer : Answer) (new : Protocol)
       → IsSendAnswered old Udp to bytes now answer new → (answer ≡ Err NoPermission) × (new ≡ old)
   nothing_sent none now answer new is =
@@ -25,13 +26,13 @@ module _ (old : Protocol) (to : SocketAddr) (bytes : List ℕ) where
 
   module _ (new : Protocol) where
     always_sent : (found : Option Channel) → IsSentBy found old to bytes (Ok None) new → ⊥
-    always_sent None (Numbered number is told, same) = Prim.cc told
-    always_sent None (Full all told, same) = Prim.cc told
+    always_sent None (Numbered number is reported, same) = Prim.cc reported
+    always_sent None (Full all reported, same) = Prim.cc reported
     always_sent (Some channel) is = Prim.cc is.0
 
     is_memory : (error : SendError) (found : Option Channel) → IsSentBy found old to bytes (Err error) new → error ≡ NoMemory
-    is_memory error None (Numbered number is told, same) = absurd (Prim.cc told)
-    is_memory error None (Full all told, same) = Prim.cc told
+    is_memory error None (Numbered number is reported, same) = absurd (Prim.cc reported)
+    is_memory error None (Full all reported, same) = Prim.cc reported
     is_memory error (Some channel) is = absurd (Prim.cc is.0)
 
     by_refusal : (refused : Option SendError) (found : Option Channel) (answer : Answer)
@@ -43,7 +44,8 @@ module _ (old : Protocol) (to : SocketAddr) (bytes : List ℕ) where
     by_refusal (Some refused) found (Ok sent) is = absurd (Prim.cc is.0)
     by_refusal (Some refused) found (Err error) is = λ other. refl
 
-  -- something is sent where there is no refusal; and where there is one, or no number, the answer is an error
+  -- If sending isn't refused, something is sent. If it is, or no transaction ID is free, the result is an
+  -- error.
   pub is_sent : (now : ℕ) (answer : Answer) (new : Protocol) → IsSendAnswered old Udp to bytes now answer new
       → MatchResult answer (λ sent. (is_some sent ≡ true) × (is_none (send_refusal Udp old to bytes) ≡ true))
       (λ error. error ≢ NoMemory → is_none (send_refusal Udp old to bytes) ≡ false)

@@ -1,3 +1,3 @@
-pub mod Asked
+pub mod Requested
 pub mod Looked
 pub mod Redirected

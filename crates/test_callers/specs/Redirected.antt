@@ -7,11 +7,12 @@ use Rattle.stun_types.specs.Attributes.{Attr}
 use Rattle.stun_types.specs.Registry.{alternate_server_kind}
 use Rattle.stun_types.specs.Text.{message_text}
 
--- the ALTERNATE-SERVER of an address
+-- The ALTERNATE-SERVER for an address.
 abbrev pub alternate : SocketAddr → Attr
 alternate server = attr_of alternate_server_kind (address_value server)
 
--- the text of a message became the text of that message with these servers at its end
+-- The new bytes are the message of the old ones with an ALTERNATE-SERVER for each of these servers at its
+-- end.
 abbrev pub GrowsBy : List SocketAddr → List ℕ → List ℕ → Type 0
 GrowsBy servers old new = (mtype number : ℕ) (adds : List Attr) → old ≡ message_text mtype number adds
     → new ≡ message_text mtype number (adds ++ map alternate servers)

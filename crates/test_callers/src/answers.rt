@@ -1,7 +1,7 @@
-//! Responses: one that refuses a request, and one that names other servers.
+//! Responses: one that rejects a request, and one that names other servers.
 
 ghost use Rattle.std.specs.Prelude.{◌≡◌, ◌∷◌, [], IfOk, OnOk};
-ghost use Rattle.stun_types.specs.Adding.{IsBegun};
+ghost use Rattle.stun_types.specs.Adding.{IsStarted};
 ghost use Rattle.stun_types.specs.Attributes.{kind_at};
 ghost use Rattle.stun_types.specs.Grammar.{number_at};
 ghost use Rattle.stun_types.specs.MessageClasses.{Request};
@@ -16,8 +16,8 @@ use stun_types::attribute::{AlternateServer, ErrorCode};
 use stun_types::message::{Message, MessageWriteVec, StunWriteError, add_as};
 use stun_types::prelude::MessageWrite;
 
-/// Answers a request with an error response that shows ERROR-CODE of a code, with the reason that goes
-/// with it.
+/// Builds an error response to a request, with an ERROR-CODE of this code and the code's default
+/// reason.
 pub(crate) fn reject(alloc: Global, request: &Message, code: u16) -> Result<Vec<u8>, StunWriteError>
     requires { class_of (kind_at request.now) ≡ Request }
     ensures { IfOk result (λ reply. reply.items ≡ message_text
@@ -29,15 +29,15 @@ pub(crate) fn reject(alloc: Global, request: &Message, code: u16) -> Result<Vec<
     Ok(reply.finish())
 }
 
-/// Adds an ALTERNATE-SERVER of each address to a message that was begun. Refused as an add is: those
-/// before it are added then.
+/// Adds an ALTERNATE-SERVER for each address to a message that is being built. Fails as adding an
+/// attribute does; the attributes before the failing one stay added.
 #[tactic(auto, using(crate::proofs::Growing::grows_by_none, crate::proofs::Growing::grows_by_one))]
 pub(crate) fn redirect<W: MessageWrite>(
     writer: &mut W,
     servers: &[SocketAddr],
 ) -> Result<(), StunWriteError>
-    requires { IsBegun (W.draft writer.old).bytes }
-    ensures begun { IsBegun (W.draft writer.new).bytes }
+    requires { IsStarted (W.draft writer.old).bytes }
+    ensures started { IsStarted (W.draft writer.new).bytes }
     ensures added { OnOk result (GrowsBy servers.now
         (W.draft writer.old).bytes (W.draft writer.new).bytes) }
 {

@@ -1,4 +1,4 @@
-//! A client: the request that it sends first, and a datagram that it is handed.
+//! A client: the request that it sends first, and a datagram that it handles.
 
 ghost use Rattle.std.specs.Prelude.{◌≡◌, ◌≢◌, ◌≤◌, IfOk, IsSome, Ok, false, length};
 ghost use Rattle.stun_types.specs.Registry.{longest_username};
@@ -13,8 +13,8 @@ use turn_client_proto::prelude::TurnClientApi;
 use turn_client_proto::types::TurnCredentials;
 use turn_client_proto::udp::TurnClientUdp;
 
-/// A client of a user that asks a server for an allocation over UDP, and the request that it sends
-/// first. The name has 513 bytes at most.
+/// Returns a client that requests a UDP allocation from a server, and the request that it sends
+/// first. The user name has at most 513 bytes.
 pub(crate) fn begin(
     alloc: Global,
     local: SocketAddr,
@@ -24,7 +24,7 @@ pub(crate) fn begin(
     seed: [u8; 32],
 ) -> Result<(TurnClientUdp, Option<Transmit<Data<'static>>>), NoMemory>
     requires { length user.now ≤ longest_username }
-    ensures { IfOk result (λ begun. IsSome begun.1) }
+    ensures { IfOk result (λ started. IsSome started.1) }
 {
     let config = TurnConfig::new(TurnCredentials::new(alloc, user, password)?);
     let mut client = TurnClientUdp::allocate(alloc, local, server, config, seed)?;
@@ -32,9 +32,9 @@ pub(crate) fn begin(
     Ok((client, first))
 }
 
-/// Hands a client a datagram that came from an address, and answers whether it was a message for it. From
-/// another address than the server's nothing is.
-pub(crate) fn hear(
+/// Passes a datagram to a client, and returns whether it was a message for it. A datagram from
+/// another address than the server's never is.
+pub(crate) fn process(
     client: &mut TurnClientUdp,
     bytes: &[u8],
     from: SocketAddr,

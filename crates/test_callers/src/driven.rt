@@ -1,5 +1,5 @@
-//! A client that is driven: what came for it, what it sends, until when it waits, what happened to it, and
-//! what its user does then.
+//! The loop that drives a client: what it receives, what it sends, how long it waits, its events,
+//! and what its user does in response.
 
 ghost use Rattle.std.specs.Prelude.{◌≡◌, ◌≢◌, [], IfOk};
 
@@ -15,10 +15,12 @@ use turn_client_proto::tcp::TurnClientTcp;
 use turn_client_proto::types::TurnCredentials;
 use turn_client_proto::udp::TurnClientUdp;
 
-/// Lets a client do what is due at a moment: it sends, is polled, and each event is followed, up to the
-/// bytes that go to a peer; what was asked for goes out in another turn. To be called again at once, unless
-/// the answer is `Closed`, or to wait until a later moment. Where the answer isn't to wait until this very
-/// moment, no event waits any more.
+/// Does what is due for a client at `now`: sends what it has to send, polls it, and follows each
+/// event, up to sending bytes to the peer. Requests that the events lead to are sent in the next
+/// turn.
+///
+/// Call it again at once, unless it returns `Closed` or a wait until a later time. Unless it
+/// returns a wait until `now`, no event is queued any more.
 pub(crate) fn drive<C: TurnClientApi>(
     rt: &impl Print,
     alloc: Global,
@@ -28,7 +30,7 @@ pub(crate) fn drive<C: TurnClientApi>(
     now: Instant,
 ) -> anyhow::Result<TurnPollRet>
     ensures { IfOk result (λ answer. answer ≢ TurnPollRet.WaitUntil now
-        → (C.kept client.new).core.events ≡ []) }
+        → (C.stored client.new).core.events ≡ []) }
 {
     for _ in 0..u64::MAX {
         let Some(sent) = client.poll_transmit(now)? else {
@@ -60,9 +62,10 @@ pub(crate) fn drive<C: TurnClientApi>(
     Ok(TurnPollRet::WaitUntil(now))
 }
 
-/// Hands a client what came from its server, and takes the data of a peer out of it. Then the client is to
-/// end, for that was all it waited for. Over TCP more may stand behind the first payload.
-pub(crate) fn hear<C: TurnClientApi>(
+/// Passes bytes from the server to a client, and prints the data from a peer in them. The first
+/// data ends the client, which waited only for that. Over TCP there may be more data after the
+/// first.
+pub(crate) fn process<C: TurnClientApi>(
     rt: &impl Print,
     client: &mut C,
     bytes: &[u8],
@@ -87,10 +90,10 @@ pub(crate) fn hear<C: TurnClientApi>(
     Ok(())
 }
 
-/// How often a client is driven at most.
+/// The most turns in which a client is driven.
 const MOST_TURNS: u64 = 100;
 
-/// Drives a client until it has closed, and prints when that is.
+/// Drives a client until it has closed, and prints the time at which it has.
 fn run<C: TurnClientApi>(
     rt: &impl Print,
     alloc: Global,
@@ -100,12 +103,13 @@ fn run<C: TurnClientApi>(
 ) -> anyhow::Result<()> {
     let mut now = Instant::ZERO;
     for _ in 0..MOST_TURNS {
-        hear_all(rt, client, line, now)?;
+        process_all(rt, client, line, now)?;
         match drive(rt, alloc, client, line, peer, now)? {
-            // With sockets: wait until then, or until something comes, and look at the clock.
-            TurnPollRet::WaitUntil(moment) => {
+            // With real sockets: wait until that time or until something is received, and read the
+            // clock.
+            TurnPollRet::WaitUntil(time) => {
                 if line.is_empty() {
-                    now = now.max(moment);
+                    now = now.max(time);
                 }
             }
             TurnPollRet::Closed => {
@@ -114,15 +118,15 @@ fn run<C: TurnClientApi>(
                 return Ok(());
             }
             TurnPollRet::NoMemory => return Err(NoMemory.into()),
-            // Of sockets for connections to peers, for which nothing has asked.
+            // These are about sockets for connections to peers, which nothing here requests.
             TurnPollRet::AllocateTcpSocket { .. } | TurnPollRet::TcpClose { .. } => {}
         }
     }
     Ok(())
 }
 
-/// Hands a client all that came.
-fn hear_all<C: TurnClientApi>(
+/// Passes all received bytes to a client.
+fn process_all<C: TurnClientApi>(
     rt: &impl Print,
     client: &mut C,
     line: &mut Line,
@@ -131,7 +135,7 @@ fn hear_all<C: TurnClientApi>(
     for _ in 0..u64::MAX {
         match line.read() {
             Some(bytes) => {
-                let done = hear(rt, client, bytes.as_slice(), now);
+                let done = process(rt, client, bytes.as_slice(), now);
                 drop(bytes);
                 done?;
                 show(rt, client)?;
@@ -142,21 +146,21 @@ fn hear_all<C: TurnClientApi>(
     Ok(())
 }
 
-/// Prints the channels that a client holds, each with its place among them.
+/// Prints the channels of a client, each with its index among them.
 fn show<C: TurnClientApi>(rt: &impl Print, client: &C) -> anyhow::Result<()> {
     let all = client.channels().len();
-    for (place, (number, peer)) in client.channels().enumerate() {
-        println!(rt; "drive: channel {number} to {peer}, place {place} of {all}")?;
+    for (index, (number, peer)) in client.channels().enumerate() {
+        println!(rt; "drive: channel {number} to {peer}, place {index} of {all}")?;
     }
     Ok(())
 }
 
-/// The address of a host of the client's network.
+/// Returns the address of a host in the client's network.
 const fn host(last: u8, port: u16) -> SocketAddr {
     SocketAddr::new(IpAddr::V4(Ipv4Addr::new(10, 0, 0, last)), port)
 }
 
-/// Drives a client over UDP, and one over TCP, by one server to one peer.
+/// Drives a client over UDP and one over TCP, with one server and one peer.
 pub(crate) fn drive_both(rt: &impl Print, alloc: Global) -> anyhow::Result<()> {
     let peer = host(1, 5);
     match Line::new(alloc) {

@@ -1,5 +1,4 @@
-//! What stands in the place of a client's sockets: a server in memory, and a peer behind it that sends all
-//! data back.
+//! A replacement for a client's sockets: a server in memory, and a peer that sends all data back.
 
 use crate::served::decision;
 use crate::user::server;
@@ -14,7 +13,7 @@ use stun_types::message::Message;
 use turn_desk::{Decision, Desk};
 use turn_types::message::{ALLOCATE, REFRESH};
 
-/// A server in memory, and what came of it and was not read yet, the oldest first.
+/// A server in memory, and what it has sent and the client has not read yet, oldest first.
 #[derive(Drop)]
 pub(crate) struct Line {
     alloc: Global,
@@ -23,7 +22,7 @@ pub(crate) struct Line {
 }
 
 impl Line {
-    /// A line to a server that knows the user.
+    /// Returns a line to a server that knows the user.
     pub(crate) fn new(alloc: Global) -> Result<Line, NoMemory> {
         match server(alloc) {
             Ok(server) => Ok(Line {
@@ -35,7 +34,7 @@ impl Line {
         }
     }
 
-    /// Takes what a client sends from an address, and keeps what comes back.
+    /// Passes on what a client sends from an address, and buffers what comes back.
     pub(crate) fn write(
         &mut self,
         bytes: &[u8],
@@ -48,18 +47,19 @@ impl Line {
         }
     }
 
-    /// What came first and was not read yet.
+    /// Removes and returns the oldest bytes that have not been read yet.
     pub(crate) fn read(&mut self) -> Option<Vec<u8>> {
         self.came.pop_front()
     }
 
-    /// Whether all that came was read.
+    /// Returns whether everything received has been read.
     pub(crate) fn is_empty(&self) -> bool {
         self.came.is_empty()
     }
 
-    /// What comes back: the server's reply to a request. All else is taken for a channel frame to the peer,
-    /// which sends the same data back, and the server carries it in the same frame.
+    /// Returns what comes back: the server's reply to a request. Anything else is taken for a
+    /// channel frame to the peer, which sends the data back, so that the server relays it in an
+    /// identical frame.
     fn answer(
         &mut self,
         bytes: &[u8],
@@ -73,8 +73,9 @@ impl Line {
         }
     }
 
-    /// The server's reply, where the bytes are a request. What it decides is used only of a request that
-    /// it validates: one that opens sockets to peers does so where the reply is a success.
+    /// Returns the server's reply if the bytes are a request. The decision takes effect only for a
+    /// request that the server validates; one that opens sockets to peers takes effect if the reply
+    /// is a success.
     fn reply(
         &mut self,
         bytes: &[u8],
@@ -93,8 +94,8 @@ impl Line {
     }
 }
 
-/// What a server decides of bytes, before they are validated: an address for ten minutes of an ALLOCATE,
-/// the end of a REFRESH, and else that what is asked for is granted.
+/// Returns the decision on bytes before they are validated: an address for ten minutes for an
+/// ALLOCATE, deletion for a REFRESH, and a grant for anything else.
 fn decide(alloc: Global, bytes: &[u8]) -> Result<Decision, NoMemory> {
     let Ok(request) = Message::from_bytes(bytes) else {
         return Ok(Decision::Grant);

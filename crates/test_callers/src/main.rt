@@ -1,5 +1,5 @@
-//! Callers of the libraries, each with a contract of its own. The program calls each of them, and prints
-//! a line or two of what it answers.
+//! Callers of the libraries, each with a contract of its own. The program calls each of them, and
+//! prints a line or two of what it returns.
 #![tactic(auto)]
 
 mod answers;
@@ -15,13 +15,13 @@ mod user;
 mod validating;
 
 use crate::answers::{redirect, reject};
-use crate::client::{begin, hear};
+use crate::client::{begin, process};
 use crate::driven::drive_both;
 use crate::message::{Looked, lifetime, look, sign};
 use crate::payloads::{reach, send, take};
 use crate::samples::{PASSWORD, SAMPLE, UNSIGNED};
 use crate::served::{allocate, serve};
-use crate::streams::ask_in_pieces;
+use crate::streams::ask_in_chunks;
 use crate::user::{key_of_user, server};
 use crate::validating::validate;
 use rand_chacha::ChaCha20Rng;
@@ -61,37 +61,41 @@ fn main(rt: HostRuntime) -> anyhow::Result<()> {
     drive_both(&rt, rt.alloc())
 }
 
-/// Looks into the sample, and into bytes that are no message.
+/// Decodes the sample, and bytes that are no message.
 fn look_at_samples(rt: &impl Print) -> anyhow::Result<()> {
     for bytes in [SAMPLE, PASSWORD.as_bytes()] {
         match look(bytes) {
-            Ok(told) => print_looked(rt, &told)?,
+            Ok(reported) => print_looked(rt, &reported)?,
             Err(error) => println!(rt; "look: no message: {error}")?,
         }
     }
     Ok(())
 }
 
-/// Prints what a message tells.
-fn print_looked(rt: &impl Print, told: &Looked<'_>) -> io::Result<()> {
-    let class = match told.class {
+/// Prints what was decoded from a message.
+fn print_looked(rt: &impl Print, reported: &Looked<'_>) -> io::Result<()> {
+    let class = match reported.class {
         MessageClass::Request => "request",
         MessageClass::Indication => "indication",
         MessageClass::Success => "success response",
         MessageClass::Error => "error response",
     };
-    let signed = if told.is_signed { "signed" } else { "unsigned" };
+    let signed = if reported.is_signed {
+        "signed"
+    } else {
+        "unsigned"
+    };
     println!(rt;
         "look: a {signed} {class} of method {}, number {}",
-        told.method.0, told.number
+        reported.method.0, reported.number
     )?;
-    match &told.user {
+    match &reported.user {
         Some(user) => print_hex(rt, "look: user", user.value()),
         None => println!(rt; "look: no user"),
     }
 }
 
-/// Reads the LIFETIME of a request that shows one, and of one that shows none.
+/// Reads the LIFETIME of a request that has one, and of one that has none.
 fn read_lifetimes(rt: &impl Print, alloc: Global) -> anyhow::Result<()> {
     for bytes in [UNSIGNED, SAMPLE] {
         match lifetime(alloc, &Message::from_bytes(bytes)?)? {
@@ -102,7 +106,7 @@ fn read_lifetimes(rt: &impl Print, alloc: Global) -> anyhow::Result<()> {
     Ok(())
 }
 
-/// Validates the sample under its password, and under another one.
+/// Validates the sample with its password, and with another one.
 fn validate_sample(rt: &impl Print, alloc: Global) -> anyhow::Result<()> {
     for password in [PASSWORD, "pass"] {
         let secret = ShortTermCredentials::new(String::from_str(alloc, password)?);
@@ -116,8 +120,8 @@ fn validate_sample(rt: &impl Print, alloc: Global) -> anyhow::Result<()> {
     Ok(())
 }
 
-/// Answers the sample with an error response, and sends its client to other servers, by a response in
-/// lent bytes.
+/// Responds to the sample with an error, and redirects its client to other servers, by a response
+/// in borrowed bytes.
 fn answer_sample(rt: &impl Print, alloc: Global) -> anyhow::Result<()> {
     let request = Message::from_bytes(SAMPLE)?;
     if !request.has_class(MessageClass::Request) {
@@ -141,8 +145,8 @@ fn answer_sample(rt: &impl Print, alloc: Global) -> anyhow::Result<()> {
     Ok(())
 }
 
-/// Signs a request under a nonce that was never drawn, and under the one that the server then keeps for
-/// the client, and has the server answer both.
+/// Signs a request with a nonce that was never generated, and with the one that the server then
+/// stores for the client, and prints the server's response to both.
 fn serve_user(rt: &impl Print, alloc: Global) -> anyhow::Result<()> {
     match server(alloc) {
         Ok(mut server) => {
@@ -154,7 +158,7 @@ fn serve_user(rt: &impl Print, alloc: Global) -> anyhow::Result<()> {
     }
 }
 
-/// Has a server answer both requests of the user.
+/// Prints a server's response to both requests of the user.
 fn serve_key(
     rt: &impl Print,
     alloc: Global,
@@ -170,7 +174,7 @@ fn serve_key(
     }
 }
 
-/// Has a server answer both requests of a user.
+/// Prints a server's response to both requests of a user.
 fn serve_twice(
     rt: &impl Print,
     alloc: Global,
@@ -193,7 +197,7 @@ fn serve_twice(
     Ok(())
 }
 
-/// Prints a signed request, and what a server answers it.
+/// Prints a signed request, and a server's response to it.
 fn serve_signed(
     rt: &impl Print,
     alloc: Global,
@@ -218,7 +222,7 @@ fn serve_signed(
     Ok(())
 }
 
-/// Hands a request that is not signed to a desk, and bytes that are no ALLOCATE request.
+/// Passes an unsigned request to a server core, and then bytes that are no ALLOCATE request.
 fn challenge_client(rt: &impl Print, alloc: Global) -> anyhow::Result<()> {
     let from = SocketAddr::new(IpAddr::V4(Ipv4Addr::new(192, 0, 2, 9)), 50_000);
     for bytes in [UNSIGNED, SAMPLE] {
@@ -236,13 +240,13 @@ fn challenge_client(rt: &impl Print, alloc: Global) -> anyhow::Result<()> {
     Ok(())
 }
 
-/// Makes a client, hands it a datagram that isn't the server's, and looks at the text of its `Debug`.
+/// Makes a client, passes it a datagram that isn't from the server, and examines its `Debug` text.
 fn begin_client(rt: &impl Print, alloc: Global) -> anyhow::Result<()> {
     let local = SocketAddr::new(IpAddr::V4(Ipv4Addr::new(192, 168, 0, 1)), 1000);
     let server = SocketAddr::new(IpAddr::V4(Ipv4Addr::new(10, 0, 0, 2)), 2000);
     match begin(alloc, local, server, "somebody", "secret", [0; 32]) {
         Ok((mut client, first)) => {
-            let done = tell_client(rt, alloc, &mut client, first.as_ref(), local);
+            let done = report_client(rt, alloc, &mut client, first.as_ref(), local);
             drop(first);
             drop(client);
             done
@@ -251,9 +255,9 @@ fn begin_client(rt: &impl Print, alloc: Global) -> anyhow::Result<()> {
     }
 }
 
-/// Prints what a client sends first, hands it a datagram that came from an address, and prints which texts
-/// of its account its `Debug` shows.
-fn tell_client(
+/// Prints what a client sends first, passes it a datagram from an address, and prints which of its
+/// credentials its `Debug` text shows.
+fn report_client(
     rt: &impl Print,
     alloc: Global,
     client: &mut TurnClientUdp,
@@ -264,8 +268,8 @@ fn tell_client(
         Some(sent) => print_hex(rt, "begin", sent.bytes.as_slice())?,
         None => println!(rt; "begin: nothing is sent")?,
     }
-    let is_heard = hear(client, UNSIGNED, from, Instant::ZERO)?;
-    println!(rt; "hear: {is_heard}")?;
+    let is_processed = process(client, UNSIGNED, from, Instant::ZERO)?;
+    println!(rt; "hear: {is_processed}")?;
     let text = format!(in alloc; "{client:?}")?;
     let (name, password) = (text.contains("somebody"), text.contains("secret"));
     drop(text);
@@ -273,7 +277,7 @@ fn tell_client(
     Ok(())
 }
 
-/// Has a client reach a peer by a desk.
+/// Lets a client reach a peer through a server core.
 fn talk_to_peer(rt: &impl Print, alloc: Global) -> anyhow::Result<()> {
     match server(alloc) {
         Ok(server) => {
@@ -286,7 +290,7 @@ fn talk_to_peer(rt: &impl Print, alloc: Global) -> anyhow::Result<()> {
     }
 }
 
-/// Makes a client that reaches a peer by a desk.
+/// Makes a client that reaches a peer through a server core.
 fn talk_by_desk(rt: &impl Print, alloc: Global, desk: &mut Desk) -> anyhow::Result<()> {
     let local = SocketAddr::new(IpAddr::V4(Ipv4Addr::new(192, 168, 0, 1)), 1000);
     let server = SocketAddr::new(IpAddr::V4(Ipv4Addr::new(10, 0, 0, 2)), 2000);
@@ -304,7 +308,7 @@ fn talk_by_desk(rt: &impl Print, alloc: Global, desk: &mut Desk) -> anyhow::Resu
     }
 }
 
-/// Prints what goes to a peer, and data of the peer's.
+/// Prints what is sent to a peer, and data from the peer.
 fn talk(
     rt: &impl Print,
     alloc: Global,
@@ -320,18 +324,18 @@ fn talk(
         }
         None => println!(rt; "send: nothing is sent")?,
     }
-    let told = DelayedMessage::for_client(peer, TransactionId::from(7u128), "hello".as_bytes());
-    match told.build(alloc) {
-        Ok(told) => {
-            let taken = take(alloc, client, told.as_slice(), now);
-            drop(told);
+    let reported = DelayedMessage::for_client(peer, TransactionId::from(7u128), "hello".as_bytes());
+    match reported.build(alloc) {
+        Ok(reported) => {
+            let taken = take(alloc, client, reported.as_slice(), now);
+            drop(reported);
             print_taken(rt, taken?)
         }
         Err(error) => Err(error.into()),
     }
 }
 
-/// Prints data of a peer's.
+/// Prints data from a peer.
 fn print_taken(rt: &impl Print, taken: Option<(SocketAddr, Vec<u8>)>) -> anyhow::Result<()> {
     match taken {
         Some((peer, data)) => {
@@ -345,7 +349,7 @@ fn print_taken(rt: &impl Print, taken: Option<(SocketAddr, Vec<u8>)>) -> anyhow:
     Ok(())
 }
 
-/// Prints bytes in lower case hex behind a name.
+/// Prints a name, and bytes in lower case hex.
 fn print_hex(rt: &impl Print, name: &str, bytes: &[u8]) -> io::Result<()> {
     print!(rt; "{name}: ")?;
     for byte in bytes {
@@ -354,7 +358,7 @@ fn print_hex(rt: &impl Print, name: &str, bytes: &[u8]) -> io::Result<()> {
     println!(rt)
 }
 
-/// Has a client over TCP ask a desk for an allocation.
+/// Lets a client over TCP request an allocation from a server core.
 fn allocate_by_stream(rt: &impl Print, alloc: Global) -> anyhow::Result<()> {
     match server(alloc) {
         Ok(server) => {
@@ -367,14 +371,14 @@ fn allocate_by_stream(rt: &impl Print, alloc: Global) -> anyhow::Result<()> {
     }
 }
 
-/// Makes the client, whose server is a desk.
+/// Makes the client, with a server core as its server.
 fn ask_by_stream(rt: &impl Print, alloc: Global, desk: &mut Desk) -> anyhow::Result<()> {
     let local = SocketAddr::new(IpAddr::V4(Ipv4Addr::new(192, 168, 0, 1)), 1000);
     let server = SocketAddr::new(IpAddr::V4(Ipv4Addr::new(10, 0, 0, 2)), 2000);
     let config = TurnConfig::new(TurnCredentials::new(alloc, "user", "pass")?);
     match TurnClientTcp::allocate(alloc, local, server, config, [0; 32]) {
         Ok(mut client) => {
-            let done = tell_stream(rt, alloc, &mut client, desk);
+            let done = report_stream(rt, alloc, &mut client, desk);
             drop(client);
             done
         }
@@ -382,16 +386,16 @@ fn ask_by_stream(rt: &impl Print, alloc: Global, desk: &mut Desk) -> anyhow::Res
     }
 }
 
-/// Has a desk answer a client twice, each answer in two pieces of a stream, and prints the addresses that the
-/// client shows then.
-fn tell_stream(
+/// Passes a server core's replies to a client twice, each in two chunks of a stream, and prints the
+/// relayed addresses that the client then has.
+fn report_stream(
     rt: &impl Print,
     alloc: Global,
     client: &mut TurnClientTcp,
     desk: &mut Desk,
 ) -> anyhow::Result<()> {
     for now in [0, 50_000_000] {
-        ask_in_pieces(alloc, client, desk, Instant::from_nanos(now))?;
+        ask_in_chunks(alloc, client, desk, Instant::from_nanos(now))?;
     }
     for (_, relayed) in client.relayed_addresses() {
         println!(rt; "stream: relayed at {relayed}")?;

@@ -1,11 +1,11 @@
-//! Messages that are looked into, and messages that are signed.
+//! Decoding and signing of messages.
 
 ghost use Rattle.std.specs.Prelude.{◌≡◌, IfErr, IfOk, IsSomeAnd, MatchResult, Some};
 ghost use Rattle.stun_types.specs.Grammar.{refusal};
 ghost use Rattle.stun_types.specs.ValueReading.{value_refusal};
 ghost use Rattle.turn_types.specs.TurnRegistry.{lifetime_kind};
-ghost use Rattle.test_callers.specs.Asked.{signed_text};
-ghost use Rattle.test_callers.specs.Looked.{IsLifetime, Tells, first_shown};
+ghost use Rattle.test_callers.specs.Requested.{signed_text};
+ghost use Rattle.test_callers.specs.Looked.{IsLifetime, Reports, first_visible};
 
 use std::alloc::Global;
 use stun_types::attribute::{MessageIntegrity, Nonce, RawAttribute, Realm, Username};
@@ -17,7 +17,8 @@ use stun_types::prelude::{AttributeStaticType, MessageWrite, MessageWriteExt};
 use turn_types::attribute::{Lifetime, RequestedTransport};
 use turn_types::message::ALLOCATE;
 
-/// What a message tells: its type, its number, whether it is signed, and which user sent it.
+/// What is decoded from a message: its type, its transaction ID, whether it is signed, and its
+/// user.
 #[derive(Drop)]
 pub(crate) struct Looked<'a> {
     pub(crate) class: MessageClass,
@@ -27,9 +28,9 @@ pub(crate) struct Looked<'a> {
     pub(crate) user: Option<RawAttribute<'a>>,
 }
 
-/// Looks into a message. Refused where the bytes are no message, with what is wrong with them.
+/// Decodes a message. Fails with what is wrong if the bytes are no message.
 pub(crate) fn look(bytes: &[u8]) -> Result<Looked<'_>, StunParseError>
-    ensures { MatchResult result (Tells bytes.now) (λ error. refusal bytes.now ≡ Some error) }
+    ensures { MatchResult result (Reports bytes.now) (λ error. refusal bytes.now ≡ Some error) }
 {
     let message = Message::from_bytes(bytes)?;
     Ok(Looked {
@@ -41,22 +42,22 @@ pub(crate) fn look(bytes: &[u8]) -> Result<Looked<'_>, StunParseError>
     })
 }
 
-/// The ALLOCATE request of a user under a nonce, signed by HMAC-SHA1. Refused where a text is too long
-/// for its attribute.
+/// Returns the ALLOCATE request of a user with this nonce, signed with HMAC-SHA1. Fails if a text
+/// is too long for its attribute.
 pub(crate) fn sign(
     alloc: Global,
-    number: TransactionId,
+    transaction_id: TransactionId,
     user: &LongTermKeyCredentials,
     nonce: &str,
 ) -> Result<Vec<u8>, StunWriteError>
-    ensures { IfOk result (λ bytes. bytes.items ≡ signed_text number user.now nonce.now) }
+    ensures { IfOk result (λ bytes. bytes.items ≡ signed_text transaction_id user.now nonce.now) }
 {
     let transport = RequestedTransport::new(RequestedTransport::UDP);
     let name = Username::new(alloc, user.username())?;
     let realm = Realm::new(alloc, user.realm())?;
     let nonce = Nonce::new(alloc, nonce)?;
     let mtype = MessageType::from_class_method(MessageClass::Request, ALLOCATE);
-    let mut writer = Message::builder(mtype, number, MessageWriteVec::new(alloc))?;
+    let mut writer = Message::builder(mtype, transaction_id, MessageWriteVec::new(alloc))?;
     add_as(&mut writer, &transport, &transport)?;
     add_as(&mut writer, &name, &name)?;
     add_as(&mut writer, &realm, &realm)?;
@@ -66,11 +67,11 @@ pub(crate) fn sign(
     Ok(writer.finish())
 }
 
-/// For how many seconds a message asks for an allocation, or tells that one stands. `None` where it
-/// shows no LIFETIME; refused where the first one that it shows is malformed.
+/// Returns the seconds in a message's LIFETIME: those requested, or those granted. Returns `None`
+/// if it has no visible LIFETIME. Fails if the first visible one is malformed.
 pub(crate) fn lifetime(alloc: Global, message: &Message) -> Result<Option<u32>, StunParseError>
-    ensures told { IfOk result (IsLifetime (first_shown lifetime_kind message.now)) }
-    ensures refused { IfErr result (λ error. IsSomeAnd (first_shown lifetime_kind message.now)
+    ensures reported { IfOk result (IsLifetime (first_visible lifetime_kind message.now)) }
+    ensures refused { IfErr result (λ error. IsSomeAnd (first_visible lifetime_kind message.now)
         (λ a. value_refusal lifetime_kind 4 4 a ≡ Some error)) }
 {
     if !message.has_attribute(Lifetime::TYPE) {

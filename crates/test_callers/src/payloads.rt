@@ -1,4 +1,5 @@
-//! A client that sends bytes to a peer, and takes those of one; and the desk that it asks before.
+//! A client that sends bytes to a peer and receives bytes from one, and the server core that it
+//! requests them from.
 
 ghost use Rattle.std.specs.Prelude.{◌≡◌, IfOk, IsNone, None, Ok, false, is_none, is_some};
 ghost use Rattle.std.specs.Net.Socket.{socket_ip};
@@ -7,7 +8,7 @@ ghost use Rattle.turn_client_proto.specs.Getters.{has_permission};
 ghost use Rattle.turn_client_proto.specs.Payloads.{payload_of};
 ghost use Rattle.turn_client_proto.specs.Sending.{send_refusal};
 
-use crate::client::hear;
+use crate::client::process;
 use crate::served::decision;
 use rand_chacha::ChaCha20Rng;
 use rand_core::SeedableRng;
@@ -21,8 +22,8 @@ use turn_client_proto::prelude::TurnClientApi;
 use turn_client_proto::udp::TurnClientUdp;
 use turn_desk::{Decision, Desk};
 
-/// What goes to the server for a peer: bytes that are to be written to the socket. `None` where no
-/// permission for the peer's address stands, or there are more bytes than a datagram carries.
+/// Returns what is to be written to the socket to send bytes to a peer. Returns `None` if no
+/// permission for the peer's address is active, or there are more bytes than a datagram carries.
 #[tactic(auto, using(crate::proofs::Sending::nothing_sent, crate::proofs::Sending::is_sent))]
 pub(crate) fn send(
     alloc: Global,
@@ -43,8 +44,8 @@ pub(crate) fn send(
     }
 }
 
-/// The peer whose data a datagram of the server's carries, and the data. `None` where it carries none
-/// of a peer that the client lets through.
+/// Returns the peer whose data a datagram from the server carries, and the data. Returns `None` if
+/// it carries none from a permitted peer.
 pub(crate) fn take(
     alloc: Global,
     client: &mut TurnClientUdp,
@@ -69,7 +70,7 @@ pub(crate) fn take(
     }
 }
 
-/// Has a desk answer what a client sends, and hands the client the reply.
+/// Passes what a client sends to a server core, and the reply to the client.
 fn pass_on(
     client: &mut TurnClientUdp,
     desk: &mut Desk,
@@ -84,9 +85,9 @@ fn pass_on(
     match desk.handle(sent.bytes.as_slice(), sent.from, now, decision, &mut words) {
         Ok(Some(reply)) => {
             let server = client.remote_addr();
-            let heard = hear(client, reply.as_slice(), server, now);
+            let processed = process(client, reply.as_slice(), server, now);
             drop(reply);
-            match heard {
+            match processed {
                 Ok(_) => Ok(()),
                 Err(error) => Err(error),
             }
@@ -96,7 +97,7 @@ fn pass_on(
     }
 }
 
-/// Has a desk answer what a client sends now.
+/// Passes what a client sends now to a server core, and the reply to the client.
 fn ask(
     client: &mut TurnClientUdp,
     desk: &mut Desk,
@@ -113,8 +114,8 @@ fn ask(
     }
 }
 
-/// A client that has sent its first request is allocated an address by a desk, and a permission for a
-/// peer, within 100 milliseconds.
+/// Lets a client that has sent its first request get an address and a permission for a peer from a
+/// server core, within 100 milliseconds.
 pub(crate) fn reach(
     alloc: Global,
     client: &mut TurnClientUdp,

@@ -1,4 +1,5 @@
-//! The server's side: requests that are validated and answered, and a desk that challenges.
+//! The server's side: validated requests and the responses to them, and a server core that
+//! challenges.
 
 ghost use Rattle.std.specs.Prelude.{◌≡◌, ◌∷◌, [], ℕ, List, IfOk, MatchOption, OnOk};
 ghost use Rattle.std.specs.declared.net.socket_addr.SocketAddr.{SocketAddr as Address};
@@ -22,8 +23,8 @@ use stun_types::prelude::MessageWrite;
 use stun_types::{ListOf, NoMemory};
 use turn_desk::{Decision, Desk};
 
-/// Answers a request of a user of the server with a success response, signed under the key by which the
-/// request is validated. Refused where it is no such request.
+/// Builds a success response to a request of a user of the server, signed with the key that
+/// validates the request. Fails if the request doesn't validate.
 pub(crate) fn serve<R: Rng>(
     alloc: Global,
     server: &mut LongTermServerAuth,
@@ -43,8 +44,9 @@ pub(crate) fn serve<R: Rng>(
     Ok(reply.finish())
 }
 
-/// The reply of a new desk, which knows one user and relays 203.0.113.5:50000 for ten minutes, to bytes
-/// that came from an address. `None` where they are no request that a desk serves.
+/// Returns the reply of a new server core to bytes from an address. The server knows one user and
+/// allocates 203.0.113.5:50000 for ten minutes. Returns `None` if the bytes are no request that a
+/// server core serves.
 pub(crate) fn allocate<R: Rng>(
     alloc: Global,
     bytes: &[u8],
@@ -65,8 +67,8 @@ pub(crate) fn allocate<R: Rng>(
     }
 }
 
-/// The reply of a desk that relays 203.0.113.5:50000 for ten minutes, to bytes that came from an address.
-/// `None` where they are no request that a desk serves.
+/// Returns the reply of a server core, which allocates 203.0.113.5:50000 for ten minutes, to bytes
+/// from an address. Returns `None` if the bytes are no request that a server core serves.
 fn relay<R: Rng>(
     alloc: Global,
     desk: &mut Desk,
@@ -87,7 +89,7 @@ fn relay<R: Rng>(
     }
 }
 
-/// The decision that 203.0.113.5:50000 is relayed for ten minutes.
+/// Returns the decision to allocate 203.0.113.5:50000 for ten minutes.
 pub(crate) fn decision(alloc: Global) -> Result<Decision, NoMemory>
     ensures { IfOk result (λ decision. (relayed : Address)
         × (decision ≡ Allocate (relayed ∷ []) 600)) }

@@ -1,4 +1,4 @@
-//! A client over TCP: what it makes of the stream that comes from its server, in pieces.
+//! A client over TCP: how it handles the stream from its server in chunks.
 
 use crate::served::decision;
 use rand_chacha::ChaCha20Rng;
@@ -11,15 +11,15 @@ use turn_client_proto::prelude::TurnClientApi;
 use turn_client_proto::tcp::TurnClientTcp;
 use turn_desk::Desk;
 
-/// Hands a client a piece of the stream that came from its server, and asks for all that waits in the stream
-/// then. Answers how many frames carried data of a peer.
+/// Passes a chunk of the server's stream to a client, and then takes all data that is buffered.
+/// Returns the count of frames that carried data from a peer.
 pub(crate) fn drain(
     client: &mut TurnClientTcp,
-    piece: &[u8],
+    chunk: &[u8],
     now: Instant,
 ) -> Result<u64, NoMemory> {
     let came = Transmit::new(
-        piece,
+        chunk,
         TransportType::Tcp,
         client.remote_addr(),
         client.local_addr(),
@@ -37,8 +37,8 @@ pub(crate) fn drain(
     Ok(u64::MAX)
 }
 
-/// Has a desk answer what a client sends now, and hands the client the reply in two pieces.
-pub(crate) fn ask_in_pieces(
+/// Passes what a client sends now to a server core, and the reply to the client in two chunks.
+pub(crate) fn ask_in_chunks(
     alloc: Global,
     client: &mut TurnClientTcp,
     desk: &mut Desk,
@@ -59,7 +59,7 @@ pub(crate) fn ask_in_pieces(
     drop(sent);
     match replied {
         Ok(Some(reply)) => {
-            let done = hand_in_halves(client, reply.as_slice(), now);
+            let done = dispatch_halves(client, reply.as_slice(), now);
             drop(reply);
             done
         }
@@ -68,10 +68,10 @@ pub(crate) fn ask_in_pieces(
     }
 }
 
-/// Hands a client both halves of a reply.
-fn hand_in_halves(client: &mut TurnClientTcp, reply: &[u8], now: Instant) -> Result<(), NoMemory> {
-    let (front, rest) = reply.split_at(reply.len() / 2);
-    drain(client, front, now)?;
+/// Passes both halves of a reply to a client.
+fn dispatch_halves(client: &mut TurnClientTcp, reply: &[u8], now: Instant) -> Result<(), NoMemory> {
+    let (head, rest) = reply.split_at(reply.len() / 2);
+    drain(client, head, now)?;
     drain(client, rest, now)?;
     Ok(())
 }

@@ -1,4 +1,5 @@
-//! The user `user`, whose password is `pass`, and a server of the realm `realm` that knows it.
+//! The user `user` with the password `pass`, and a server with the realm `realm` that knows the
+//! user.
 
 ghost use Rattle.std.specs.Prelude.{◌≡◌, List, ℕ, IfOk, OnOk};
 ghost use Rattle.std.specs.FinMap as map;
@@ -8,7 +9,7 @@ use stun_proto::auth::LongTermServerAuth;
 use stun_types::NoMemory;
 use stun_types::message::{LongTermCredentials, LongTermKeyCredentials};
 
-/// A server that knows the user, and no other.
+/// Returns a server that knows the user, and no other.
 pub(crate) fn server(alloc: Global) -> Result<LongTermServerAuth, NoMemory>
     ensures { IfOk result (λ server. (name password : List ℕ)
         × (server.users ≡ map.insert map.empty name password)) }
@@ -41,7 +42,7 @@ fn add_user(alloc: Global, server: &mut LongTermServerAuth) -> Result<(), NoMemo
     }
 }
 
-/// The user's key in the realm.
+/// Returns the user's key in the realm.
 pub(crate) fn key_of_user(alloc: Global) -> Result<LongTermKeyCredentials, NoMemory> {
     match user(alloc) {
         Ok(user) => {
@@ -56,7 +57,7 @@ pub(crate) fn key_of_user(alloc: Global) -> Result<LongTermKeyCredentials, NoMem
     }
 }
 
-/// The user.
+/// Returns the user's credentials.
 fn user(alloc: Global) -> Result<LongTermCredentials, NoMemory> {
     match String::from_str(alloc, "user") {
         Ok(name) => match String::from_str(alloc, "pass") {

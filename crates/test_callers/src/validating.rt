@@ -1,4 +1,4 @@
-//! Messages that are validated under credentials.
+//! Validation of messages with credentials.
 
 ghost use Rattle.std.specs.Prelude.{◌≡◌, ℕ, List, IfOk, Ok};
 ghost use Rattle.stun_types.specs.IntegrityAlgorithms.{IntegrityAlgorithm as Algorithm};
@@ -9,7 +9,7 @@ use stun_types::message::{
     IntegrityAlgorithm, Message, MessageIntegrityCredentials, ValidateError,
 };
 
-/// Validates bytes under credentials, and answers the algorithm by which they are signed. Refused where
+/// Validates bytes with credentials, and returns the algorithm that they are signed with. Fails if
 /// they are no message that a holder of the credentials signed.
 pub(crate) fn validate(
     bytes: &[u8],

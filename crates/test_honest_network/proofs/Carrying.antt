@@ -1,4 +1,4 @@
--- What was carried over an honest network.
+-- The deliveries over an honest network.
 use Rattle.std.proofs.Common.{◌≡◌, ℕ, refl, Vec, Global}
 use Rattle.std.specs.Prelude.{IfOk, Result, Ok, Err}
 use Rattle.stun_types_base.specs.declared.data.Data.{Data}
@@ -12,15 +12,15 @@ use Rattle.test_honest_network.specs.Exchanges.{Happened, IsCarried, IsDelivered
 use Rattle.test_honest_network.specs.declared.exchange.Carried.{Carried}
 use Rattle.test_honest_network.specs.declared.exchange.Carried.TheVariants.{Unsent, Unanswered, Replied}
 
--- what is no reply
+-- An answer that equals no reply is not a reply.
 pub no_reply : (ret : Answer) → ((bytes : Vec ℕ Global) → ret ≡ answer.Reply bytes → ⊥) → IsNoReply ret
 no_reply (answer.Reply bytes) other = other bytes refl
 no_reply _ other = tt
 
--- what was sent, and delivered
-pub sent_on : {E : Type 0} (now : ℕ) (decision : Decision) (old drawn new : World) (sent : Transmit Data) → Happened (Draw now) old (answer.Transmit sent) drawn
-    → (result : Result Carried E) → IfOk result (λ carried. IsDelivered sent now decision drawn carried new) → IfOk result (λ carried. IsCarried now decision old carried new)
-sent_on now decision old drawn new sent step (Ok Unsent) is = absurd is
-sent_on now decision old drawn new sent step (Ok Unanswered) is = record { sent = sent; drawn = drawn; step = step; delivered = is }
-sent_on now decision old drawn new sent step (Ok Replied) is = record { sent = sent; drawn = drawn; step = step; delivered = is }
-sent_on now decision old drawn new sent step (Err error) is = tt
+-- If the client transmitted a message and it was delivered, the exchange took place.
+pub sent_on : {E : Type 0} (now : ℕ) (decision : Decision) (old transmitted new : World) (sent : Transmit Data) → Happened (Draw now) old (answer.Transmit sent) transmitted
+    → (result : Result Carried E) → IfOk result (λ carried. IsDelivered sent now decision transmitted carried new) → IfOk result (λ carried. IsCarried now decision old carried new)
+sent_on now decision old transmitted new sent step (Ok Unsent) is = absurd is
+sent_on now decision old transmitted new sent step (Ok Unanswered) is = record { sent = sent; transmitted = transmitted; step = step; delivered = is }
+sent_on now decision old transmitted new sent step (Ok Replied) is = record { sent = sent; transmitted = transmitted; step = step; delivered = is }
+sent_on now decision old transmitted new sent step (Err error) is = tt

@@ -1,17 +1,17 @@
--- The indication is one of the peer's data.
+-- The indication carries the peer's data.
 use Rattle.std.proofs.Common.{◌≡◌, [], ◌∷◌, None, Some, refl, inl}
 use Rattle.stun_types_wire.specs.Attributes.{Attr}
 use Rattle.turn_types_attributes.specs.StunTypesAttributes.Addresses.{address_read_refusal, address_refusal}
 use Rattle.turn_types_attributes.specs.StunTypesAttributes.Xor.{octets_mask}
 use Rattle.stun_types_wire.specs.Attributes.{attributes, first_attributes}
-use Rattle.stun_types_wire.specs.Grammar.{body_refusal, fingerprint_refusal, header_refusal, length_refusal, number_at, refusal, rest_refusal, shown}
-use Rattle.stun_types_wire.specs.Shape.{behind_shown, last_rank, shape_front, shown_after, shown_rank}
+use Rattle.stun_types_wire.specs.Grammar.{body_refusal, fingerprint_refusal, header_refusal, length_refusal, number_at, refusal, rest_refusal, visible}
+use Rattle.stun_types_wire.specs.Shape.{after_visible, last_rank, shape_prefix, visible_after, visible_rank}
 use Rattle.turn_desk_core.specs.TurnTypesPeer.TurnShows.{address_in}
 use Rattle.turn_desk_progress_laws.specs.TurnClientProtoProgressLaws.Holding.{IsDataOf}
 use Rattle.test_honest_network.specs.Payloads.{indication, payload, peer}
 
 message : refusal indication ≡ None
-unfolding refusal header_refusal length_refusal body_refusal fingerprint_refusal rest_refusal behind_shown shown_rank last_rank shown_after shape_front attributes first_attributes
+unfolding refusal header_refusal length_refusal body_refusal fingerprint_refusal rest_refusal after_visible visible_rank last_rank visible_after shape_prefix attributes first_attributes
 message = refl
 
 abbrev of : Attr
@@ -20,8 +20,8 @@ of = record { kind = 0x0012; value = 0x00 ∷ 0x01 ∷ 0x2a ∷ 0xaa ∷ 0xe7 �
 abbrev given : Attr
 given = record { kind = 0x0013; value = payload }
 
-shows : shown indication ≡ of ∷ given ∷ []
-unfolding shown shown_after shape_front attributes first_attributes
+shows : visible indication ≡ of ∷ given ∷ []
+unfolding visible visible_after shape_prefix attributes first_attributes
 shows = refl
 
 names : address_in (number_at indication) of ≡ Some peer

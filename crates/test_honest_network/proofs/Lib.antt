@@ -3,7 +3,7 @@ pub mod Bringing
 pub mod Carrying
 pub mod Driving
 pub mod Going
-pub mod Hearing
+pub mod Processing
 pub mod Indicating
 pub mod Joined
 pub mod Leading

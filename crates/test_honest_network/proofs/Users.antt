@@ -1,4 +1,4 @@
--- A user and a server that knows it.
+-- A server that knows one user.
 use Rattle.std.proofs.Common.{◌≡◌, ℕ, Bool, true, false, cond, List, Option, Some, None, refl, sym, ap, ◌∙◌, subst}
 use Rattle.std.specs.Prelude.{IsSome}
 use Rattle.std.specs.Cmp.{eq_by_cmp_equiv}
@@ -26,7 +26,7 @@ tie Less is = absurd (Prim.cc is)
 tie Equal is = refl
 tie Greater is = absurd (Prim.cc is)
 
--- nobody else is there
+-- The server knows no other user.
 none_else : (name password other : List ℕ) → IsSome (map.get (alone name password) other) → other ≡ name
 none_else name password other there =
     elim (is_eq (slice_cmp nat_cmp other name)) as (λ (b : Bool). is_eq (slice_cmp nat_cmp other name) ≡ b → cond b (Some password) (map.get {R = slice_cmp nat_cmp} map.empty other) ≡ map.get (alone name password) other → other ≡ name) [
@@ -38,7 +38,7 @@ none_else name password other there =
     never None is there = Prim.cc there
     never (Some x) is there = Prim.cc is
 
--- so no two have one hash
+-- So no two users have the same hash.
 pub differ : (server : Server) (name password : List ℕ) → server.users ≡ map.insert map.empty name password → HashesDiffer server
 differ server name password is = λ a b one two same.
     none_else name password a (subst (λ (m : map.FinMap (slice_cmp nat_cmp) (List ℕ)). IsSome (map.get m a)) is one)

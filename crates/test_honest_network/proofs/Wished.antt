@@ -1,4 +1,4 @@
--- A client that has met a desk was asked for something, and the desk granted it.
+-- A client that has an allocation requested something, and the server core granted it.
 use Rattle.std.proofs.Common.{◌≡◌, ◌≢◌, ℕ, ◌<◌, arith, false, List, [], ◌∷◌, Option, Some, None, refl, sym, ap, ◌∙◌, subst, inl, inr}
 use Rattle.std.proofs.lemmas.List.{append-nil}
 use Rattle.std.specs.Prelude.{IfOk, Result, Ok, Err}
@@ -12,21 +12,21 @@ use Rattle.stun_types_base.specs.declared.transport.TransportType.{TransportType
 use Rattle.stun_types_base.specs.declared.transport.TransportType.TheVariants.{Udp, Tcp}
 use Rattle.turn_client_proto.specs.Allocation.Refreshing.{granted}
 use Rattle.turn_client_proto.specs.Allocation.declared.allocation.Allocation.{Allocation}
-use Rattle.turn_client_proto.specs.Timers.Drawing.{IsDrawn, is_resting}
+use Rattle.turn_client_proto.specs.Timers.Drawing.{IsTransmitted, is_resting}
 use Rattle.turn_client_proto_api.specs.Sent.{Sent, sent_of}
 use Rattle.turn_client_proto.specs.TurnRuns.Members.{IsIn}
 use Rattle.turn_desk_progress_laws.specs.TurnClientProtoProgressLaws.Asking.{IsMade}
 use Rattle.turn_desk_progress_laws.specs.TurnClientProtoProgressLaws.Speaking.{AreHeldBeyond}
 use Rattle.turn_desk_progress_laws.specs.TurnClientProtoHandshakeLaws.Stages.{Holds}
 use Rattle.turn_desk_progress_laws.specs.Promises.{HasClient, IsFresh, control_at, events_in, over}
-use Rattle.turn_desk_progress_laws.specs.Scripts.{BringsOn, Done, IsScript, Place, Plan, Start}
+use Rattle.turn_desk_progress_laws.specs.Scripts.{BringsOn, Done, IsScript, Progress, Plan, Start}
 use Rattle.turn_desk_progress_laws.specs.Standing.{IsHeld}
-use Rattle.turn_desk_progress_laws.proofs.Clients.{IsDrawnOn, done, draws, stays}
-use Rattle.turn_desk_progress_laws.specs.Asking.{Drawn, Got, Granted, Idle, Draws, IsAskingScript, IsCleanRun, IsDrawn as IsDrawnHere, IsGiven, IsGranted, IsRequestOf, Pending, replies_in}
+use Rattle.turn_desk_progress_laws.proofs.Clients.{IsTransmittedOn, done, draws, stays}
+use Rattle.turn_desk_progress_laws.specs.Asking.{Transmitted, Got, Granted, Idle, Draws, IsAskingScript, IsCleanRun, IsTransmitted as IsTransmittedHere, IsGiven, IsGranted, IsRequestOf, Pending, replies_in}
 use Rattle.turn_desk_progress_laws.specs.RequestPromises.{IsChannelHeld, IsPermissionHeld}
-use Rattle.turn_desk_world.specs.Calls.{IsCallTold, IsCalled, IsDrawnAs}
+use Rattle.turn_desk_world.specs.Calls.{IsCallReported, IsCalled, IsTransmittedAs}
 use Rattle.turn_client_proto.specs.Recv.Control.{Control}
-use Rattle.turn_client_proto.specs.Recv.Kept.{Kept, Protocol}
+use Rattle.turn_client_proto.specs.Recv.ClientState.{ClientState, Protocol}
 use Rattle.turn_desk_world.specs.Model.{World}
 use Rattle.turn_desk_world.specs.Runs.{IsRun, IsStep}
 use Rattle.turn_desk_event.specs.declared.answer.Answer.{Answer}
@@ -37,17 +37,17 @@ use Rattle.turn_desk_event.specs.declared.event.ClientCall.TheVariants.{BindChan
 use Rattle.turn_desk_event.specs.declared.event.Event.{Event}
 use Rattle.turn_desk_event.specs.declared.event.Event.TheVariants.{Call, Draw, ToClient, ToDesk}
 use Rattle.test_honest_network.specs.Exchanges.{Happened}
-use Rattle.test_honest_network.specs.Meetings.{HasMet, plan_of}
+use Rattle.test_honest_network.specs.Simulations.{HasSimulated, plan_of}
 use Rattle.test_honest_network.specs.Wishes as wish
-use Rattle.test_honest_network.specs.Wishes.{HasAsked, HasBrought, HasGiven, HasSent, IsBound, IsMet, IsPermitted}
-use Rattle.test_honest_network.specs.declared.asking.TheConstants.{CALLED, DRAWN}
+use Rattle.test_honest_network.specs.Wishes.{HasRequested, HasBrought, HasGiven, HasSent, IsBound, IsSimulated, IsPermitted}
+use Rattle.test_honest_network.specs.declared.asking.TheConstants.{CALLED, TRANSMITTED}
 use Rattle.test_honest_network.specs.declared.asking.Wish.{Wish}
 use Rattle.test_honest_network.specs.declared.asking.Wish.TheVariants.{Unheld, Held}
-use Rattle.test_honest_network.specs.declared.meeting.Outcome.TheVariants as outcome
-use Rattle.test_honest_network.specs.declared.meeting.TheConstants.{LIFETIME, SECOND}
+use Rattle.test_honest_network.specs.declared.simulation.Outcome.TheVariants as outcome
+use Rattle.test_honest_network.specs.declared.simulation.TheConstants.{LIFETIME, SECOND}
 use Rattle.test_honest_network.specs.declared.setting.Setting.{Setting}
 use Rattle.test_honest_network.proofs.Shaking.{Standing}
-use Rattle.test_honest_network.proofs.Wishing.{HasMade, channel_made, drawn, permission_made, rested}
+use Rattle.test_honest_network.proofs.Wishing.{HasMade, channel_made, transmitted, permission_made, rested}
 
 -- ---- one event
 
@@ -55,50 +55,50 @@ pub step_of : (old new : World) (event : Event) (ret : Answer) → Happened even
 unfolding IsRun
 step_of old new event ret is = subst (λ (w : World). IsStep event old ret w) (sym is.2) is.1
 
-nothing : (p q : Protocol) (now : ℕ) → IsDrawnAs answer.Nothing p now q → IsDrawn p now None q
-unfolding IsDrawnAs
+nothing : (p q : Protocol) (now : ℕ) → IsTransmittedAs answer.Nothing p now q → IsTransmitted p now None q
+unfolding IsTransmittedAs
 nothing p q now is = is
 
-something : (p q : Protocol) (now : ℕ) (sent : _) → IsDrawnAs (answer.Transmit sent) p now q → IsDrawn p now (Some (sent_of sent)) q
-unfolding IsDrawnAs
+something : (p q : Protocol) (now : ℕ) (sent : _) → IsTransmittedAs (answer.Transmit sent) p now q → IsTransmitted p now (Some (sent_of sent)) q
+unfolding IsTransmittedAs
 something p q now sent is = is
 
--- a call was answered Ok, and made a request
+-- A call succeeded and made a request.
 record IsCalledOn (c : Control) (p : Protocol) (at : ℕ) (v : World) : Type 0 where
   after : Protocol
   there : v.client ≡ Some (over c after)
   text : List ℕ
   made : HasMade p after text at
 
--- what makes one when it is answered Ok
+-- The call makes a request whenever it succeeds.
 abbrev Makes : ClientCall → Type 0
-Makes what = (p : Protocol) (q : Kept) (c : Control) (at : ℕ) → IsCallTold what answer.Done (over c p) at q → ((text : List ℕ) × HasMade p q.core text at) × (q.control ≡ c)
+Makes what = (p : Protocol) (q : ClientState) (c : Control) (at : ℕ) → IsCallReported what answer.Done (over c p) at q → ((text : List ℕ) × HasMade p q.core text at) × (q.control ≡ c)
 
 permission_makes : (transport : TransportType) (ip : IpAddr) → Makes (CreatePermission transport ip)
-unfolding IsCallTold IsCalled
+unfolding IsCallReported IsCalled
 permission_makes transport ip p q c at is = (permission_made p q.core transport ip at is.0, is.1)
 
 channel_makes : (transport : TransportType) (peer : SocketAddr) → Makes (BindChannel transport peer)
-unfolding IsCallTold IsCalled
+unfolding IsCallReported IsCalled
 channel_makes transport peer p q c at is = (channel_made p q.core transport peer at is.0, is.1)
 
 call_done : (c : Control) (w v : World) (p : Protocol) (what : ClientCall) (at : ℕ) → Makes what → w.client ≡ Some (over c p) → IsStep (Call what at) w answer.Done v → IsCalledOn c p at v
 call_done c w v p what at makes there step =
     let d = done c at _ p w.client v.client answer.Done there step.0 in
     elim d.outcome [
-      | inl does ↦ (let told = makes p d.after c at does.1 in record { after = d.after.core; there = d.there ∙ ap Some (stays c d.after told.1); text = told.0.0; made = told.0.1 })
+      | inl does ↦ (let reported = makes p d.after c at does.1 in record { after = d.after.core; there = d.there ∙ ap Some (stays c d.after reported.1); text = reported.0.0; made = reported.0.1 })
       | inr out ↦ absurd (Prim.cc out.0)
     ]
 
 some_bytes : (reply : List ℕ) → class_of (kind_at reply) ≡ Success → reply ≢ []
 some_bytes reply success = λ none. Prim.cc (sym (ap (λ (l : List ℕ). class_of (kind_at l)) none) ∙ success)
 
--- a whole reply comes at once
+-- An honest network may deliver a whole reply at once.
 at_once : (reply : List ℕ) → reply ≢ [] → (transport : TransportType) → BringsOn transport reply [] reply []
 at_once reply some Udp = (refl, refl)
 at_once reply some Tcp = (some, sym (append-nil reply))
 
--- ---- the law
+-- ---- the theorem
 
 abbrev pub Law : Type 0
 Law = (plan : Plan) (old one two three four : World) (first second third : List (Event × Answer)) (signed : Sent) (reply request grant : List ℕ) (address : SocketAddr) (lifetime made now : ℕ) (ip : IpAddr) → IsFresh plan old → IsRun old first one
@@ -110,22 +110,22 @@ ChannelLaw = (plan : Plan) (old one two three four : World) (first second third 
     → IsScript plan Start first (Done signed address lifetime reply) → IsRun one second two → IsCleanRun plan (replies_in first []) Idle second Idle → HasClient plan [] two (λ p. AreHeldBeyond now p.allocations) → now < end_at made plan.client.config.waits
     → IsStep (Call (BindChannel plan.client.config.transport peer) made) two answer.Done three → IsRequestOf two three request → IsRun three third four → IsAskingScript plan request now Pending third (Got grant) → IsChannelHeld plan peer now four
 
-module _ (standing : Standing) (s : Setting) (address : SocketAddr) (what : ClientCall) (makes : Makes what) (old one new : World) (fresh : IsFresh (plan_of s) old) (met : HasMet (plan_of s) address old outcome.Allocated one)
+module _ (standing : Standing) (s : Setting) (address : SocketAddr) (what : ClientCall) (makes : Makes what) (old one new : World) (fresh : IsFresh (plan_of s) old) (met : HasSimulated (plan_of s) address old outcome.Allocated one)
     (is : wish.IsGranted what s.here s.server one new) where
   abbrev plan : Plan
   plan = plan_of s
 
   abbrev signed : Sent
-  signed = met.place_is.0
+  signed = met.index_is.0
 
   abbrev reply : List ℕ
-  reply = met.place_is.1
+  reply = met.index_is.1
 
   abbrev control : Control
   control = control_at s.transport []
 
   script : IsScript plan Start met.pairs (Done signed address LIFETIME reply)
-  script = subst (λ (p : Place). IsScript plan Start met.pairs p) met.place_is.2 met.script
+  script = subst (λ (p : Progress). IsScript plan Start met.pairs p) met.index_is.2 met.script
 
   held : IsHeld plan old (events_in met.pairs) signed address LIFETIME reply one
   held = standing plan old one met.pairs (Done signed address LIFETIME reply) fresh met.run script
@@ -141,11 +141,11 @@ module _ (standing : Standing) (s : Setting) (address : SocketAddr) (what : Clie
   free : (now : ℕ) → is_resting (Some SECOND) now ≡ false → is_resting p.last_send now ≡ false
   free now is_free = ap (λ (l : Option ℕ). is_resting l now) holds.last_send ∙ is_free
 
-  abbrev drawing : IsDrawnOn control p CALLED answer.Nothing one is.resting
+  abbrev drawing : IsTransmittedOn control p CALLED answer.Nothing one is.resting
   drawing = draws control one is.resting p CALLED answer.Nothing held.client.there (omega arith) (step_of one is.resting (Draw CALLED) answer.Nothing is.rests)
 
   still : (p.queue ≡ []) × (drawing.core ≡ p)
-  still = rested p drawing.core CALLED holds.phase (free CALLED refl) (nothing p drawing.core CALLED drawing.drawn)
+  still = rested p drawing.core CALLED holds.phase (free CALLED refl) (nothing p drawing.core CALLED drawing.transmitted)
 
   there_two : is.resting.client ≡ Some (over control p)
   there_two = drawing.there ∙ ap (λ (x : Protocol). Some (over control x)) still.1
@@ -154,67 +154,67 @@ module _ (standing : Standing) (s : Setting) (address : SocketAddr) (what : Clie
   unfolding IsCleanRun
   clean = (Idle, Draws CALLED refl refl, refl)
 
-  later : (a : Allocation) → IsIn a (granted plan.client.config.transport address LIFETIME SECOND ∷ []) → (a.is_expired ≡ false) × (DRAWN < a.expiry)
-  later a (inl same) = (ap (λ (x : Allocation). x.is_expired) (sym same), subst (λ (x : Allocation). DRAWN < x.expiry) same (omega arith))
+  later : (a : Allocation) → IsIn a (granted plan.client.config.transport address LIFETIME SECOND ∷ []) → (a.is_expired ≡ false) × (TRANSMITTED < a.expiry)
+  later a (inl same) = (ap (λ (x : Allocation). x.is_expired) (sym same), subst (λ (x : Allocation). TRANSMITTED < x.expiry) same (omega arith))
   later a (inr other) = absurd other
 
-  beyond : HasClient plan [] is.resting (λ x. AreHeldBeyond DRAWN x.allocations)
-  beyond = record { core = p; there = there_two; is = subst (λ (l : List Allocation). AreHeldBeyond DRAWN l) (sym holds.allocations) later }
+  beyond : HasClient plan [] is.resting (λ x. AreHeldBeyond TRANSMITTED x.allocations)
+  beyond = record { core = p; there = there_two; is = subst (λ (l : List Allocation). AreHeldBeyond TRANSMITTED l) (sym holds.allocations) later }
 
-  -- ---- it is asked
+  -- ---- it is requested
 
-  call : IsStep (Call what CALLED) is.resting answer.Done is.asked
-  call = step_of is.resting is.asked (Call what CALLED) answer.Done is.call
+  call : IsStep (Call what CALLED) is.resting answer.Done is.requested
+  call = step_of is.resting is.requested (Call what CALLED) answer.Done is.call
 
-  asked : IsCalledOn control p CALLED is.asked
-  asked = call_done control is.resting is.asked p what CALLED makes there_two call
+  requested : IsCalledOn control p CALLED is.requested
+  requested = call_done control is.resting is.requested p what CALLED makes there_two call
 
   ends : end_at CALLED plan.client.config.waits ≡ 39_600_000_000
   ends = refl
 
-  in_time : DRAWN < end_at CALLED plan.client.config.waits
-  in_time = subst (λ (n : ℕ). DRAWN < n) (sym ends) (omega arith)
+  in_time : TRANSMITTED < end_at CALLED plan.client.config.waits
+  in_time = subst (λ (n : ℕ). TRANSMITTED < n) (sym ends) (omega arith)
 
-  -- ---- its request is drawn
+  -- ---- its request is transmitted
 
-  abbrev sends : HasSent s.here s.server is.asked new
+  abbrev sends : HasSent s.here s.server is.requested new
   sends = is.sent
 
   abbrev request : List ℕ
   request = (sent_of sends.sent).bytes
 
-  abbrev step_drawn : IsStep (Draw DRAWN) is.asked (answer.Transmit sends.sent) sends.drawn
-  step_drawn = step_of is.asked sends.drawn (Draw DRAWN) (answer.Transmit sends.sent) sends.step
+  abbrev step_transmitted : IsStep (Draw TRANSMITTED) is.requested (answer.Transmit sends.sent) sends.transmitted
+  step_transmitted = step_of is.requested sends.transmitted (Draw TRANSMITTED) (answer.Transmit sends.sent) sends.step
 
-  is_made : IsMade p asked.after request
+  is_made : IsMade p requested.after request
   is_made =
-      let m = asked.made in
-      let d = draws control is.asked sends.drawn asked.after DRAWN (answer.Transmit sends.sent) asked.there (omega arith) step_drawn in
-      drawn p asked.after asked.text CALLED m holds.none_asked still.0 d.core DRAWN (sent_of sends.sent) (ap (λ (l : Option ℕ). is_resting l DRAWN) m.last ∙ free DRAWN refl) (something asked.after d.core DRAWN sends.sent d.drawn)
+      let m = requested.made in
+      let d = draws control is.requested sends.transmitted requested.after TRANSMITTED (answer.Transmit sends.sent) requested.there (omega arith) step_transmitted in
+      transmitted p requested.after requested.text CALLED m holds.none_requested still.0 d.core TRANSMITTED (sent_of sends.sent) (ap (λ (l : Option ℕ). is_resting l TRANSMITTED) m.last ∙ free TRANSMITTED refl) (something requested.after d.core TRANSMITTED sends.sent d.transmitted)
 
-  of : IsRequestOf is.resting is.asked request
-  of = record { old = over control p; old_there = there_two; new = over control asked.after; new_there = asked.there; made = is_made }
+  of : IsRequestOf is.resting is.requested request
+  of = record { old = over control p; old_there = there_two; new = over control requested.after; new_there = requested.there; made = is_made }
 
   -- ---- and granted
 
-  abbrev b : HasBrought sends.sent s.here s.server sends.drawn new
+  abbrev b : HasBrought sends.sent s.here s.server sends.transmitted new
   b = sends.brought
 
   abbrev g : HasGiven b.reply s.here s.server b.replied new
   g = b.taken
 
   abbrev third : List (Event × Answer)
-  third = (Draw DRAWN, answer.Transmit sends.sent) ∷ (ToDesk b.bytes s.here DRAWN by.Grant b.seed, answer.Reply b.reply) ∷ (ToClient b.reply s.server s.here DRAWN, g.ret) ∷ []
+  third = (Draw TRANSMITTED, answer.Transmit sends.sent) ∷ (ToDesk b.bytes s.here TRANSMITTED by.Grant b.seed, answer.Reply b.reply) ∷ (ToClient b.reply s.server s.here TRANSMITTED, g.ret) ∷ []
 
-  carried : IsRun is.asked third new
+  carried : IsRun is.requested third new
   unfolding IsRun
-  carried = (sends.drawn, step_drawn, (b.replied, step_of sends.drawn b.replied (ToDesk b.bytes s.here DRAWN by.Grant b.seed) (answer.Reply b.reply) b.asked, (new, step_of b.replied new (ToClient b.reply s.server s.here DRAWN) g.ret g.given, refl)))
+  carried = (sends.transmitted, step_transmitted, (b.replied, step_of sends.transmitted b.replied (ToDesk b.bytes s.here TRANSMITTED by.Grant b.seed) (answer.Reply b.reply) b.requested, (new, step_of b.replied new (ToClient b.reply s.server s.here TRANSMITTED) g.ret g.given, refl)))
 
-  asking : IsAskingScript plan request DRAWN Pending third (Got b.reply.items)
+  asking : IsAskingScript plan request TRANSMITTED Pending third (Got b.reply.items)
   unfolding IsAskingScript
   asking = (
-    Drawn,
-    IsDrawnHere sends.sent refl refl refl refl refl,
+    Transmitted,
+    IsTransmittedHere sends.sent refl refl refl refl refl,
     (
       Granted b.reply.items [],
       IsGranted b.bytes b.reply by.Grant b.seed refl b.same refl refl g.success refl,
@@ -222,11 +222,11 @@ module _ (standing : Standing) (s : Setting) (address : SocketAddr) (what : Clie
     ),
   )
 
-  pub has_asked : HasAsked plan address what old new
-  has_asked = record {
+  pub has_requested : HasRequested plan address what old new
+  has_requested = record {
     one = one;
     two = is.resting;
-    three = is.asked;
+    three = is.requested;
     first = met.pairs;
     second = (Draw CALLED, answer.Nothing) ∷ [];
     third = third;
@@ -246,24 +246,24 @@ module _ (standing : Standing) (s : Setting) (address : SocketAddr) (what : Clie
     asking = asking;
   }
 
--- what was asked for, and what became of it
-pub wished : {E : Type 0} (law : Law) (standing : Standing) (s : Setting) (address : SocketAddr) (ip : IpAddr) (old one new : World) → IsFresh (plan_of s) old → HasMet (plan_of s) address old outcome.Allocated one
-    → (result : Result Wish E) → IfOk result (λ came. IsMet (CreatePermission Udp ip) s.here s.server one came new) → IfOk result (λ came. IsPermitted (plan_of s) address ip old came new)
+-- If the requested permission was granted and the reply reached the client, the client has the permission.
+pub wished : {E : Type 0} (law : Law) (standing : Standing) (s : Setting) (address : SocketAddr) (ip : IpAddr) (old one new : World) → IsFresh (plan_of s) old → HasSimulated (plan_of s) address old outcome.Allocated one
+    → (result : Result Wish E) → IfOk result (λ came. IsSimulated (CreatePermission Udp ip) s.here s.server one came new) → IfOk result (λ came. IsPermitted (plan_of s) address ip old came new)
 wished law standing s address ip old one new fresh met (Ok Unheld) is = tt
 wished law standing s address ip old one new fresh met (Ok Held) is =
-    let a = has_asked standing s address (CreatePermission Udp ip) (permission_makes Udp ip) old one new fresh met is in
-    record { asked = a; held = law (plan_of s) old a.one a.two a.three new a.first a.second a.third a.signed a.reply a.request a.grant address LIFETIME CALLED DRAWN ip fresh a.met a.script a.on a.clean a.beyond a.early a.call a.of a.carried a.asking }
+    let a = has_requested standing s address (CreatePermission Udp ip) (permission_makes Udp ip) old one new fresh met is in
+    record { requested = a; held = law (plan_of s) old a.one a.two a.three new a.first a.second a.third a.signed a.reply a.request a.grant address LIFETIME CALLED TRANSMITTED ip fresh a.met a.script a.on a.clean a.beyond a.early a.call a.of a.carried a.asking }
 wished law standing s address ip old one new fresh met (Err error) is = tt
 
-pub wished_channel : {E : Type 0} (law : ChannelLaw) (standing : Standing) (s : Setting) (address peer : SocketAddr) (old one new : World) → IsFresh (plan_of s) old → HasMet (plan_of s) address old outcome.Allocated one
-    → (result : Result Wish E) → IfOk result (λ came. IsMet (BindChannel Udp peer) s.here s.server one came new) → IfOk result (λ came. IsBound (plan_of s) address peer old came new)
+pub wished_channel : {E : Type 0} (law : ChannelLaw) (standing : Standing) (s : Setting) (address peer : SocketAddr) (old one new : World) → IsFresh (plan_of s) old → HasSimulated (plan_of s) address old outcome.Allocated one
+    → (result : Result Wish E) → IfOk result (λ came. IsSimulated (BindChannel Udp peer) s.here s.server one came new) → IfOk result (λ came. IsBound (plan_of s) address peer old came new)
 wished_channel law standing s address peer old one new fresh met (Ok Unheld) is = tt
 wished_channel law standing s address peer old one new fresh met (Ok Held) is =
-    let a = has_asked standing s address (BindChannel Udp peer) (channel_makes Udp peer) old one new fresh met is in
-    record { asked = a; held = law (plan_of s) old a.one a.two a.three new a.first a.second a.third a.signed a.reply a.request a.grant address LIFETIME CALLED DRAWN peer fresh a.met a.script a.on a.clean a.beyond a.early a.call a.of a.carried a.asking }
+    let a = has_requested standing s address (BindChannel Udp peer) (channel_makes Udp peer) old one new fresh met is in
+    record { requested = a; held = law (plan_of s) old a.one a.two a.three new a.first a.second a.third a.signed a.reply a.request a.grant address LIFETIME CALLED TRANSMITTED peer fresh a.met a.script a.on a.clean a.beyond a.early a.call a.of a.carried a.asking }
 wished_channel law standing s address peer old one new fresh met (Err error) is = tt
 
--- a world in which a meeting begins, and what was asked for in it
+-- The simulation is ready for an honest run, and the outcome of the request holds in it.
 pub known : {E : Type 0} (plan_is : Plan) (Is : World → Wish → World → Type 0) (old new : World) → IsFresh plan_is old → (result : Result Wish E) → IfOk result (λ came. Is old came new)
     → IfOk result (λ came. (x : World) × (y : World) × IsFresh plan_is x × Is x came y)
 known plan_is Is old new fresh (Ok came) is = (old, new, fresh, is)

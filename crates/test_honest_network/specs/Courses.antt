@@ -1,4 +1,4 @@
--- A client that is left alone with the address that it was allocated, and renews it over an honest network (RFC 8656,
+-- After the allocation, a client is only polled, and it renews its address over an honest network (RFC 8656,
 -- section 8).
 use Rattle.std.specs.Prelude.{◌≡◌, ◌⊎◌, ◌≤◌, ℕ, Bool, true, false, List, Vec}
 use Rattle.std.specs.declared.alloc.Global.{Global}
@@ -21,65 +21,69 @@ use Rattle.turn_desk_event.specs.declared.event.Event.TheVariants.{Call, Draw, T
 use Rattle.turn_desk_world.specs.Model.{World}
 use Rattle.turn_desk_world.specs.Runs.{IsRun}
 use Rattle.test_honest_network.specs.Exchanges.{Happened, IsAnswered}
-use Rattle.test_honest_network.specs.Meetings.{HasMet}
+use Rattle.test_honest_network.specs.Simulations.{HasSimulated}
 use Rattle.test_honest_network.specs.Replies.{IsTaken}
-use Rattle.test_honest_network.specs.declared.meeting.Outcome.TheVariants as outcome
-use Rattle.test_honest_network.specs.declared.meeting.TheConstants.{LIFETIME, SECOND}
-use Rattle.test_honest_network.specs.declared.renewing.Kept.{Kept}
-use Rattle.test_honest_network.specs.declared.renewing.Kept.TheVariants.{Unmet, Unrenewed, Renewed}
+use Rattle.test_honest_network.specs.declared.simulation.Outcome.TheVariants as outcome
+use Rattle.test_honest_network.specs.declared.simulation.TheConstants.{LIFETIME, SECOND}
+use Rattle.test_honest_network.specs.declared.renewing.Stored.{Stored}
+use Rattle.test_honest_network.specs.declared.renewing.Stored.TheVariants.{Unmet, Unrenewed, Renewed}
 use Rattle.test_honest_network.specs.declared.renewing.TheConstants.{AGAIN, DUE}
 
--- something is so, where a function answers yes
+-- The statement holds if the function returned true.
 abbrev pub Where : Bool → Type 0 → Type 0
 Where true A = A
 Where false A = Unit {0}
 
 -- ---- what happens
 
--- the client was polled, and awaits a moment that isn't before this one
+-- The client was polled, and waits until `due` or later.
 pub record IsWait (now due : ℕ) (old new : World) : Type 0 where
-  pub moment : ℕ
-  pub step : Happened (Call call.Poll now) old (answer.Wait moment) new
-  pub late : due ≤ moment
+  pub time : ℕ
+  pub step : Happened (Call call.Poll now) old (answer.Wait time) new
+  pub late : due ≤ time
 
--- its events were taken, it sent nothing, and it awaits such a moment
+-- The client's events were taken, it had nothing to send, and it waits until `due` or later.
 pub record IsRest (now due : ℕ) (old new : World) : Type 0 where
   pub one : World
   pub first : IsTaken now old one
   pub two : World
   pub second : IsTaken now one two
-  pub drawn : World
-  pub nothing : Happened (Draw now) two answer.Nothing drawn
-  pub wait : IsWait now due drawn new
+  pub transmitted : World
+  pub nothing : Happened (Draw now) two answer.Nothing transmitted
+  pub wait : IsWait now due transmitted new
 
--- a reply was a success, and reached the client
+-- A reply was a success response and reached the client.
 pub record IsGiven (sent : Transmit Data) (now : ℕ) (reply : Vec ℕ Global) (old new : World) : Type 0 where
   pub success : class_of (kind_at reply.items) ≡ Success
   pub ret : Answer
   pub step : Happened (ToClient reply sent.to sent.from now) old ret new
 
--- what was sent reached the desk, which granted it as it was told to, and its success reached the client
+-- The client's message reached the server core, which granted it by its decision, and the success response
+-- reached the client.
 pub record IsGranted (sent : Transmit Data) (now : ℕ) (old new : World) : Type 0 where
   pub answered : IsAnswered sent now (by.Refresh LIFETIME) old new
   pub success : class_of (kind_at answered.reply.items) ≡ Success
 
 pub record IsRefreshed (now : ℕ) (old new : World) : Type 0 where
   pub sent : Transmit Data
-  pub drawn : World
-  pub step : Happened (Draw now) old (answer.Transmit sent) drawn
-  pub granted : IsGranted sent now drawn new
+  pub transmitted : World
+  pub step : Happened (Draw now) old (answer.Transmit sent) transmitted
+  pub granted : IsGranted sent now transmitted new
 
--- the client was asked what it holds
-abbrev pub IsShown : (now : ℕ) → (old new : World) → Type 0
-IsShown now old new = (ret : Answer) × Happened (Call call.RelayedAddresses now) old ret new
+-- The client's addresses were listed.
+abbrev pub IsListed : (now : ℕ) → (old new : World) → Type 0
+IsListed now old new = (ret : Answer) × Happened (Call call.RelayedAddresses now) old ret new
 
 pub record IsStill (now : ℕ) (old new : World) : Type 0 where
   pub polled : World
   pub wait : IsWait now now old polled
-  pub shown : IsShown now polled new
+  pub visible : IsListed now polled new
 
--- all of it: it awaits the minute before the end, is granted what it asks for then, and is polled and asked what it
--- holds a minute before the new end
+-- The whole run after the handshake, in order:
+--
+-- 1. the client waits until one minute before the expiry;
+-- 2. its REFRESH is granted then;
+-- 3. it is polled one minute before the new expiry, and its addresses are listed.
 pub record IsCourse (old new : World) : Type 0 where
   pub rested : World
   pub rest : IsRest SECOND DUE old rested
@@ -87,20 +91,21 @@ pub record IsCourse (old new : World) : Type 0 where
   pub refreshed : IsRefreshed DUE rested renewed
   pub still : IsStill AGAIN renewed new
 
-abbrev pub HasGoneBy : World → Kept → World → Type 0
+abbrev pub HasGoneBy : World → Stored → World → Type 0
 HasGoneBy old Unmet new = ⊥
 HasGoneBy old Unrenewed new = Unit {0}
 HasGoneBy old Renewed new = IsCourse old new
 
--- ---- in the words of the law on a client that is left alone
+-- ---- in the words of the theorem on a client that is left alone
 
--- events and answers lead from one turn to another
+-- A run whose events and answers lead from one turn to another.
 pub record IsLed (plan : Plan) (old : World) (from : Turn) (new : World) (to : Turn) : Type 0 where
   pub pairs : List (Event × Answer)
   pub run : IsRun old pairs new
   pub driven : IsDriven plan from pairs to
 
--- behind an honest run of a handshake the client was driven to a turn, so all that the law says of that turn holds
+-- After an honest handshake the run led the client to this turn, so the conclusion of the theorem on renewals
+-- holds for the turn (`promised`).
 pub record IsDrivenTo (plan : Plan) (address : SocketAddr) (old : World) (to : Turn) (new : World) : Type 0 where
   pub first : List (Event × Answer)
   pub one : World
@@ -111,16 +116,16 @@ pub record IsDrivenTo (plan : Plan) (address : SocketAddr) (old : World) (to : T
   pub led : IsLed plan one (watching plan.second LIFETIME plan.second) new to
   pub promised : HasRenewed plan old address to new
 
--- the allocation was granted again, a minute before its first end; and the client was polled a minute before the new
--- one
+-- The allocation was renewed one minute before its first expiry, and the client was polled one minute before
+-- the new one.
 pub record IsAnew (plan : Plan) (s : Watch) : Type 0 where
   pub from : s.from ≡ due plan.second LIFETIME
   pub lifetime : s.lifetime ≡ LIFETIME
   pub until : due s.from s.lifetime ≤ s.until
 
--- what came of an address; where it wasn't renewed nothing is said of what happened behind the meeting
-abbrev pub HasKept : Plan → SocketAddr → World → Kept → World → Type 0
-HasKept plan address old Unmet new =
-    HasMet plan address old outcome.Silent new ⊎ HasMet plan address old outcome.TurnedAway new
-HasKept plan address old Unrenewed new = IsDrivenTo plan address old (watching plan.second LIFETIME plan.second) new
-HasKept plan address old Renewed new = (s : Watch) × IsAnew plan s × IsDrivenTo plan address old (Watching s) new
+-- The outcome for the address. If it was not renewed, nothing is said about the events after the handshake.
+abbrev pub HasStored : Plan → SocketAddr → World → Stored → World → Type 0
+HasStored plan address old Unmet new =
+    HasSimulated plan address old outcome.Silent new ⊎ HasSimulated plan address old outcome.CannotAgree new
+HasStored plan address old Unrenewed new = IsDrivenTo plan address old (watching plan.second LIFETIME plan.second) new
+HasStored plan address old Renewed new = (s : Watch) × IsAnew plan s × IsDrivenTo plan address old (Watching s) new

@@ -1,5 +1,5 @@
--- One exchange over an honest network: a client is drawn, what it sends reaches the desk, and what that replies reaches
--- the client, all at one moment.
+-- One exchange over an honest network: the client is polled for a message, the message reaches the server
+-- core, and its reply reaches the client, all at one time.
 use Rattle.std.specs.Prelude.{◌≡◌, ℕ, List, [], ◌∷◌, Vec}
 use Rattle.std.specs.declared.alloc.Global.{Global}
 use Rattle.stun_types_base.specs.Data.{data_bytes}
@@ -15,11 +15,11 @@ use Rattle.turn_desk_world.specs.Runs.{IsRun}
 use Rattle.test_honest_network.specs.declared.exchange.Carried.{Carried}
 use Rattle.test_honest_network.specs.declared.exchange.Carried.TheVariants.{Unsent, Unanswered, Replied}
 
--- an event happened, and was answered
+-- The event happened and had this answer.
 abbrev pub Happened : Event → World → Answer → World → Type 0
 Happened event old ret new = IsRun old ((event, ret) ∷ []) new
 
--- an answer that sends nothing, and one that is no reply
+-- An answer that transmits nothing; and, for `IsNoReply`, an answer that is not a reply.
 abbrev pub SendsNothing : Answer → Type 0
 SendsNothing (answer.Transmit sent) = ⊥
 SendsNothing _ = Unit {0}
@@ -28,25 +28,25 @@ abbrev pub IsNoReply : Answer → Type 0
 IsNoReply (answer.Reply bytes) = ⊥
 IsNoReply _ = Unit {0}
 
--- what was sent reached the desk, and was answered
-pub record IsAsked (sent : Transmit Data) (now : ℕ) (decision : Decision) (old : World) (ret : Answer) (new : World)
+-- The client's message reached the server core, with this answer.
+pub record IsRequested (sent : Transmit Data) (now : ℕ) (decision : Decision) (old : World) (ret : Answer) (new : World)
     : Type 0 where
   pub bytes : Vec ℕ Global
   pub same : bytes.items ≡ data_bytes sent.bytes
   pub seed : List ℕ
   pub step : Happened (ToDesk bytes sent.from now decision seed) old ret new
 
--- the desk replied, and the reply reached the client
+-- The server core replied, and the reply reached the client.
 pub record IsAnswered (sent : Transmit Data) (now : ℕ) (decision : Decision) (old new : World) : Type 0 where
   pub replied : World
   pub reply : Vec ℕ Global
-  pub asked : IsAsked sent now decision old (answer.Reply reply) replied
+  pub requested : IsRequested sent now decision old (answer.Reply reply) replied
   pub ret : Answer
   pub given : Happened (ToClient reply sent.to sent.from now) replied ret new
 
 pub record IsUnanswered (sent : Transmit Data) (now : ℕ) (decision : Decision) (old new : World) : Type 0 where
   pub ret : Answer
-  pub asked : IsAsked sent now decision old ret new
+  pub requested : IsRequested sent now decision old ret new
   pub none : IsNoReply ret
 
 abbrev pub IsDelivered : Transmit Data → ℕ → Decision → World → Carried → World → Type 0
@@ -54,14 +54,14 @@ IsDelivered sent now decision old Unsent new = ⊥
 IsDelivered sent now decision old Unanswered new = IsUnanswered sent now decision old new
 IsDelivered sent now decision old Replied new = IsAnswered sent now decision old new
 
--- the client was drawn, and sent something, which was delivered
+-- The client was polled for a message and sent one, which was delivered.
 pub record IsSent (now : ℕ) (decision : Decision) (old : World) (carried : Carried) (new : World) : Type 0 where
   pub sent : Transmit Data
-  pub drawn : World
-  pub step : Happened (Draw now) old (answer.Transmit sent) drawn
-  pub delivered : IsDelivered sent now decision drawn carried new
+  pub transmitted : World
+  pub step : Happened (Draw now) old (answer.Transmit sent) transmitted
+  pub delivered : IsDelivered sent now decision transmitted carried new
 
--- it sent nothing
+-- The client was polled for a message and sent none.
 pub record IsUnsent (now : ℕ) (old new : World) : Type 0 where
   pub ret : Answer
   pub step : Happened (Draw now) old ret new

@@ -1,7 +1,7 @@
 pub mod Connections
 pub mod Courses
 pub mod Exchanges
-pub mod Meetings
+pub mod Simulations
 pub mod Payloads
 pub mod Replies
 pub mod Settings

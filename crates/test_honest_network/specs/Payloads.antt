@@ -1,5 +1,5 @@
--- What a peer sends reaches a client that has a permission for its address, by an indication (RFC 8656, sections 11.3
--- and 18.3).
+-- Data from a peer reaches a client that has a permission for its address, in a Data indication (RFC 8656,
+-- sections 11.3 and 18.3).
 use Rattle.std.specs.Prelude.{◌≡◌, ℕ, List, [], ◌∷◌, Vec}
 use Rattle.std.specs.Net.Socket.{socket_ip}
 use Rattle.std.specs.declared.alloc.Global.{Global}
@@ -16,9 +16,9 @@ use Rattle.test_honest_network.specs.Exchanges.{Happened}
 use Rattle.test_honest_network.specs.Wishes.{HasPermitted}
 use Rattle.test_honest_network.specs.declared.asking.Wish.{Wish}
 use Rattle.test_honest_network.specs.declared.asking.Wish.TheVariants.{Unheld, Held}
-use Rattle.test_honest_network.specs.declared.asking.TheConstants.{DRAWN}
+use Rattle.test_honest_network.specs.declared.asking.TheConstants.{TRANSMITTED}
 
--- a peer, what it sends, and the indication of that: XOR-PEER-ADDRESS, and DATA
+-- A peer, what it sends, and the Data indication for that, with XOR-PEER-ADDRESS and DATA.
 abbrev pub peer : SocketAddr
 peer = V4 (record { ip = record { octets = 198 ∷ 51 ∷ 100 ∷ 7 ∷ [] }; port = 3000 })
 
@@ -32,27 +32,27 @@ indication =
     0x00 ∷ 0x12 ∷ 0x00 ∷ 0x08 ∷ 0x00 ∷ 0x01 ∷ 0x2a ∷ 0xaa ∷ 0xe7 ∷ 0x21 ∷ 0xc0 ∷ 0x45 ∷
     0x00 ∷ 0x13 ∷ 0x00 ∷ 0x04 ∷ 0x70 ∷ 0x69 ∷ 0x6e ∷ 0x67 ∷ []
 
--- it came next to the client, from the server
+-- The indication reached the client next, from the server.
 pub record HasCome (here server : SocketAddr) (old new : World) : Type 0 where
   pub bytes : Vec ℕ Global
   pub same : bytes.items ≡ indication
   pub ret : Answer
-  pub given : Happened (ToClient bytes server here DRAWN) old ret new
+  pub given : Happened (ToClient bytes server here TRANSMITTED) old ret new
 
-abbrev pub IsHeard : (here server : SocketAddr) → World → Wish → World → Type 0
-IsHeard here server old Unheld new = Unit {0}
-IsHeard here server old Held new = HasCome here server old new
+abbrev pub IsProcessed : (here server : SocketAddr) → World → Wish → World → Type 0
+IsProcessed here server old Unheld new = Unit {0}
+IsProcessed here server old Held new = HasCome here server old new
 
--- and it was answered by what the peer sent
-pub record HasHeard (plan : Plan) (old new : World) : Type 0 where
+-- The indication reached the client, which returned what the peer sent.
+pub record HasProcessed (plan : Plan) (old new : World) : Type 0 where
   pub bytes : Vec ℕ Global
   pub data_of : IsDataOf peer payload bytes.items
   pub ret : Answer
-  pub comes : IsStep (ToClient bytes plan.client.server plan.client.here DRAWN) old ret new
+  pub comes : IsStep (ToClient bytes plan.client.server plan.client.here TRANSMITTED) old ret new
   pub is : IsAnsweredBy plan peer payload ret
 
--- behind a run at whose end the client has the permission
+-- If the client returned data, a run gave it the permission and then it returned what the peer sent.
 abbrev pub IsReceived : Plan → (address : SocketAddr) → World → Wish → World → Type 0
 IsReceived plan address old Unheld new = Unit {0}
 IsReceived plan address old Held new =
-    (w : World) × HasPermitted plan address (socket_ip peer) old w × HasHeard plan w new
+    (w : World) × HasPermitted plan address (socket_ip peer) old w × HasProcessed plan w new

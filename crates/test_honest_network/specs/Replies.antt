@@ -1,9 +1,9 @@
--- What a client is asked, and how a desk replies to what it sends: each message is delivered once, unaltered, at the
--- moment at which the client was drawn.
+-- Calls of a client, and the server core's replies to what it sends. Each message is delivered once and
+-- unaltered, at the time at which the client transmitted.
 use Rattle.std.specs.Prelude.{◌≡◌, ℕ, List, IsSome, Vec}
 use Rattle.std.specs.declared.alloc.Global.{Global}
 use Rattle.std.specs.declared.net.socket_addr.SocketAddr.{SocketAddr}
-use Rattle.turn_client_proto.specs.StunProtoClient.Challenges.{challenge_shown}
+use Rattle.turn_client_proto.specs.StunProtoClient.Challenges.{challenge_visible}
 use Rattle.stun_types_wire.specs.Attributes.{kind_at}
 use Rattle.stun_types_base.specs.Data.{data_bytes}
 use Rattle.stun_types_wire.specs.declared.class.MessageClass.TheVariants.{Success}
@@ -22,13 +22,13 @@ use Rattle.test_honest_network.specs.Exchanges.{Happened}
 use Rattle.test_honest_network.specs.declared.replying.Reply.{Reply}
 use Rattle.test_honest_network.specs.declared.replying.Reply.TheVariants as reply
 
--- one thing happened behind another
+-- One thing happened after another.
 pub record Then (One Other : World → World → Type 0) (old new : World) : Type 0 where
   pub middle : World
   pub one : One old middle
   pub other : Other middle new
 
--- a call was done; events were taken; the client asked for a socket
+-- A call succeeded (`IsCall`), an event was taken (`IsTaken`), or the client asked for a socket (`IsPoll`).
 abbrev pub IsCall : ClientCall → ℕ → World → World → Type 0
 IsCall what now old new = Happened (Call what now) old answer.Done new
 
@@ -42,36 +42,36 @@ pub record IsPoll (now : ℕ) (old new : World) : Type 0 where
   pub peer : SocketAddr
   pub step : Happened (Call Poll now) old (answer.Socket number socket peer) new
 
--- what a desk's bytes are
+-- The server core's bytes are this kind of reply.
 abbrev pub IsKind : List ℕ → Reply → Type 0
 IsKind bytes reply.Neither = Unit {0}
 IsKind bytes reply.Success = class_of (kind_at bytes) ≡ Success
-IsKind bytes reply.Challenge = IsSome (challenge_shown bytes)
+IsKind bytes reply.Challenge = IsSome (challenge_visible bytes)
 
--- they reached the client
+-- The reply has this kind, and reached the client.
 pub record HasGiven (sent : Transmit Data) (now : ℕ) (bytes : Vec ℕ Global) (kind : Reply) (old new : World) : Type 0 where
   pub is_kind : IsKind bytes.items kind
   pub ret : Answer
   pub given : Happened (ToClient bytes sent.to sent.from now) old ret new
 
--- what was sent reached the desk, and its reply reached the client
+-- The client's message reached the server core, and the reply reached the client.
 pub record HasBrought (sent : Transmit Data) (now : ℕ) (decision : Decision) (kind : Reply) (old new : World) : Type 0 where
   pub bytes : Vec ℕ Global
   pub same : bytes.items ≡ data_bytes sent.bytes
   pub seed : List ℕ
   pub answered : Vec ℕ Global
   pub replied : World
-  pub asked : Happened (ToDesk bytes sent.from now decision seed) old (answer.Reply answered) replied
+  pub requested : Happened (ToDesk bytes sent.from now decision seed) old (answer.Reply answered) replied
   pub taken : HasGiven sent now answered kind replied new
 
--- the client was drawn, and what it sent was brought to the desk
+-- The client was polled for a message, which was delivered to the server core.
 pub record HasReplied (now : ℕ) (decision : Decision) (kind : Reply) (old new : World) : Type 0 where
   pub sent : Transmit Data
-  pub drawn : World
-  pub step : Happened (Draw now) old (answer.Transmit sent) drawn
-  pub brought : HasBrought sent now decision kind drawn new
+  pub transmitted : World
+  pub step : Happened (Draw now) old (answer.Transmit sent) transmitted
+  pub brought : HasBrought sent now decision kind transmitted new
 
--- where it was something else, nothing is said
+-- The statement holds for a success response or a challenge. For any other result nothing is said.
 abbrev pub Unless : Reply → (Reply → Type 0) → Type 0
 Unless reply.Neither Is = Unit {0}
 Unless reply.Success Is = Is reply.Success

@@ -1,4 +1,4 @@
--- A client and a desk of some settings, as they are made.
+-- A client and a server core as they are made from settings.
 use Rattle.std.specs.Prelude.{List, [], ◌∷◌}
 use Rattle.std.specs.FinMap as map
 use Rattle.stun_types_wire.specs.declared.algorithm.IntegrityAlgorithm.{IntegrityAlgorithm}
@@ -16,7 +16,7 @@ algorithms_of OnlySha512 = Sha512 ∷ []
 algorithms_of Both = Sha1 ∷ Sha256 ∷ []
 algorithms_of All = Sha1 ∷ Sha256 ∷ Sha512 ∷ []
 
--- the client asks for an address of the one family, for the allocation over UDP
+-- The client requests one address, of this family, for an allocation over UDP.
 abbrev pub config_of : Setting → Config
 config_of s = record (default_config (record { username = s.name.now; password = s.password.now })) {
   families = s.family ∷ [];
@@ -24,7 +24,7 @@ config_of s = record (default_config (record { username = s.name.now; password =
   anonymous_username = s.hides;
 }
 
--- the desk knows the client's user alone, and keeps nothing for any address
+-- The server core knows only the client's user, and stores nothing for any address.
 abbrev pub server_of : Setting → Server
 server_of s = record {
   realm = s.realm.now;

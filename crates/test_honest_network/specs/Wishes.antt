@@ -1,5 +1,5 @@
--- A client that has met a desk over an honest network is asked for something, and the desk grants it (RFC 8656,
--- sections 10 to 12).
+-- A client that has an allocation over an honest network requests something, and the server core grants it
+-- (RFC 8656, sections 10 to 12).
 use Rattle.std.specs.Prelude.{◌≡◌, ◌<◌, ℕ, List, [], Vec}
 use Rattle.std.specs.declared.alloc.Global.{Global}
 use Rattle.std.specs.declared.net.ip_addr.IpAddr.{IpAddr}
@@ -29,62 +29,63 @@ use Rattle.turn_desk_progress_laws.specs.RequestPromises.{IsChannelHeld, IsPermi
 use Rattle.test_honest_network.specs.Exchanges.{Happened}
 use Rattle.test_honest_network.specs.declared.asking.Wish.{Wish}
 use Rattle.test_honest_network.specs.declared.asking.Wish.TheVariants.{Unheld, Held}
-use Rattle.test_honest_network.specs.declared.asking.TheConstants.{CALLED, DRAWN}
-use Rattle.test_honest_network.specs.declared.meeting.TheConstants.{LIFETIME}
+use Rattle.test_honest_network.specs.declared.asking.TheConstants.{CALLED, TRANSMITTED}
+use Rattle.test_honest_network.specs.declared.simulation.TheConstants.{LIFETIME}
 
 -- ---- what happened
 
--- a reply is a success, and reached the client
+-- The reply is a success response, and reached the client.
 pub record HasGiven (reply : Vec ℕ Global) (here server : SocketAddr) (old new : World) : Type 0 where
   pub success : class_of (kind_at reply.items) ≡ Success
   pub ret : Answer
-  pub given : Happened (ToClient reply server here DRAWN) old ret new
+  pub given : Happened (ToClient reply server here TRANSMITTED) old ret new
 
 abbrev pub IsGiven : Vec ℕ Global → (here server : SocketAddr) → World → Wish → World → Type 0
 IsGiven reply here server old Unheld new = Unit {0}
 IsGiven reply here server old Held new = HasGiven reply here server old new
 
--- what was sent reached the desk, which replied by a success, and this reached the client
+-- The client's message reached the server core, which replied with a success response, and this reached the
+-- client.
 pub record HasBrought (sent : Transmit Data) (here server : SocketAddr) (old new : World) : Type 0 where
   pub bytes : Vec ℕ Global
   pub same : bytes.items ≡ data_bytes sent.bytes
   pub seed : List ℕ
   pub reply : Vec ℕ Global
   pub replied : World
-  pub asked : Happened (ToDesk bytes here DRAWN by.Grant seed) old (answer.Reply reply) replied
+  pub requested : Happened (ToDesk bytes here TRANSMITTED by.Grant seed) old (answer.Reply reply) replied
   pub taken : HasGiven reply here server replied new
 
 abbrev pub IsBrought : Transmit Data → (here server : SocketAddr) → World → Wish → World → Type 0
 IsBrought sent here server old Unheld new = Unit {0}
 IsBrought sent here server old Held new = HasBrought sent here server old new
 
--- the client was drawn, and what it sent was brought
+-- The client was polled for a message, which was delivered.
 pub record HasSent (here server : SocketAddr) (old new : World) : Type 0 where
   pub sent : Transmit Data
-  pub drawn : World
-  pub step : Happened (Draw DRAWN) old (answer.Transmit sent) drawn
-  pub brought : HasBrought sent here server drawn new
+  pub transmitted : World
+  pub step : Happened (Draw TRANSMITTED) old (answer.Transmit sent) transmitted
+  pub brought : HasBrought sent here server transmitted new
 
 abbrev pub IsSent : (here server : SocketAddr) → World → Wish → World → Type 0
 IsSent here server old Unheld new = Unit {0}
 IsSent here server old Held new = HasSent here server old new
 
--- the client had nothing to send, was asked for something, and sent its request, which was granted
+-- The client had nothing to send, the call succeeded, and the client sent its request, which was granted.
 pub record IsGranted (what : ClientCall) (here server : SocketAddr) (old new : World) : Type 0 where
   pub resting : World
   pub rests : Happened (Draw CALLED) old answer.Nothing resting
-  pub asked : World
-  pub call : Happened (Call what CALLED) resting answer.Done asked
-  pub sent : HasSent here server asked new
+  pub requested : World
+  pub call : Happened (Call what CALLED) resting answer.Done requested
+  pub sent : HasSent here server requested new
 
-abbrev pub IsMet : ClientCall → (here server : SocketAddr) → World → Wish → World → Type 0
-IsMet what here server old Unheld new = Unit {0}
-IsMet what here server old Held new = IsGranted what here server old new
+abbrev pub IsSimulated : ClientCall → (here server : SocketAddr) → World → Wish → World → Type 0
+IsSimulated what here server old Unheld new = Unit {0}
+IsSimulated what here server old Held new = IsGranted what here server old new
 
--- ---- what it is for the law
+-- ---- what it is for the theorem
 
--- all that the law on what is asked for takes for granted
-pub record HasAsked (plan : Plan) (address : SocketAddr) (what : ClientCall) (old new : World) : Type 0 where
+-- The run satisfies every premise of the theorem on requests.
+pub record HasRequested (plan : Plan) (address : SocketAddr) (what : ClientCall) (old new : World) : Type 0 where
   pub one : World
   pub two : World
   pub three : World
@@ -99,26 +100,26 @@ pub record HasAsked (plan : Plan) (address : SocketAddr) (what : ClientCall) (ol
   pub script : IsScript plan Start first (Done signed address LIFETIME reply)
   pub on : IsRun one second two
   pub clean : IsCleanRun plan (replies_in first []) Idle second Idle
-  pub beyond : HasClient plan [] two (λ p. AreHeldBeyond DRAWN p.allocations)
-  pub early : DRAWN < end_at CALLED plan.client.config.waits
+  pub beyond : HasClient plan [] two (λ p. AreHeldBeyond TRANSMITTED p.allocations)
+  pub early : TRANSMITTED < end_at CALLED plan.client.config.waits
   pub call : IsStep (Call what CALLED) two answer.Done three
   pub of : IsRequestOf two three request
   pub carried : IsRun three third new
-  pub asking : IsAskingScript plan request DRAWN Pending third (Got grant)
+  pub asking : IsAskingScript plan request TRANSMITTED Pending third (Got grant)
 
--- so it has the permission
+-- The run satisfies the premises, so the client has the permission.
 pub record HasPermitted (plan : Plan) (address : SocketAddr) (ip : IpAddr) (old new : World) : Type 0 where
-  pub asked : HasAsked plan address (CreatePermission plan.client.config.transport ip) old new
-  pub held : IsPermissionHeld plan ip DRAWN new
+  pub requested : HasRequested plan address (CreatePermission plan.client.config.transport ip) old new
+  pub held : IsPermissionHeld plan ip TRANSMITTED new
 
 abbrev pub IsPermitted : Plan → SocketAddr → IpAddr → World → Wish → World → Type 0
 IsPermitted plan address ip old Unheld new = Unit {0}
 IsPermitted plan address ip old Held new = HasPermitted plan address ip old new
 
--- or the channel
+-- The run satisfies the premises, so the client has the channel.
 pub record HasBound (plan : Plan) (address peer : SocketAddr) (old new : World) : Type 0 where
-  pub asked : HasAsked plan address (BindChannel plan.client.config.transport peer) old new
-  pub held : IsChannelHeld plan peer DRAWN new
+  pub requested : HasRequested plan address (BindChannel plan.client.config.transport peer) old new
+  pub held : IsChannelHeld plan peer TRANSMITTED new
 
 abbrev pub IsBound : Plan → (address peer : SocketAddr) → World → Wish → World → Type 0
 IsBound plan address peer old Unheld new = Unit {0}

@@ -1,5 +1,6 @@
-//! A client that has met a desk over an honest network is asked for a permission or a channel, which the desk
-//! grants: and so all that the law on what is asked for takes for granted (RFC 8656, sections 10 to 12).
+//! A client that has allocated an address over an honest network requests a permission or a
+//! channel, and the server core grants it. Such a run satisfies every premise of the theorem on
+//! requests (RFC 8656, sections 10 to 12).
 
 ghost use Rattle.std.specs.Prelude.{◌≡◌, ◌≤◌, length, IfOk};
 ghost use Rattle.std.specs.Net.Socket.{socket_ip};
@@ -9,14 +10,14 @@ ghost use Rattle.stun_types_base.specs.declared.transport.TransportType.TheVaria
 ghost use Rattle.turn_desk_world_laws.specs.TurnClientProtoStepLaws.Sound.{IsWhole};
 ghost use Rattle.turn_desk_progress_laws.specs.Promises.{IsFresh};
 ghost use Rattle.turn_desk_world.specs.Model.{World as WorldModel};
-ghost use Rattle.test_honest_network.specs.Meetings.{plan_of};
-ghost use Rattle.test_honest_network.specs.Payloads.{IsHeard, IsReceived, indication, peer};
-ghost use Rattle.test_honest_network.specs.Wishes.{IsBound, IsBrought, IsGiven, IsMet, IsPermitted, IsSent};
+ghost use Rattle.test_honest_network.specs.Simulations.{plan_of};
+ghost use Rattle.test_honest_network.specs.Payloads.{IsProcessed, IsReceived, indication, peer};
+ghost use Rattle.test_honest_network.specs.Wishes.{IsBound, IsBrought, IsGiven, IsSimulated, IsPermitted, IsSent};
 
 use crate::exchange::happen;
-use crate::meeting::{Outcome, SECOND, shake, world_of};
 use crate::replying::{calls, draws_nothing, is_success};
 use crate::setting::Setting;
+use crate::simulation::{Outcome, SECOND, shake, world_of};
 use std::alloc::Global;
 use std::net::{IpAddr, Ipv4Addr, SocketAddr};
 use stun_types_base::data::Data;
@@ -28,28 +29,32 @@ use turn_desk_core::decision::Decision;
 use turn_desk_event::answer::Answer;
 use turn_desk_event::event::{ClientCall, Event};
 use turn_desk_progress_laws::honest::honest_runs_allocate;
-use turn_desk_progress_laws::requests::asked_things_are_held;
+use turn_desk_progress_laws::requests::requested_things_are_held;
 use turn_desk_world::world::World;
 
-/// What became of what a client was asked for.
+/// The outcome of a request.
 #[derive(Clone, Copy, Debug)]
 pub(crate) enum Wish {
-    /// It didn't come so far.
+    /// The run did not get as far as a grant.
     Unheld,
-    /// The desk granted it, and its reply reached the client.
+    /// The server core granted the request, and its reply reached the client.
     Held,
 }
 
-/// When the client has nothing to send, and is asked: 50 ms behind its second draw.
+/// The time at which the client has nothing to send and its application calls it: 50 ms after the
+/// client was polled for its second request.
 pub(crate) const CALLED: u64 = 100_000_000;
 
-/// When its request is drawn, reaches the desk, and is replied to: 50 ms later.
-pub(crate) const DRAWN: u64 = 150_000_000;
+/// The time at which the client transmits its request, the server core receives it and replies: 50
+/// ms later.
+pub(crate) const TRANSMITTED: u64 = 150_000_000;
 
-/// Lets a client and a desk of these settings meet, and asks the client for a permission for an address. Where the
-/// desk granted it and the reply reached the client, what happened is a run of which the law on what is asked for
-/// speaks (`IsPermitted`): so the client has the permission, and over UDP it gives what a peer of that address
-/// sends.
+/// Simulates a client and a server core with these settings, and requests a permission for an IP
+/// address.
+///
+/// If the server core granted it and the reply reached the client, the run satisfies the premises
+/// of the theorem on requests (`IsPermitted`). So the client has the permission, and over UDP it
+/// returns what a peer at that address sends.
 pub(crate) fn permit(
     alloc: Global,
     setting: &Setting<'_>,
@@ -70,7 +75,7 @@ pub(crate) fn permit(
     wish
 }
 
-/// The same, in a world in which an honest run begins.
+/// Does what `permit` does, in a simulation that is ready for an honest run (`IsFresh`).
 fn permit_in(
     alloc: Global,
     world: &mut World,
@@ -85,7 +90,7 @@ fn permit_in(
         IsPermitted (plan_of setting.now) address ip world.old wish world.new) }
 {
     honest_runs_allocate();
-    asked_things_are_held();
+    requested_things_are_held();
     let second = Instant::from_nanos(SECOND);
     match shake(alloc, world, Instant::ZERO, second, address)? {
         Outcome::Allocated => {
@@ -93,12 +98,13 @@ fn permit_in(
             ask(alloc, world, what, setting.here, setting.server)
         }
         Outcome::Silent => Ok(Wish::Unheld),
-        Outcome::TurnedAway => Ok(Wish::Unheld),
+        Outcome::CannotAgree => Ok(Wish::Unheld),
     }
 }
 
-/// The same for a channel to a peer (RFC 8656, section 12): so the client has the channel, and over UDP it gives what
-/// that peer sends through it.
+/// Does what `permit` does, for a channel to a peer (RFC 8656, section 12). If the server core
+/// granted it and the reply reached the client, the client has the channel, and over UDP it returns
+/// what that peer sends through it.
 pub(crate) fn bind(
     alloc: Global,
     setting: &Setting<'_>,
@@ -119,7 +125,7 @@ pub(crate) fn bind(
     wish
 }
 
-/// The same, in a world in which an honest run begins.
+/// Does what `bind` does, in a simulation that is ready for an honest run (`IsFresh`).
 fn bind_in(
     alloc: Global,
     world: &mut World,
@@ -134,7 +140,7 @@ fn bind_in(
         IsBound (plan_of setting.now) address peer world.old wish world.new) }
 {
     honest_runs_allocate();
-    asked_things_are_held();
+    requested_things_are_held();
     let second = Instant::from_nanos(SECOND);
     match shake(alloc, world, Instant::ZERO, second, address)? {
         Outcome::Allocated => {
@@ -142,13 +148,13 @@ fn bind_in(
             ask(alloc, world, what, setting.here, setting.server)
         }
         Outcome::Silent => Ok(Wish::Unheld),
-        Outcome::TurnedAway => Ok(Wish::Unheld),
+        Outcome::CannotAgree => Ok(Wish::Unheld),
     }
 }
 
-/// Lets a client and a desk meet over UDP, and asks for a permission for the address of a peer; what that peer
-/// sends then reaches the client. Where the client gives something of it, that is what the peer sent
-/// (`IsReceived`; RFC 8656, section 11.3).
+/// Simulates a client and a server core over UDP, and requests a permission for a peer's address.
+/// Then data from that peer reaches the client. If the client returns data from that peer, it is
+/// what the peer sent (`IsReceived`; RFC 8656, section 11.3).
 pub(crate) fn receive(
     alloc: Global,
     setting: &Setting<'_>,
@@ -169,7 +175,7 @@ pub(crate) fn receive(
     wish
 }
 
-/// The same, in a world in which an honest run begins.
+/// Does what `receive` does, in a simulation that is ready for an honest run (`IsFresh`).
 fn receive_in(
     alloc: Global,
     world: &mut World,
@@ -184,32 +190,32 @@ fn receive_in(
         IsReceived (plan_of setting.now) address world.old wish world.new) }
 {
     match permit_in(alloc, world, setting, address, peer_ip())? {
-        Wish::Held => hear(alloc, world, setting.here, setting.server),
+        Wish::Held => process(alloc, world, setting.here, setting.server),
         Wish::Unheld => Ok(Wish::Unheld),
     }
 }
 
-/// The address of a peer.
+/// Returns the peer's IP address.
 fn peer_ip() -> IpAddr
     ensures { result ≡ socket_ip peer }
 {
     IpAddr::V4(Ipv4Addr::new(198, 51, 100, 7))
 }
 
-/// What the peer sends comes to the client.
-fn hear(
+/// Delivers the peer's data to the client.
+fn process(
     alloc: Global,
     world: &mut World,
     here: SocketAddr,
     server: SocketAddr,
 ) -> Result<Wish, NoMemory>
-    ensures { IfOk result (λ wish. IsHeard here server world.old wish world.new) }
+    ensures { IfOk result (λ wish. IsProcessed here server world.old wish world.new) }
 {
     let came = Event::ToClient {
         bytes: indication(alloc)?,
         from: server,
         to: here,
-        now: Instant::from_nanos(DRAWN),
+        now: Instant::from_nanos(TRANSMITTED),
     };
     match happen(world, came)? {
         Answer::Peer(_) => Ok(Wish::Held),
@@ -217,7 +223,7 @@ fn hear(
     }
 }
 
-/// The indication of what the peer sends.
+/// Returns the Data indication that carries what the peer sends.
 fn indication(alloc: Global) -> Result<Vec<u8>, NoMemory>
     ensures { IfOk result (λ bytes. bytes.items ≡ indication) }
 {
@@ -229,8 +235,8 @@ fn indication(alloc: Global) -> Result<Vec<u8>, NoMemory>
     Ok(Vec::from_slice(alloc, &bytes)?)
 }
 
-/// Asks a client that has nothing to send for something, and carries its request to the desk, and the reply to the
-/// client.
+/// Makes a call of a client that has nothing to send, then delivers the client's request to the
+/// server core and the reply to the client.
 fn ask(
     alloc: Global,
     world: &mut World,
@@ -238,7 +244,7 @@ fn ask(
     here: SocketAddr,
     server: SocketAddr,
 ) -> Result<Wish, NoMemory>
-    ensures { IfOk result (λ wish. IsMet what here server world.old wish world.new) }
+    ensures { IfOk result (λ wish. IsSimulated what here server world.old wish world.new) }
 {
     let called = Instant::from_nanos(CALLED);
     if draws_nothing(world, called)? && calls(world, what, called)? {
@@ -248,7 +254,7 @@ fn ask(
     }
 }
 
-/// Draws the client, and carries on what it sends.
+/// Polls the client for its request and delivers what it sends.
 fn send(
     alloc: Global,
     world: &mut World,
@@ -257,13 +263,13 @@ fn send(
 ) -> Result<Wish, NoMemory>
     ensures { IfOk result (λ wish. IsSent here server world.old wish world.new) }
 {
-    match happen(world, Event::Draw(Instant::from_nanos(DRAWN)))? {
+    match happen(world, Event::Draw(Instant::from_nanos(TRANSMITTED)))? {
         Answer::Transmit(sent) => bring(alloc, world, &sent, here, server),
         _ => Ok(Wish::Unheld),
     }
 }
 
-/// Brings what the client sent to the desk, which is to grant it.
+/// Delivers to the server core what the client sent; the decision is to grant it.
 fn bring(
     alloc: Global,
     world: &mut World,
@@ -273,20 +279,20 @@ fn bring(
 ) -> Result<Wish, NoMemory>
     ensures { IfOk result (λ wish. IsBrought sent.now here server world.old wish world.new) }
 {
-    let asked = Event::ToDesk {
+    let requested = Event::ToDesk {
         bytes: Vec::from_slice(alloc, sent.bytes.as_slice())?,
         from: here,
-        now: Instant::from_nanos(DRAWN),
+        now: Instant::from_nanos(TRANSMITTED),
         decision: Decision::Grant,
         seed: [0; 32],
     };
-    match happen(world, asked)? {
+    match happen(world, requested)? {
         Answer::Reply(bytes) => give(world, bytes, here, server),
         _ => Ok(Wish::Unheld),
     }
 }
 
-/// Brings the desk's reply to the client, where it is a success.
+/// Delivers the server core's reply to the client if it is a success response.
 fn give(
     world: &mut World,
     bytes: Vec<u8>,
@@ -302,7 +308,7 @@ fn give(
         bytes,
         from: server,
         to: here,
-        now: Instant::from_nanos(DRAWN),
+        now: Instant::from_nanos(TRANSMITTED),
     };
     happen(world, given)?;
     Ok(Wish::Held)

@@ -1,5 +1,5 @@
-//! An honest network: it delivers what a client sends, and what the desk replies, each once, unaltered, at the
-//! moment at which the client was drawn.
+//! An honest network. It delivers each message of the client and each reply of the server core once
+//! and unaltered, at the time at which the client transmitted.
 
 ghost use Rattle.std.specs.Prelude.{IfOk};
 ghost use Rattle.test_honest_network.specs.Exchanges.{Happened, IsCarried, IsDelivered};
@@ -21,14 +21,14 @@ use turn_desk_world_laws::running::Runs;
 pub(crate) enum Carried {
     /// The client sent nothing.
     Unsent,
-    /// The desk didn't reply.
+    /// The server core did not reply.
     Unanswered,
     /// The reply reached the client.
     Replied,
 }
 
-/// Draws a client, delivers to the desk what it sends, and to the client what the desk replies. The desk is told
-/// what to decide; the words of its nonce come of a seed of zeros.
+/// Polls the client for a message, delivers it to the server core, and delivers the reply to the
+/// client. The server core receives this decision; a seed of zeros generates its nonce.
 pub(crate) fn carry(
     alloc: Global,
     world: &mut World,
@@ -44,7 +44,8 @@ pub(crate) fn carry(
     }
 }
 
-/// Delivers what a client sent to the desk, and to the client what the desk replies.
+/// Delivers to the server core what the client sent, and to the client what the server core
+/// replies.
 fn deliver(
     alloc: Global,
     world: &mut World,
@@ -55,14 +56,14 @@ fn deliver(
     ensures { IfOk result (λ carried.
         IsDelivered sent.now now decision world.old carried world.new) }
 {
-    let asked = Event::ToDesk {
+    let requested = Event::ToDesk {
         bytes: Vec::from_slice(alloc, sent.bytes.as_slice())?,
         from: sent.from,
         now,
         decision,
         seed: [0; 32],
     };
-    match happen(world, asked)? {
+    match happen(world, requested)? {
         Answer::Reply(bytes) => {
             let given = Event::ToClient {
                 bytes,
@@ -77,14 +78,14 @@ fn deliver(
     }
 }
 
-/// Lets an event happen.
+/// Runs one event and returns its answer.
 pub(crate) fn happen(world: &mut World, event: Event) -> Result<Answer, NoMemory>
     ensures { IfOk result (λ answer. Happened event world.old answer world.new) }
 {
     let mut answers = world.run(slice::from_ref(&event))?;
     match answers.pop() {
         Some(answer) => Ok(answer),
-        // There is one answer to one event.
+        // One event has one answer.
         None => unreachable!(),
     }
 }

@@ -1,14 +1,15 @@
-//! Clients and desks that meet over an honest network, and so all that the laws on it take for granted. They are
-//! really made and called. A line tells what each meeting came to.
+//! Clients and server cores that communicate over an honest network. The test creates and calls
+//! real ones, so it shows that the premises of the theorems on such runs can be satisfied. It
+//! prints one line for each run.
 #![tactic(auto)]
 
 mod asking;
 mod exchange;
-mod linking;
-mod meeting;
 mod renewing;
 mod replying;
 mod setting;
+mod simulation;
+mod tcp_binding;
 
 ghost use Rattle.std.specs.Prelude.{◌≡◌, ◌≤◌, length};
 ghost use Rattle.stun_types_base.specs.Family.{family_of_socket};
@@ -17,10 +18,10 @@ ghost use Rattle.stun_types_base.specs.declared.family.AddressFamily.TheVariants
 ghost use Rattle.turn_desk_world_laws.specs.TurnClientProtoStepLaws.Sound.{IsWhole};
 
 use crate::asking::{bind, permit, receive};
-use crate::linking::link;
-use crate::meeting::meet;
 use crate::renewing::keep;
 use crate::setting::{Setting, Supported};
+use crate::simulation::simulate;
+use crate::tcp_binding::link;
 use std::alloc::Global;
 use std::net::{IpAddr, Ipv4Addr, Ipv6Addr, SocketAddr};
 use stun_proto_auth::feature::Feature;
@@ -30,18 +31,19 @@ use stun_types_base::transport::TransportType;
 fn main(rt: HostRuntime) -> anyhow::Result<()> {
     for transport in [TransportType::Udp, TransportType::Tcp] {
         for family in [AddressFamily::IPV4, AddressFamily::IPV6] {
-            meet_by(&rt, rt.alloc(), transport, family)?;
+            simulate_by(&rt, rt.alloc(), transport, family)?;
         }
     }
-    meet_by_sha512(&rt, rt.alloc(), TransportType::Udp)?;
-    meet_by_sha512(&rt, rt.alloc(), TransportType::Tcp)?;
+    simulate_by_sha512(&rt, rt.alloc(), TransportType::Udp)?;
+    simulate_by_sha512(&rt, rt.alloc(), TransportType::Tcp)?;
     ask_all(&rt, rt.alloc())?;
     link_by(&rt, rt.alloc())?;
     keep_by(&rt, rt.alloc(), TransportType::Udp)?;
     keep_by(&rt, rt.alloc(), TransportType::Tcp)
 }
 
-/// Prints what a client holds that is asked for something, and over UDP whether it gives what a peer sends.
+/// Prints whether a client gets a permission and a channel that it requests, and over UDP whether
+/// it returns what a peer sends.
 fn ask_all(rt: &impl Print, alloc: Global) -> anyhow::Result<()> {
     let ip = IpAddr::V4(Ipv4Addr::new(198, 51, 100, 7));
     let address = decided(AddressFamily::IPV4);
@@ -58,7 +60,7 @@ fn ask_all(rt: &impl Print, alloc: Global) -> anyhow::Result<()> {
     Ok(())
 }
 
-/// Prints what becomes of a connection to a peer, for which a client is asked that has met a desk over TCP.
+/// Prints whether a client that has an allocation over TCP gets and binds a connection to a peer.
 fn link_by(rt: &impl Print, alloc: Global) -> anyhow::Result<()> {
     let here = IpAddr::V4(Ipv4Addr::new(192, 168, 0, 1));
     let setting = over(
@@ -73,20 +75,21 @@ fn link_by(rt: &impl Print, alloc: Global) -> anyhow::Result<()> {
     Ok(())
 }
 
-/// What comes of the address of a client that hides its name, over a transport.
+/// Prints whether a client that hides its name renews its allocation, over this transport.
 fn keep_by(rt: &impl Print, alloc: Global, transport: TransportType) -> anyhow::Result<()> {
     let setting = over(transport, client_address(), Feature::Required);
-    let kept = keep(alloc, &setting, decided(setting.family))?;
-    println!(rt; "{transport} renewed: {kept:?}")?;
+    let stored = keep(alloc, &setting, decided(setting.family))?;
+    println!(rt; "{transport} renewed: {stored:?}")?;
     Ok(())
 }
 
-/// The client's own address.
+/// Returns the client's own address.
 fn client_address() -> SocketAddr {
     SocketAddr::new(IpAddr::V4(Ipv4Addr::new(192, 168, 0, 1)), 1000)
 }
 
-/// A client and a desk that can come together, over a transport; both hide its name alike.
+/// Returns settings of a client and a server core that can agree, over this transport. Both have
+/// the same setting for hidden names.
 fn over(transport: TransportType, here: SocketAddr, hides: Feature) -> Setting<'static>
     ensures name { length result.name.now ≤ longest_username }
     ensures realm { length result.realm.now ≤ longest_text }
@@ -109,8 +112,8 @@ fn over(transport: TransportType, here: SocketAddr, hides: Feature) -> Setting<'
     }
 }
 
-/// A meeting of each client with each desk, over a transport, for an address of a family.
-fn meet_by(
+/// Runs each client with each server core, over this transport, for an address of this family.
+fn simulate_by(
     rt: &impl Print,
     alloc: Global,
     transport: TransportType,
@@ -143,9 +146,16 @@ fn meet_by(
     Ok(())
 }
 
-/// Meetings over a transport in which SHA-512 counts: both sides have all algorithms, the client has that one
-/// alone, and the desk all but that one.
-fn meet_by_sha512(rt: &impl Print, alloc: Global, transport: TransportType) -> anyhow::Result<()> {
+/// Runs the cases in which SHA-512 matters, over this transport:
+///
+/// - both sides support all algorithms;
+/// - the client supports SHA-512 alone, and the server core supports all;
+/// - the client supports SHA-512 alone, and the server core supports all but SHA-512.
+fn simulate_by_sha512(
+    rt: &impl Print,
+    alloc: Global,
+    transport: TransportType,
+) -> anyhow::Result<()> {
     let sides = [
         (Supported::All, Supported::All),
         (Supported::OnlySha512, Supported::All),
@@ -160,12 +170,12 @@ fn meet_by_sha512(rt: &impl Print, alloc: Global, transport: TransportType) -> a
     Ok(())
 }
 
-/// Prints what a meeting comes to.
+/// Prints the outcome of a simulated run.
 fn show(rt: &impl Print, alloc: Global, setting: &Setting<'_>) -> anyhow::Result<()>
     requires name { length setting.now.name.now ≤ longest_username }
     requires realm { length setting.now.realm.now ≤ longest_text }
 {
-    let outcome = meet(alloc, setting, decided(setting.family))?;
+    let outcome = simulate(alloc, setting, decided(setting.family))?;
     let (transport, family) = (setting.transport, setting.family);
     let (own, others) = (setting.own, setting.others);
     let (hides, takes) = (setting.hides, setting.takes);
@@ -173,7 +183,7 @@ fn show(rt: &impl Print, alloc: Global, setting: &Setting<'_>) -> anyhow::Result
     Ok(())
 }
 
-/// The address that is decided for a client, of the family that it asks for.
+/// Returns the address that the decision gives the client, of the family that it requests.
 fn decided(family: AddressFamily) -> SocketAddr
     ensures family { family_of_socket result ≡ family }
     ensures whole { IsWhole result }

@@ -1,4 +1,4 @@
-//! A client that met a desk keeps the address that it was allocated: it renews it in time.
+//! A client that was allocated an address keeps it by renewing it in time.
 
 ghost use Rattle.std.specs.Prelude.{◌≡◌, ◌≤◌, length, IfOk};
 ghost use Rattle.stun_types_base.specs.Family.{family_of_socket};
@@ -8,14 +8,14 @@ ghost use Rattle.turn_desk_progress_laws.specs.TurnClientProtoHandshakeLaws.Stag
 ghost use Rattle.turn_desk_progress_laws.specs.Promises.{IsFresh};
 ghost use Rattle.turn_desk_progress_laws.specs.Scripts.{Plan};
 ghost use Rattle.turn_desk_world.specs.Model.{World as WorldModel};
-ghost use Rattle.test_honest_network.specs.Courses.{HasGoneBy, HasKept, IsGiven, IsGranted, IsRefreshed};
-ghost use Rattle.test_honest_network.specs.Courses.{IsRest, IsShown, IsStill, IsWait, Where};
-ghost use Rattle.test_honest_network.specs.Meetings.{plan_of};
+ghost use Rattle.test_honest_network.specs.Courses.{HasGoneBy, HasStored, IsGiven, IsGranted, IsRefreshed};
+ghost use Rattle.test_honest_network.specs.Courses.{IsRest, IsListed, IsStill, IsWait, Where};
+ghost use Rattle.test_honest_network.specs.Simulations.{plan_of};
 
 use crate::exchange::happen;
-use crate::meeting::{LIFETIME, Outcome, SECOND, shake, world_of};
 use crate::replying::{draws_nothing, is_success, takes};
 use crate::setting::Setting;
+use crate::simulation::{LIFETIME, Outcome, SECOND, shake, world_of};
 use std::alloc::Global;
 use std::net::SocketAddr;
 use stun_types_base::data::Data;
@@ -28,80 +28,88 @@ use turn_desk_event::event::{ClientCall, Event};
 use turn_desk_progress_laws::renewals::renewed_in_time;
 use turn_desk_world::world::World;
 
-/// What came of an address.
+/// The outcome for the address.
 #[derive(Clone, Copy, Debug)]
-pub(crate) enum Kept {
-    /// None was allocated.
+pub(crate) enum Stored {
+    /// No address was allocated.
     Unmet,
-    /// What was called didn't come to a renewal, or the client showed something else behind it.
+    /// The calls did not lead to a renewal, or the client did not list exactly this address after
+    /// it.
     Unrenewed,
-    /// It was renewed, and is held still a minute before its new end.
+    /// The address was renewed, and the client still holds it one minute before its new expiry.
     Renewed,
 }
 
-/// A minute before the first end: the client was granted the address at its second draw (RFC 8656, section 8).
+/// One minute before the first expiry. The address was granted when the client was polled for its
+/// second request (RFC 8656, section 8).
 const DUE: u64 = SECOND + (LIFETIME as u64 - 60) * 1_000_000_000;
 
-/// A minute before the end behind the renewal.
+/// One minute before the expiry that the renewal set.
 const AGAIN: u64 = DUE + (LIFETIME as u64 - 60) * 1_000_000_000;
 
-/// Lets a client and a desk of these settings meet, and then leaves the client alone with its address: its events
-/// are taken, and it is drawn and polled at the moments that it awaits.
+/// Simulates a client and a server core with these settings. After the allocation the test only
+/// takes the client's events and polls it, also for messages, at the times for which it waits.
 pub(crate) fn keep(
     alloc: Global,
     setting: &Setting<'_>,
     address: SocketAddr,
-) -> Result<Kept, NoMemory>
+) -> Result<Stored, NoMemory>
     requires name { length setting.now.name.now ≤ longest_username }
     requires realm { length setting.now.realm.now ≤ longest_text }
     requires family { family_of_socket address ≡ setting.now.family }
     requires whole { IsWhole address }
-    ensures { IfOk result (λ kept. (old : WorldModel) × (new : WorldModel)
+    ensures { IfOk result (λ stored. (old : WorldModel) × (new : WorldModel)
         × IsFresh (plan_of setting.now) old
-        × HasKept (plan_of setting.now) address old kept new) }
+        × HasStored (plan_of setting.now) address old stored new) }
 {
     let mut world = world_of(alloc, setting)?;
-    let kept = meet_and_keep(alloc, &mut world, address);
+    let stored = simulate_and_keep(alloc, &mut world, address);
     drop(world);
-    kept
+    stored
 }
 
-/// The meeting, and what comes behind it.
-fn meet_and_keep(alloc: Global, world: &mut World, address: SocketAddr) -> Result<Kept, NoMemory>
+/// Runs the handshake and what follows it.
+fn simulate_and_keep(
+    alloc: Global,
+    world: &mut World,
+    address: SocketAddr,
+) -> Result<Stored, NoMemory>
     ensures { (plan : Plan)
         → IsFresh plan world.old
         → plan.client.made ≡ 0
         → plan.second ≡ SECOND
         → AsksForOne plan.client address
         → IsWhole address
-        → IfOk result (λ kept. (new : WorldModel) × HasKept plan address world.old kept new) }
+        → IfOk result (λ stored. (new : WorldModel) × HasStored plan address world.old stored new) }
 {
     renewed_in_time();
     let second = Instant::from_nanos(SECOND);
     match shake(alloc, world, Instant::ZERO, second, address)? {
         Outcome::Allocated => wait_and_renew(alloc, world, address),
-        Outcome::Silent => Ok(Kept::Unmet),
-        Outcome::TurnedAway => Ok(Kept::Unmet),
+        Outcome::Silent => Ok(Stored::Unmet),
+        Outcome::CannotAgree => Ok(Stored::Unmet),
     }
 }
 
-/// Nothing is to be sent until a minute before the end, and then a REFRESH is.
-fn wait_and_renew(alloc: Global, world: &mut World, address: SocketAddr) -> Result<Kept, NoMemory>
-    ensures { IfOk result (λ kept. HasGoneBy world.old kept world.new) }
+/// Checks that the client has nothing to send until one minute before the expiry and then sends a
+/// REFRESH.
+fn wait_and_renew(alloc: Global, world: &mut World, address: SocketAddr) -> Result<Stored, NoMemory>
+    ensures { IfOk result (λ stored. HasGoneBy world.old stored world.new) }
 {
     let second = Instant::from_nanos(SECOND);
     let due = Instant::from_nanos(DUE);
     if !rest(world, second, due)? || !refresh(alloc, world, due)? {
-        return Ok(Kept::Unrenewed);
+        return Ok(Stored::Unrenewed);
     }
     if hold(world, Instant::from_nanos(AGAIN), address)? {
-        Ok(Kept::Renewed)
+        Ok(Stored::Renewed)
     } else {
-        Ok(Kept::Unrenewed)
+        Ok(Stored::Unrenewed)
     }
 }
 
-/// The client's events are taken, it has nothing to send, and it is polled: whether it awaits that later moment.
+/// Takes the client's events, checks that it has nothing to send, and polls it. Returns whether it
+/// waits until `due` or later.
 fn rest(world: &mut World, now: Instant, due: Instant) -> Result<bool, NoMemory>
     ensures { IfOk result (λ rests. Where rests (IsRest now due world.old world.new)) }
 {
@@ -114,17 +122,18 @@ fn rest(world: &mut World, now: Instant, due: Instant) -> Result<bool, NoMemory>
     }
 }
 
-/// Polls the client: whether it awaits a moment, not before this one.
+/// Polls the client. Returns whether it waits until `due` or later.
 fn wait(world: &mut World, now: Instant, due: Instant) -> Result<bool, NoMemory>
     ensures { IfOk result (λ waits. Where waits (IsWait now due world.old world.new)) }
 {
     match happen(world, Event::Call(ClientCall::Poll, now))? {
-        Answer::Wait(moment) => Ok(due <= moment),
+        Answer::Wait(time) => Ok(due <= time),
         _ => Ok(false),
     }
 }
 
-/// Draws the client's REFRESH, which reaches the desk; the desk grants it, and its reply reaches the client.
+/// Polls the client for its REFRESH and delivers it to the server core, which grants it, and the
+/// reply to the client.
 fn refresh(alloc: Global, world: &mut World, now: Instant) -> Result<bool, NoMemory>
     ensures { IfOk result (λ renews. Where renews (IsRefreshed now world.old world.new)) }
 {
@@ -134,7 +143,8 @@ fn refresh(alloc: Global, world: &mut World, now: Instant) -> Result<bool, NoMem
     }
 }
 
-/// Delivers the REFRESH to the desk, which is told to grant it, and to the client its success.
+/// Delivers the REFRESH to the server core, with the decision to grant it, and the success response
+/// to the client.
 fn grant(
     alloc: Global,
     world: &mut World,
@@ -143,20 +153,20 @@ fn grant(
 ) -> Result<bool, NoMemory>
     ensures { IfOk result (λ grants. Where grants (IsGranted sent.now now world.old world.new)) }
 {
-    let asked = Event::ToDesk {
+    let requested = Event::ToDesk {
         bytes: Vec::from_slice(alloc, sent.bytes.as_slice())?,
         from: sent.from,
         now,
         decision: Decision::Refresh { lifetime: LIFETIME },
         seed: [0; 32],
     };
-    match happen(world, asked)? {
+    match happen(world, requested)? {
         Answer::Reply(bytes) => give(world, bytes, sent, now),
         _ => Ok(false),
     }
 }
 
-/// Delivers a reply to the client, if it is a success.
+/// Delivers a reply to the client if it is a success response.
 fn give(
     world: &mut World,
     bytes: Vec<u8>,
@@ -179,7 +189,8 @@ fn give(
     Ok(true)
 }
 
-/// Polls the client at a later moment, and asks it what it holds: whether it's this address.
+/// Polls the client at a later time and lists its addresses. Returns whether this address is the
+/// only one.
 fn hold(world: &mut World, now: Instant, address: SocketAddr) -> Result<bool, NoMemory>
     ensures { IfOk result (λ holds. Where holds (IsStill now world.old world.new)) }
 {
@@ -190,12 +201,12 @@ fn hold(world: &mut World, now: Instant, address: SocketAddr) -> Result<bool, No
     }
 }
 
-/// Whether the client shows this address, and no other.
+/// Returns whether the client lists this address and no other.
 fn shows(world: &mut World, now: Instant, address: SocketAddr) -> Result<bool, NoMemory>
-    ensures { IfOk result (λ shows. Where shows (IsShown now world.old world.new)) }
+    ensures { IfOk result (λ shows. Where shows (IsListed now world.old world.new)) }
 {
     match happen(world, Event::Call(ClientCall::RelayedAddresses, now))? {
-        Answer::Relayed(shown) => match shown.as_slice() {
+        Answer::Relayed(visible) => match visible.as_slice() {
             [(_, one)] => Ok(*one == address),
             _ => Ok(false),
         },

@@ -1,10 +1,10 @@
-//! What a client is asked, and how a desk replies to what it sends.
+//! Calls of a client, and the server core's replies to what it sends.
 
 ghost use Rattle.std.specs.Prelude.{◌≡◌, IfOk, IsSome, IsTrue};
 ghost use Rattle.stun_types_wire.specs.Attributes.{kind_at};
 ghost use Rattle.stun_types_wire.specs.declared.class.MessageClass.TheVariants.{Success};
 ghost use Rattle.stun_types_wire.specs.Types.{class_of};
-ghost use Rattle.turn_client_proto.specs.StunProtoClient.Challenges.{asks_again, challenge_shown};
+ghost use Rattle.turn_client_proto.specs.StunProtoClient.Challenges.{asks_again, challenge_visible};
 ghost use Rattle.turn_desk_event.specs.declared.answer.Answer.TheVariants.{Nothing};
 ghost use Rattle.turn_desk_event.specs.declared.event.Event.TheVariants.{Draw};
 ghost use Rattle.test_honest_network.specs.Exchanges.{Happened};
@@ -25,18 +25,18 @@ use turn_desk_event::answer::Answer;
 use turn_desk_event::event::{ClientCall, Event};
 use turn_desk_world::world::World;
 
-/// What a desk replied.
+/// The kind of reply from a server core.
 #[derive(Clone, Copy)]
 pub(crate) enum Reply {
-    /// Nothing, or something else.
+    /// No reply, or one that is neither a success response nor a challenge.
     Neither,
-    /// A success.
+    /// A success response.
     Success,
     /// A challenge.
     Challenge,
 }
 
-/// Whether a call of a client is done.
+/// Makes a call of the client and returns whether it succeeded.
 pub(crate) fn calls(world: &mut World, what: ClientCall, now: Instant) -> Result<bool, NoMemory>
     ensures { IfOk result (λ calls. IsTrue calls → IsCall what now world.old world.new) }
 {
@@ -46,7 +46,7 @@ pub(crate) fn calls(world: &mut World, what: ClientCall, now: Instant) -> Result
     }
 }
 
-/// Takes an event, where one waits.
+/// Takes one event of the client if one is queued.
 pub(crate) fn takes(world: &mut World, now: Instant) -> Result<(), NoMemory>
     ensures { IfOk result (λ taken. IsTaken now world.old world.new) }
 {
@@ -54,7 +54,7 @@ pub(crate) fn takes(world: &mut World, now: Instant) -> Result<(), NoMemory>
     Ok(())
 }
 
-/// Draws a client: whether it has nothing to send.
+/// Polls the client for a message and returns whether it has nothing to send.
 pub(crate) fn draws_nothing(world: &mut World, now: Instant) -> Result<bool, NoMemory>
     ensures { IfOk result (λ none.
         IsTrue none → Happened (Draw now) world.old Nothing world.new) }
@@ -65,7 +65,7 @@ pub(crate) fn draws_nothing(world: &mut World, now: Instant) -> Result<bool, NoM
     }
 }
 
-/// Polls a client: whether it asks for a socket.
+/// Polls the client and returns whether it asks for a socket.
 pub(crate) fn polls(world: &mut World, now: Instant) -> Result<bool, NoMemory>
     ensures { IfOk result (λ polls. IsTrue polls → IsPoll now world.old world.new) }
 {
@@ -75,8 +75,11 @@ pub(crate) fn polls(world: &mut World, now: Instant) -> Result<bool, NoMemory>
     }
 }
 
-/// Draws a client, delivers to the desk what it sends, and to the client what the desk replies, all at one moment. The
-/// desk is told what to decide; its words come of another seed than those of the meeting, and so does a new nonce.
+/// Polls the client for a message, delivers it to the server core, and delivers the reply to the
+/// client, all at one time.
+///
+/// The server core receives this decision. Its random words come from another seed than in the
+/// handshake, so a new nonce differs, too.
 pub(crate) fn replies(
     alloc: Global,
     world: &mut World,
@@ -91,7 +94,7 @@ pub(crate) fn replies(
     }
 }
 
-/// Delivers to the desk what a client sent, and to the client what the desk replies.
+/// Delivers to the server core what a client sent, and to the client what the server core replies.
 fn bring(
     alloc: Global,
     world: &mut World,
@@ -101,20 +104,20 @@ fn bring(
 ) -> Result<Reply, NoMemory>
     ensures { IfOk result (λ reply. IsBrought sent.now now decision world.old reply world.new) }
 {
-    let asked = Event::ToDesk {
+    let requested = Event::ToDesk {
         bytes: Vec::from_slice(alloc, sent.bytes.as_slice())?,
         from: sent.from,
         now,
         decision,
         seed: [1; 32],
     };
-    match happen(world, asked)? {
+    match happen(world, requested)? {
         Answer::Reply(bytes) => give(world, bytes, sent, now),
         _ => Ok(Reply::Neither),
     }
 }
 
-/// Delivers to a client what the desk replied.
+/// Delivers the server core's reply to the client and returns its kind.
 fn give(
     world: &mut World,
     bytes: Vec<u8>,
@@ -134,7 +137,7 @@ fn give(
     Ok(kind)
 }
 
-/// Whether bytes are a message that is a success.
+/// Returns whether bytes are a success response.
 pub(crate) fn is_success(bytes: &[u8]) -> bool
     ensures { IsTrue result → class_of (kind_at bytes.now) ≡ Success }
 {
@@ -144,7 +147,7 @@ pub(crate) fn is_success(bytes: &[u8]) -> bool
     }
 }
 
-/// What bytes of a desk are.
+/// Returns the kind of reply that a server core's bytes are.
 fn kind_of(bytes: &[u8]) -> Reply
     ensures { IsKind bytes.now result }
 {
@@ -162,9 +165,9 @@ fn kind_of(bytes: &[u8]) -> Reply
     }
 }
 
-/// Whether a message is a challenge (RFC 8489, section 9.2.5).
+/// Returns whether a message is a challenge (RFC 8489, section 9.2.5).
 fn is_challenge(message: &Message<'_>) -> bool
-    ensures { IsTrue result → IsSome (challenge_shown message.now) }
+    ensures { IsTrue result → IsSome (challenge_visible message.now) }
 {
     if !asks_again(message) {
         return false;
@@ -176,7 +179,7 @@ fn is_challenge(message: &Message<'_>) -> bool
     claim.nonce().is_some()
 }
 
-/// Whether a message is an error response with 401 or 438.
+/// Returns whether a message is an error response with code 401 or 438.
 fn asks_again(message: &Message<'_>) -> bool
     ensures { result ≡ asks_again message.now }
 {

@@ -1,4 +1,4 @@
-//! Who meets: a client and a desk, by their settings.
+//! The settings of a client and a server core.
 
 ghost use Rattle.std.specs.Prelude.{◌≡◌, ◌≤◌, length, IfOk, OnOk};
 ghost use Rattle.std.specs.FinMap as map;
@@ -17,7 +17,7 @@ use stun_types_wire::algorithm::IntegrityAlgorithm;
 use turn_client_proto_api::config::TurnConfig;
 use turn_types_attributes::credentials::TurnCredentials;
 
-/// Which algorithms a client or a desk supports.
+/// The algorithms that a client or a server core supports.
 #[derive(Clone, Copy, Debug)]
 pub(crate) enum Supported {
     /// SHA-1 alone.
@@ -32,34 +32,34 @@ pub(crate) enum Supported {
     All,
 }
 
-/// A client's settings, and those of a desk that knows its user.
+/// The settings of a client and of a server core that knows the client's user.
 #[derive(Clone, Copy)]
 pub(crate) struct Setting<'a> {
-    /// The name of the user.
+    /// The user's name.
     pub(crate) name: &'a str,
-    /// Its password.
+    /// The user's password.
     pub(crate) password: &'a str,
-    /// The desk's realm.
+    /// The server core's realm.
     pub(crate) realm: &'a str,
     /// The client's own address.
     pub(crate) here: SocketAddr,
-    /// The desk's.
+    /// The server core's address.
     pub(crate) server: SocketAddr,
     /// The transport between them.
     pub(crate) transport: TransportType,
-    /// The family of addresses that the client asks for.
+    /// The address family that the client requests.
     pub(crate) family: AddressFamily,
-    /// What the client supports.
+    /// The algorithms that the client supports.
     pub(crate) own: Supported,
-    /// What the desk supports.
+    /// The algorithms that the server core supports.
     pub(crate) others: Supported,
     /// Whether the client hides its name.
     pub(crate) hides: Feature,
-    /// Whether the desk takes a hidden name.
+    /// Whether the server core accepts a hidden name.
     pub(crate) takes: Feature,
 }
 
-/// The client's settings.
+/// Returns the client's configuration.
 pub(crate) fn config_of(alloc: Global, setting: &Setting<'_>) -> Result<TurnConfig, NoMemory>
     ensures { IfOk result (λ config. config ≡ config_of setting.now) }
 {
@@ -71,7 +71,7 @@ pub(crate) fn config_of(alloc: Global, setting: &Setting<'_>) -> Result<TurnConf
     Ok(config)
 }
 
-/// Has a client support these algorithms.
+/// Makes a client support exactly these algorithms.
 fn offer(config: &mut TurnConfig, own: Supported)
     ensures { config.new ≡ record config.old { algorithms = algorithms_of own } }
 {
@@ -91,7 +91,7 @@ fn offer(config: &mut TurnConfig, own: Supported)
     }
 }
 
-/// The desk's authenticator, which knows the client's user, and no other.
+/// Returns the server core's authenticator, which knows the client's user and no other.
 pub(crate) fn server_of(
     alloc: Global,
     setting: &Setting<'_>,
@@ -112,7 +112,7 @@ pub(crate) fn server_of(
     }
 }
 
-/// Has a desk support these algorithms.
+/// Makes a server core support exactly these algorithms.
 fn take(server: &mut LongTermServerAuth, others: Supported)
     ensures { server.new ≡ record server.old { algorithms = algorithms_of others } }
 {
@@ -132,7 +132,7 @@ fn take(server: &mut LongTermServerAuth, others: Supported)
     }
 }
 
-/// Makes a user known to a desk.
+/// Adds a user to a server core.
 fn know(
     alloc: Global,
     server: &mut LongTermServerAuth,

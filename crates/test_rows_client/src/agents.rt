@@ -7,17 +7,17 @@ use stun_types_base::instant::Instant;
 use stun_types_base::transport::TransportType;
 use turn_client_proto_api::config::TurnConfig;
 
-/// A BINDING request of number 1 (RFC 8489, section 5).
+/// A BINDING request with transaction ID 1 (RFC 8489, section 5).
 const REQUEST: &[u8] = b"\0\x01\0\0\x21\x12\xa4\x42\0\0\0\0\0\0\0\0\0\0\0\x01";
 
-/// More turns than there are transmissions.
+/// The maximum number of iterations of `drive`, which is more than there are transmissions.
 const MOST_TURNS: u32 = 32;
 
-/// `agent TRANSPORT END`: the agent of the last settings that a line made, and how it sends a request again
-/// and gives it up, where this is to be in a moment of so many nanoseconds.
-pub(crate) fn agent(line: &mut Line<'_>, kept: &[TurnConfig]) {
+/// `agent TRANSPORT END`: makes the agent of the last settings, and prints when it retransmits a
+/// request and when it gives it up. END is the time, in nanoseconds, at which it should give up.
+pub(crate) fn agent(line: &mut Line<'_>, stored: &[TurnConfig]) {
     let (transport, end) = (line.value(TransportType::Udp), line.value(0u64));
-    match kept.last() {
+    match stored.last() {
         Some(config) => {
             let local = SocketAddr::new(IpAddr::V4(Ipv4Addr::new(192, 168, 0, 1)), 1000);
             let builder = config.stun_agent_builder(line.alloc, transport, local);
@@ -31,13 +31,13 @@ pub(crate) fn agent(line: &mut Line<'_>, kept: &[TurnConfig]) {
     }
 }
 
-/// Tells the transport, the agent's own address, and that of the other side.
+/// Prints the transport, the agent's local address and the remote address.
 fn show(line: &mut Line<'_>, agent: &StunAgent) {
     let (transport, local, remote) = (agent.transport(), agent.local_addr(), agent.remote_addr());
     let _ = write!(line.answer, " {transport} {local} {remote:?}");
 }
 
-/// Sends the request in the first moment.
+/// Sends the request at time 0.
 fn request(line: &mut Line<'_>, agent: &mut StunAgent) {
     let to = SocketAddr::new(IpAddr::V4(Ipv4Addr::new(192, 168, 0, 2)), 3478);
     match agent.send_request(REQUEST, to, Instant::ZERO) {
@@ -46,7 +46,7 @@ fn request(line: &mut Line<'_>, agent: &mut StunAgent) {
     }
 }
 
-/// Tells the moments, in nanoseconds, at which an agent sends again before the end.
+/// Prints the times, in nanoseconds, at which an agent retransmits before the end.
 fn drive(line: &mut Line<'_>, agent: &mut StunAgent, end: u64) {
     let early = Instant::from_nanos(end.saturating_sub(1));
     let mut now = Instant::ZERO;
@@ -60,7 +60,8 @@ fn drive(line: &mut Line<'_>, agent: &mut StunAgent, end: u64) {
     }
 }
 
-/// Tells what an agent has to say one nanosecond before the end, in the end, and once more then.
+/// Prints the results of polling an agent one nanosecond before the end, at the end, and at the end
+/// again.
 fn end_of(line: &mut Line<'_>, agent: &mut StunAgent, end: u64) {
     for now in [end.saturating_sub(1), end, end] {
         match agent.poll(Instant::from_nanos(now)) {

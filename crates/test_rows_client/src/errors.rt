@@ -1,4 +1,4 @@
-//! Texts of errors, as they are printed.
+//! The texts of errors.
 
 use crate::line::Line;
 use std::fmt::Display;
@@ -9,7 +9,8 @@ use turn_client_proto_api::error::{
     TcpConnectError,
 };
 
-/// `error KIND VARIANT`: the text of an error. `memory` is the error that is made of want of memory.
+/// `error KIND VARIANT`: prints the text of an error. The variant `memory` is the error converted
+/// from `NoMemory`.
 pub(crate) fn error(line: &mut Line<'_>) {
     let (kind, variant) = (line.word(), line.word());
     match kind {
@@ -23,21 +24,21 @@ pub(crate) fn error(line: &mut Line<'_>) {
     }
 }
 
-/// Tells an error, where there is one.
-fn tell<E: Display + Drop>(line: &mut Line<'_>, error: Option<E>) {
+/// Prints an error. The line is bad if there is none.
+fn report<E: Display + Drop>(line: &mut Line<'_>, error: Option<E>) {
     match error {
         Some(error) => line.say(&error),
         None => line.is_bad = true,
     }
 }
 
-/// Why no channel is bound; `expired` has the nanoseconds of a moment behind it.
+/// The errors of binding a channel. A time in nanoseconds follows `expired`.
 fn bind(line: &mut Line<'_>, variant: &str) {
     let error = match variant {
         "already-exists" => Some(BindChannelError::AlreadyExists),
         "expired" => {
-            let moment = Instant::from_nanos(line.value(0u64));
-            Some(BindChannelError::ExpiredChannelExists(moment))
+            let time = Instant::from_nanos(line.value(0u64));
+            Some(BindChannelError::ExpiredChannelExists(time))
         }
         "no-allocation" => Some(BindChannelError::NoAllocation),
         "no-channel" => Some(BindChannelError::NoChannel),
@@ -45,10 +46,10 @@ fn bind(line: &mut Line<'_>, variant: &str) {
         "memory" => Some(BindChannelError::from(NoMemory)),
         _ => None,
     };
-    tell(line, error);
+    report(line, error);
 }
 
-/// Why no permission is created.
+/// The errors of creating a permission.
 fn permission(line: &mut Line<'_>, variant: &str) {
     let error = match variant {
         "already-exists" => Some(CreatePermissionError::AlreadyExists),
@@ -57,10 +58,10 @@ fn permission(line: &mut Line<'_>, variant: &str) {
         "memory" => Some(CreatePermissionError::from(NoMemory)),
         _ => None,
     };
-    tell(line, error);
+    report(line, error);
 }
 
-/// Why allocations are not deleted.
+/// The errors of deleting the allocations.
 fn delete(line: &mut Line<'_>, variant: &str) {
     let error = match variant {
         "no-allocation" => Some(DeleteError::NoAllocation),
@@ -68,10 +69,10 @@ fn delete(line: &mut Line<'_>, variant: &str) {
         "memory" => Some(DeleteError::from(NoMemory)),
         _ => None,
     };
-    tell(line, error);
+    report(line, error);
 }
 
-/// Why bytes are not sent to a peer.
+/// The errors of sending to a peer.
 fn send(line: &mut Line<'_>, variant: &str) {
     let error = match variant {
         "no-allocation" => Some(SendError::NoAllocation),
@@ -82,10 +83,10 @@ fn send(line: &mut Line<'_>, variant: &str) {
         "memory" => Some(SendError::from(NoMemory)),
         _ => None,
     };
-    tell(line, error);
+    report(line, error);
 }
 
-/// Why no connection to a peer is asked for.
+/// The errors of requesting a connection to a peer.
 fn connect(line: &mut Line<'_>, variant: &str) {
     let error = match variant {
         "already-exists" => Some(TcpConnectError::AlreadyExists),
@@ -95,10 +96,10 @@ fn connect(line: &mut Line<'_>, variant: &str) {
         "memory" => Some(TcpConnectError::from(NoMemory)),
         _ => None,
     };
-    tell(line, error);
+    report(line, error);
 }
 
-/// Why a socket for a connection to a peer is not taken.
+/// The errors of reporting a socket for a connection to a peer.
 fn socket(line: &mut Line<'_>, variant: &str) {
     let error = match variant {
         "already-exists" => Some(TcpAllocateError::AlreadyExists),
@@ -107,5 +108,5 @@ fn socket(line: &mut Line<'_>, variant: &str) {
         "memory" => Some(TcpAllocateError::from(NoMemory)),
         _ => None,
     };
-    tell(line, error);
+    report(line, error);
 }

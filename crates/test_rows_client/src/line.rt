@@ -1,4 +1,4 @@
-//! A line: what its words stand for, and what it is answered.
+//! An input line: its words, and the output for it.
 
 use line_io::lower_hex::{read_hex, write_hex};
 use std::alloc::Global;
@@ -7,7 +7,7 @@ use std::net::{IpAddr, Ipv4Addr, SocketAddr};
 use std::str::FromStr;
 use std::time::Duration;
 
-/// The words of a line, of which so many were read, and those that answer it.
+/// The words of a line, how many were read, and the output so far.
 #[derive(Drop)]
 pub(crate) struct Line<'a> {
     pub(crate) alloc: Global,
@@ -28,7 +28,7 @@ impl<'a> Line<'a> {
         }
     }
 
-    /// The next word.
+    /// Returns the next word.
     pub(crate) fn word(&mut self) -> &'a str {
         let words = self.words;
         let word = words.get(self.read).copied();
@@ -37,12 +37,12 @@ impl<'a> Line<'a> {
         word.unwrap_or("")
     }
 
-    /// How many words are still to be read.
+    /// Returns how many words are left to read.
     pub(crate) fn left(&self) -> usize {
         self.words.len().saturating_sub(self.read)
     }
 
-    /// The text of the next word.
+    /// Returns the next word as text; `-` is the empty text.
     pub(crate) fn text(&mut self) -> &'a str {
         match self.word() {
             "-" => "",
@@ -50,7 +50,7 @@ impl<'a> Line<'a> {
         }
     }
 
-    /// The value of the next word, or another one where it is none.
+    /// Parses the next word. Returns `other` if it cannot be parsed.
     pub(crate) fn value<T: FromStr + Drop>(&mut self, other: T) -> T
     where
         T::Err: Drop,
@@ -64,12 +64,12 @@ impl<'a> Line<'a> {
         }
     }
 
-    /// The address of the next word.
+    /// Parses the next word as a socket address.
     pub(crate) fn address(&mut self) -> SocketAddr {
         self.value(SocketAddr::new(IpAddr::V4(Ipv4Addr::UNSPECIFIED), 0))
     }
 
-    /// The milliseconds of the next word, or the longest duration for `max`.
+    /// Parses the next word as milliseconds; `max` is the longest duration.
     pub(crate) fn duration(&mut self) -> Duration {
         match self.word() {
             "max" => Duration::MAX,
@@ -81,43 +81,43 @@ impl<'a> Line<'a> {
         }
     }
 
-    /// The place of the next word, or the greatest for `max`.
-    pub(crate) fn place(&mut self) -> usize {
+    /// Parses the next word as an index; `max` is the greatest index.
+    pub(crate) fn index(&mut self) -> usize {
         match self.word() {
             "max" => usize::MAX,
             word => {
-                let place = word.parse::<usize>();
-                self.is_bad = self.is_bad || place.is_err();
-                place.unwrap_or(0)
+                let index = word.parse::<usize>();
+                self.is_bad = self.is_bad || index.is_err();
+                index.unwrap_or(0)
             }
         }
     }
 
-    /// The bytes of the next word in hex, `-` for none.
+    /// Parses the next word as hex bytes; `-` means no bytes.
     pub(crate) fn bytes(&mut self) -> Vec<u8> {
         let bytes = read_hex(self.alloc, self.word());
         self.is_bad = self.is_bad || bytes.is_err();
         bytes.unwrap_or(Vec::new(self.alloc))
     }
 
-    /// The number of 16 bits of the next word in hex.
+    /// Parses the next word as a 16-bit integer in hex.
     pub(crate) fn number(&mut self) -> u16 {
         let number = u16::from_str_radix(self.word(), 16);
         self.is_bad = self.is_bad || number.is_err();
         number.unwrap_or(0)
     }
 
-    /// Answers what a value is printed as.
+    /// Appends a value to the output, as `Display` prints it.
     pub(crate) fn say<T: Display>(&mut self, value: &T) {
         let _ = write!(self.answer, " {value}");
     }
 
-    /// Answers a text, `-` for one of no letters.
+    /// Appends a text to the output, `-` if it is empty.
     pub(crate) fn say_text(&mut self, text: &str) {
         self.say(&if text.is_empty() { "-" } else { text });
     }
 
-    /// Answers bytes in hex, `-` for none.
+    /// Appends bytes in hex to the output, `-` for none.
     pub(crate) fn hex(&mut self, bytes: &[u8]) {
         if let Ok(text) = write_hex(self.alloc, bytes) {
             self.say(&text);

@@ -1,8 +1,11 @@
-//! Asks what a TURN client is configured with, errs with, hands out and sends, as each line of its standard
-//! input says, and prints what is answered. A line is words parted by single spaces, of which the first
-//! names what is asked; an empty line and one that begins with `#` say nothing. Bytes are in lower case
-//! hex; `-` stands for no bytes, and for a text of no letters. `tests/oracle/rows_client.py` makes
-//! the lines and what is to be answered.
+//! Makes the calls that each line of standard input names, and prints the results. The lines are
+//! about a TURN client's settings, its errors, the payloads that it returns and what it sends.
+//!
+//! - A line consists of words separated by single spaces. The first word names the call.
+//! - An empty line and a line that begins with `#` are skipped.
+//! - Bytes are in lower-case hex; `-` stands for no bytes, and for the empty text.
+//!
+//! `tests/oracle/rows_client.py` generates the lines and the expected output.
 #![tactic(auto)]
 
 mod agents;
@@ -29,31 +32,31 @@ fn main(rt: HostRuntime) -> io::Result<()> {
     done
 }
 
-/// Takes each line, and keeps all settings that lines made.
+/// Runs each line, and stores all settings that the lines make.
 fn take_all(rt: &HostRuntime, input: &[u8]) -> io::Result<()> {
-    let mut kept = Vec::new(rt.alloc());
-    let done = take_each(rt, input, &mut kept);
-    drop(kept);
+    let mut stored = Vec::new(rt.alloc());
+    let done = take_each(rt, input, &mut stored);
+    drop(stored);
     done
 }
 
-/// Takes each line that says something.
-fn take_each(rt: &HostRuntime, input: &[u8], kept: &mut Vec<TurnConfig>) -> io::Result<()> {
+/// Runs each line that is not skipped.
+fn take_each(rt: &HostRuntime, input: &[u8], stored: &mut Vec<TurnConfig>) -> io::Result<()> {
     for line in input.split(|byte| *byte == b'\n') {
         if !is_skipped(line) {
-            take(rt, line, kept)?;
+            take(rt, line, stored)?;
         }
     }
     Ok(())
 }
 
-/// Prints the first word of a line, and what the line is answered.
-fn take(rt: &HostRuntime, line: &[u8], kept: &mut Vec<TurnConfig>) -> io::Result<()> {
+/// Prints the first word of a line and the output for the line.
+fn take(rt: &HostRuntime, line: &[u8], stored: &mut Vec<TurnConfig>) -> io::Result<()> {
     match read_words(rt.alloc(), line) {
         Ok(words) => {
             let mut line = Line::new(rt.alloc(), words.as_slice());
             let kind = line.word();
-            ask(&mut line, kind, kept);
+            ask(&mut line, kind, stored);
             if line.is_bad {
                 println!(rt; "{kind} bad line")
             } else {
@@ -64,12 +67,12 @@ fn take(rt: &HostRuntime, line: &[u8], kept: &mut Vec<TurnConfig>) -> io::Result
     }
 }
 
-/// Asks what a line says.
-fn ask(line: &mut Line<'_>, kind: &str, kept: &mut Vec<TurnConfig>) {
+/// Makes the call of a line.
+fn ask(line: &mut Line<'_>, kind: &str, stored: &mut Vec<TurnConfig>) {
     match kind {
-        "settings" => settings::settings(line, kept),
+        "settings" => settings::settings(line, stored),
         "debug" => settings::debug(line),
-        "agent" => agents::agent(line, kept.as_slice()),
+        "agent" => agents::agent(line, stored.as_slice()),
         "error" => errors::error(line),
         "payload" => payloads::payload(line),
         "owned" => payloads::owned(line),

@@ -1,4 +1,4 @@
-//! What is sent to a server for a peer: channel frames, SEND indications, and bytes as they are.
+//! What a client sends to the server for a peer: channel frames, Send indications, and plain data.
 
 use crate::line::Line;
 use std::net::{IpAddr, Ipv4Addr, SocketAddr};
@@ -10,8 +10,8 @@ use turn_types_frame::build::{DelayedTransmitBuild, TransmitBuild};
 use turn_types_frame::delayed_channel::DelayedChannel;
 use turn_types_frame::delayed_message::DelayedMessage;
 
-/// `send frame CHANNEL BYTES`, `send padded CHANNEL BYTES`, `send indication PEER NUMBER BYTES`,
-/// `send data BYTES` and `send owned BYTES`.
+/// Prints what one of these lines sends: `send frame CHANNEL BYTES`, `send padded CHANNEL BYTES`,
+/// `send indication PEER NUMBER BYTES`, `send data BYTES` and `send owned BYTES`.
 pub(crate) fn send(line: &mut Line<'_>) {
     match line.word() {
         "frame" => frame(line, false),
@@ -23,7 +23,7 @@ pub(crate) fn send(line: &mut Line<'_>) {
     }
 }
 
-/// A channel frame, or one that is padded.
+/// Sends a channel frame, padded or not.
 fn frame(line: &mut Line<'_>, is_padded: bool) {
     let (id, data) = (line.number(), line.bytes());
     if id < LEAST_CHANNEL || GREATEST_CHANNEL < id || data.len() > MAX_PAYLOAD {
@@ -40,7 +40,7 @@ fn frame(line: &mut Line<'_>, is_padded: bool) {
     }
 }
 
-/// A SEND indication.
+/// Sends a Send indication.
 fn indication(line: &mut Line<'_>) {
     let (peer, number, data) = (line.address(), line.value(0u128), line.bytes());
     if data.len() > MAX_PAYLOAD {
@@ -58,7 +58,7 @@ fn indication(line: &mut Line<'_>) {
     }
 }
 
-/// Bytes as they are.
+/// Sends borrowed bytes unchanged.
 fn data(line: &mut Line<'_>) {
     let data = line.bytes();
     for is_built in [true, false] {
@@ -70,7 +70,7 @@ fn data(line: &mut Line<'_>) {
     }
 }
 
-/// Bytes that are written already.
+/// Sends owned bytes, which are encoded already.
 fn owned(line: &mut Line<'_>) {
     let data = line.bytes();
     for is_built in [true, false] {
@@ -80,7 +80,7 @@ fn owned(line: &mut Line<'_>) {
     }
 }
 
-/// Builds what is sent, or writes it.
+/// Builds what is sent in a vector, or writes it into a slice.
 fn sent(line: &mut Line<'_>, send: DelayedMessageOrChannelSend<&[u8]>, is_built: bool) {
     if is_built {
         build(line, send);
@@ -89,7 +89,8 @@ fn sent(line: &mut Line<'_>, send: DelayedMessageOrChannelSend<&[u8]>, is_built:
     }
 }
 
-/// How many bytes are sent, whether they are none, the transport and the addresses, and the bytes.
+/// Prints the number of bytes to send, whether it is zero, the transport, the addresses and the
+/// bytes.
 fn build(line: &mut Line<'_>, send: DelayedMessageOrChannelSend<&[u8]>) {
     let from = SocketAddr::new(IpAddr::V4(Ipv4Addr::new(192, 168, 0, 1)), 1000);
     let to = SocketAddr::new(IpAddr::V4(Ipv4Addr::new(10, 0, 0, 2)), 2000);
@@ -106,7 +107,7 @@ fn build(line: &mut Line<'_>, send: DelayedMessageOrChannelSend<&[u8]>) {
     }
 }
 
-/// How many bytes are written over bytes of 09, and what they are then.
+/// Writes over bytes of 09, and prints how many bytes were written and the bytes afterwards.
 fn write_over(line: &mut Line<'_>, send: DelayedMessageOrChannelSend<&[u8]>) {
     match Vec::from_elem(line.alloc, 9u8, send.len()) {
         Ok(mut room) => {

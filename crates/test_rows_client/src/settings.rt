@@ -1,5 +1,4 @@
-//! Settings: what is added to their lists and what is set, and which of them are equal; and what credentials
-//! are printed as.
+//! Settings: the changes to them, and which settings are equal. Also how credentials are printed.
 
 use crate::line::Line;
 use stun_proto_auth::feature::Feature;
@@ -10,9 +9,10 @@ use stun_types_wire::algorithm::IntegrityAlgorithm;
 use turn_client_proto_api::config::TurnConfig;
 use turn_types_attributes::credentials::TurnCredentials;
 
-/// `settings NAME PASSWORD CHANGE..`: the settings of an account behind changes in order; which of the kept
-/// ones, themselves the last, a copy of them equals, and which ones equal the copy. They are kept.
-pub(crate) fn settings(line: &mut Line<'_>, kept: &mut Vec<TurnConfig>) {
+/// `settings NAME PASSWORD CHANGE..`: makes the settings of an account, applies the changes in
+/// order, prints the settings and stores them. Then prints which of the stored settings a copy of
+/// them equals, and which equal the copy; the new settings are the last stored.
+pub(crate) fn settings(line: &mut Line<'_>, stored: &mut Vec<TurnConfig>) {
     let (username, password) = (line.text(), line.text());
     let Ok(credentials) = TurnCredentials::new(line.alloc, username, password) else {
         line.is_bad = true;
@@ -25,23 +25,23 @@ pub(crate) fn settings(line: &mut Line<'_>, kept: &mut Vec<TurnConfig>) {
         }
     }
     if !line.is_bad {
-        keep(line, config, kept);
+        keep(line, config, stored);
     }
 }
 
-/// Tells settings and keeps them.
-fn keep(line: &mut Line<'_>, config: TurnConfig, kept: &mut Vec<TurnConfig>) {
+/// Prints settings, stores them and compares them.
+fn keep(line: &mut Line<'_>, config: TurnConfig, stored: &mut Vec<TurnConfig>) {
     show(line, &config);
     let copy = config.clone(line.alloc);
-    let is_kept = kept.push(config).is_ok();
-    line.is_bad = line.is_bad || !is_kept;
+    let is_stored = stored.push(config).is_ok();
+    line.is_bad = line.is_bad || !is_stored;
     match copy {
-        Ok(copy) => compare(line, &copy, kept.as_slice()),
+        Ok(copy) => compare(line, &copy, stored.as_slice()),
         Err(_) => line.is_bad = true,
     }
 }
 
-/// Makes the change of the next word.
+/// Makes the change that the next word names.
 fn change(line: &mut Line<'_>, config: &mut TurnConfig) {
     match line.word() {
         "transport=udp" => config.set_allocation_transport(TransportType::Udp),
@@ -55,14 +55,15 @@ fn change(line: &mut Line<'_>, config: &mut TurnConfig) {
     }
 }
 
-/// Sets waits: the first and the greatest, how often is transmitted, and the last.
+/// Sets the waits: the initial and the maximum wait, the number of transmissions, and the last
+/// wait.
 fn wait(line: &mut Line<'_>, config: &mut TurnConfig) {
     let (initial, most) = (line.duration(), line.duration());
     let (times, last) = (line.value(0u32), line.duration());
     config.set_request_retransmits(initial, most, times, last);
 }
 
-/// Makes a change of what is supported and asked for at signing.
+/// Changes the supported algorithms, or whether the username is hashed.
 fn sign(line: &mut Line<'_>, config: &mut TurnConfig, word: &str) {
     match word {
         "algorithm=sha1" => config.set_supported_integrity(IntegrityAlgorithm::Sha1),
@@ -78,7 +79,7 @@ fn sign(line: &mut Line<'_>, config: &mut TurnConfig, word: &str) {
     }
 }
 
-/// Tells settings.
+/// Prints settings.
 fn show(line: &mut Line<'_>, config: &TurnConfig) {
     line.say_text(config.credentials().username());
     line.say_text(config.credentials().password());
@@ -93,24 +94,28 @@ fn show(line: &mut Line<'_>, config: &TurnConfig) {
     let _ = write!(line.answer, " {anonymity:?}");
 }
 
-/// Tells the places of the settings that these equal, and of those that equal these.
-fn compare(line: &mut Line<'_>, one: &TurnConfig, kept: &[TurnConfig]) {
+/// Prints the indexes of the settings that `one` equals, and of those that equal `one`.
+fn compare(line: &mut Line<'_>, one: &TurnConfig, stored: &[TurnConfig]) {
     line.say(&"equals");
-    for (place, other) in kept.iter().enumerate() {
+    for (index, other) in stored.iter().enumerate() {
         if *one == *other {
-            line.say(&place);
+            line.say(&index);
         }
     }
     line.say(&"is equalled by");
-    for (place, other) in kept.iter().enumerate() {
+    for (index, other) in stored.iter().enumerate() {
         if *other == *one {
-            line.say(&place);
+            line.say(&index);
         }
     }
 }
 
-/// `debug NAME PASSWORD REALM`: what credentials of these are printed as for who looks for a fault: those of
-/// a user of a TURN server, of a user in each realm, in this one, and of one session.
+/// `debug NAME PASSWORD REALM`: prints what `Debug` prints of credentials, in this order:
+///
+/// 1. the credentials of a TURN user;
+/// 2. long-term credentials without a realm;
+/// 3. long-term credentials in this realm;
+/// 4. short-term credentials.
 pub(crate) fn debug(line: &mut Line<'_>) {
     let (username, password, realm) = (line.text(), line.text(), line.text());
     match TurnCredentials::new(line.alloc, username, password) {
@@ -128,7 +133,7 @@ pub(crate) fn debug(line: &mut Line<'_>) {
     }
 }
 
-/// Tells what credentials are printed as, without a realm and in one.
+/// Prints what `Debug` prints of credentials without a realm and in a realm.
 fn debug_user(line: &mut Line<'_>, credentials: LongTermCredentials, realm: &str) {
     let _ = write!(line.answer, " {credentials:?}");
     match String::from_str(line.alloc, realm) {

@@ -1,4 +1,4 @@
-//! Lines for an agent of requests.
+//! Lines for a STUN agent, which sends requests.
 
 use crate::line::Line;
 use crate::party::Party;
@@ -11,8 +11,8 @@ use stun_proto_agent::error::StunError;
 use stun_types_base::instant::Instant;
 use stun_types_base::transmit::Transmit;
 
-/// An agent of a transport and its own address; with the address of the other side, where one is named, and
-/// with its own waits, where a greatest one is.
+/// Returns an agent with a transport and a local address. The line may also name the remote address
+/// and, with a maximum wait, the retransmission schedule.
 pub(crate) fn new_agent(alloc: Global, line: &Line<'_>) -> StunAgent {
     let builder = StunAgent::builder(alloc, line.transport, line.address);
     let builder = match line.remote {
@@ -20,7 +20,7 @@ pub(crate) fn new_agent(alloc: Global, line: &Line<'_>) -> StunAgent {
         None => builder,
     };
     let builder = match line.most {
-        Some(most) => builder.request_retransmits(line.initial, most, line.times, line.behind),
+        Some(most) => builder.request_retransmits(line.initial, most, line.times, line.following),
         None => builder,
     };
     builder.build()
@@ -46,14 +46,14 @@ impl Party for StunAgent {
                 Ok(text.push_str("ok")?)
             }
             "known" => known(self, line, text),
-            "hear" => hear(self, line, bytes, text),
+            "hear" => process(self, line, bytes, text),
             "hold" => hold(self, line, bytes, text),
             _ => change(self, line, text),
         }
     }
 }
 
-/// Appends the transport, the agent's own address, and that of the other side.
+/// Appends the transport, the agent's local address and the remote address.
 fn show(agent: &StunAgent, text: &mut String) -> Result<(), LineError> {
     let (transport, local) = (agent.transport(), agent.local_addr());
     let remote = agent.remote_addr();
@@ -74,7 +74,7 @@ fn send(
     }
 }
 
-/// Appends what is sent, or why it is not.
+/// Appends what is sent, or the error.
 fn push_answer(
     answer: Result<Transmit<&[u8]>, StunError>,
     text: &mut String,
@@ -85,14 +85,14 @@ fn push_answer(
     }
 }
 
-/// Appends what is sent, and between which addresses.
+/// Appends the bytes that are sent, with their transport and addresses.
 fn push_sent(sent: &Transmit<&[u8]>, text: &mut String) -> Result<(), LineError> {
     let (transport, from, to) = (sent.transport, sent.from, sent.to);
     write!(text, "sends {transport} {from} {to} ")?;
     push_hex(text, sent.bytes)
 }
 
-/// Appends what is due to be sent again at a moment.
+/// Appends what is due for retransmission at this time.
 fn draw(agent: &mut StunAgent, now: Instant, text: &mut String) -> Result<(), LineError> {
     match agent.poll_transmit(now) {
         Some(sent) => push_sent(&sent, text),
@@ -100,7 +100,7 @@ fn draw(agent: &mut StunAgent, now: Instant, text: &mut String) -> Result<(), Li
     }
 }
 
-/// Appends what an agent has to say at a moment.
+/// Appends the result of polling an agent.
 fn push_polled(answer: &StunAgentPollRet, text: &mut String) -> Result<(), LineError> {
     match answer {
         StunAgentPollRet::TransactionTimedOut(number) => write!(text, "timed out {number}")?,
@@ -110,11 +110,12 @@ fn push_polled(answer: &StunAgentPollRet, text: &mut String) -> Result<(), LineE
     Ok(())
 }
 
-/// The most turns of the loop.
+/// The maximum number of iterations of `drive`.
 const MOST_TURNS: u32 = 64;
 
-/// Drives an agent from a moment on: at each moment it tells what is due to be sent, then what has ended,
-/// and goes to the moment that the agent tells to wait until, but not past the last one.
+/// Drives an agent from a start time. Each iteration appends the time and what is due for
+/// retransmission; if nothing is due, it appends the result of `poll` and continues at the time
+/// until which the agent waits. It ends after the last time.
 fn drive(
     agent: &mut StunAgent,
     [from, last]: [Instant; 2],
@@ -140,10 +141,11 @@ fn drive(
     Ok(())
 }
 
-/// Appends what is told of the request of a number, where it is looked at and where it may be changed: where
-/// it goes, the algorithm of the integrity that it shows, and its agent's own address.
+/// Appends the properties of the request with this transaction ID: its destination, the algorithm
+/// of its integrity attribute, and its agent's local address. It reads them through the shared and
+/// through the mutable request.
 fn known(agent: &mut StunAgent, line: &Line<'_>, text: &mut String) -> Result<(), LineError> {
-    let shown = match agent.request_transaction(line.number) {
+    let visible = match agent.request_transaction(line.number) {
         Some(it) => Some((it.peer_address(), it.integrity(), it.agent().local_addr())),
         None => None,
     };
@@ -151,11 +153,12 @@ fn known(agent: &mut StunAgent, line: &Line<'_>, text: &mut String) -> Result<()
         Some(it) => Some((it.peer_address(), it.integrity(), it.agent().local_addr())),
         None => None,
     };
-    Ok(write!(text, "{shown:?} {changed:?}")?)
+    Ok(write!(text, "{visible:?} {changed:?}")?)
 }
 
-/// Lets a message reach an agent, by the call that takes a moment, where one is named, or by the other.
-fn hear(
+/// Passes a message to an agent. It makes the call that takes a time if the line names a time, and
+/// otherwise the call without a time.
+fn process(
     agent: &mut StunAgent,
     line: &Line<'_>,
     bytes: &[u8],
@@ -170,8 +173,9 @@ fn hear(
     Ok(write!(text, "{is_taken}")?)
 }
 
-/// Holds the request of a number while a message reaches its agent, and then changes it in each way. What
-/// is told of it, and what the agent has to say in the first moment.
+/// Borrows the request with this transaction ID, passes a message to its agent, and then changes
+/// the request in each way. Appends the request's properties and the result of polling the agent at
+/// time 0.
 fn hold(
     agent: &mut StunAgent,
     line: &Line<'_>,
@@ -195,7 +199,8 @@ fn hold(
     push_polled(&answer, text)
 }
 
-/// Changes the request of a number: it is cancelled, or no longer sent again, or waits otherwise.
+/// Changes the request with this transaction ID: cancels it, stops its retransmissions, or sets its
+/// waits.
 fn change(agent: &mut StunAgent, line: &Line<'_>, text: &mut String) -> Result<(), LineError> {
     let Some(mut request) = agent.mut_request_transaction(line.number) else {
         return Ok(text.push_str("no request")?);
@@ -203,9 +208,9 @@ fn change(agent: &mut StunAgent, line: &Line<'_>, text: &mut String) -> Result<(
     match (line.what, line.most) {
         ("cancel", _) => request.cancel(),
         ("send-no-more", _) => request.cancel_retransmissions(),
-        ("wait", None) => request.configure_timeout(line.initial, line.times, line.behind),
+        ("wait", None) => request.configure_timeout(line.initial, line.times, line.following),
         ("wait", Some(most)) => {
-            request.configure_timeout_with_max(line.initial, line.times, line.behind, most);
+            request.configure_timeout_with_max(line.initial, line.times, line.following, most);
         }
         _ => return Err(LineError::Bad),
     }

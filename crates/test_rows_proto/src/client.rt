@@ -1,8 +1,8 @@
-//! Lines for the authenticators of a client.
+//! Lines for a client's authenticators.
 
 use crate::line::Line;
 use crate::party::Party;
-use crate::signing::{begun, push_made};
+use crate::signing::{push_made, started};
 use crate::text::read_message;
 use line_io::refusal::LineError;
 use std::alloc::Global;
@@ -13,7 +13,7 @@ use stun_types_wire::class::MessageClass;
 use stun_types_wire::error::StunWriteError;
 use stun_types_write::writer::MessageWrite;
 
-/// The credentials of a line.
+/// Returns the credentials that a line names.
 pub(crate) fn account(alloc: Global, line: &Line<'_>) -> Result<LongTermCredentials, LineError> {
     let name = String::from_str(alloc, line.name)?;
     let password = String::from_str(alloc, line.password)?;
@@ -29,9 +29,9 @@ impl Party for LongTermClientAuth {
         text: &mut String,
     ) -> Result<(), LineError> {
         match line.what {
-            "tell" => return tell(self, text),
+            "tell" => return report(self, text),
             "sign" => return push_made(signed(alloc, self, line.class), text),
-            "hear" => return hear(self, bytes, text),
+            "hear" => return process(self, bytes, text),
             "credentials" => self.set_credentials(account(alloc, line)?),
             "set" => self.set_supported_integrity(line.algorithm),
             "add" => self.add_supported_integrity(line.algorithm),
@@ -42,8 +42,9 @@ impl Party for LongTermClientAuth {
     }
 }
 
-/// Appends what a client tells of itself and of the challenge that it keeps.
-fn tell(client: &LongTermClientAuth, text: &mut String) -> Result<(), LineError> {
+/// Appends a client's settings, the challenge that it stores, and how many bytes its signature
+/// adds.
+fn report(client: &LongTermClientAuth, text: &mut String) -> Result<(), LineError> {
     let account = match client.credentials() {
         Some(account) => Some((account.username(), account.password())),
         None => None,
@@ -58,8 +59,12 @@ fn tell(client: &LongTermClientAuth, text: &mut String) -> Result<(), LineError>
     )?)
 }
 
-/// Appends what a client answers to a message.
-fn hear(client: &mut LongTermClientAuth, bytes: &[u8], text: &mut String) -> Result<(), LineError> {
+/// Appends a client's result of validating a message.
+fn process(
+    client: &mut LongTermClientAuth,
+    bytes: &[u8],
+    text: &mut String,
+) -> Result<(), LineError> {
     let message = read_message(bytes)?;
     match client.validate_incoming_message(&message) {
         Ok(answer) => Ok(write!(text, "{answer:?}")?),
@@ -67,14 +72,14 @@ fn hear(client: &mut LongTermClientAuth, bytes: &[u8], text: &mut String) -> Res
     }
 }
 
-/// What a client makes of a message of a class, by either call.
+/// Returns a message of this class as a client signs it, by either call.
 fn signed(
     alloc: Global,
     client: &LongTermClientAuth,
     class: MessageClass,
 ) -> Result<[Vec<u8>; 2], StunWriteError> {
-    let writer = begun(alloc, class)?;
-    let same = begun(alloc, class)?;
+    let writer = started(alloc, class)?;
+    let same = started(alloc, class)?;
     let signed = client.sign_outgoing_message(writer)?;
     let again = client.sign_outgoing_message_unchecked(same)?;
     Ok([signed.finish(), again.finish()])
@@ -89,7 +94,7 @@ impl Party for ShortTermAuth {
         text: &mut String,
     ) -> Result<(), LineError> {
         match line.what {
-            "tell" => short_tell(self, text),
+            "tell" => short_report(self, text),
             "sign" => push_made(short_signed(alloc, self, line.class), text),
             "hear" => {
                 let message = read_message(bytes)?;
@@ -105,8 +110,9 @@ impl Party for ShortTermAuth {
     }
 }
 
-/// Appends what a short-term client tells of itself.
-fn short_tell(client: &ShortTermAuth, text: &mut String) -> Result<(), LineError> {
+/// Appends a short-term client's credentials, its key's algorithm, and how many bytes its signature
+/// adds.
+fn short_report(client: &ShortTermAuth, text: &mut String) -> Result<(), LineError> {
     let account = match client.credentials() {
         Some((secret, algorithm)) => Some((secret.password(), algorithm)),
         None => None,
@@ -119,14 +125,14 @@ fn short_tell(client: &ShortTermAuth, text: &mut String) -> Result<(), LineError
     Ok(write!(text, "{account:?} {key:?} {size}")?)
 }
 
-/// What a short-term client makes of a message of a class, by either call.
+/// Returns a message of this class as a short-term client signs it, by either call.
 fn short_signed(
     alloc: Global,
     client: &ShortTermAuth,
     class: MessageClass,
 ) -> Result<[Vec<u8>; 2], StunWriteError> {
-    let writer = begun(alloc, class)?;
-    let same = begun(alloc, class)?;
+    let writer = started(alloc, class)?;
+    let same = started(alloc, class)?;
     let signed = client.sign_outgoing_message(writer)?;
     let again = client.sign_outgoing_message_unchecked(same)?;
     Ok([signed.finish(), again.finish()])

@@ -10,29 +10,29 @@ use stun_types_integrity::key::IntegrityKey;
 use stun_types_wire::algorithm::IntegrityAlgorithm;
 use stun_types_wire::header::MessageHeader;
 
-/// A text in three pieces, as long as one another but for the last ones.
+/// Splits a text into three parts of equal length; the last two may be longer.
 pub(crate) fn thirds(bytes: &[u8]) -> [&[u8]; 3] {
     let (head, rest) = bytes.split_at(bytes.len() / 3);
     let (middle, tail) = rest.split_at(rest.len() / 2);
     [head, middle, tail]
 }
 
-/// Appends the HMACs of a text under a key, by HMAC-SHA1, HMAC-SHA256 and HMAC-SHA512, each taken in three
-/// pieces and in one call.
+/// Appends the HMACs of a text under a key, by HMAC-SHA1, HMAC-SHA256 and HMAC-SHA512. Each is
+/// computed twice: in three chunks, and with one call.
 pub(crate) fn hmacs(key: &[u8], bytes: &[u8], text: &mut String) -> Result<(), LineError> {
     let [head, middle, tail] = thirds(bytes);
     let mut sha1 = HmacSha1::new(key);
     let mut sha256 = HmacSha256::new(key);
     let mut sha512 = HmacSha512::new(key);
-    for piece in [head, middle, tail] {
-        sha1.update(piece);
-        sha256.update(piece);
-        sha512.update(piece);
+    for chunk in [head, middle, tail] {
+        sha1.update(chunk);
+        sha256.update(chunk);
+        sha512.update(chunk);
     }
     let (sha1, sha256, sha512) = (sha1.finalize(), sha256.finalize(), sha512.finalize());
-    let sha1_again = HmacSha1::of_pieces(key, head, middle, tail);
-    let sha256_again = HmacSha256::of_pieces(key, head, middle, tail);
-    let sha512_again = HmacSha512::of_pieces(key, head, middle, tail);
+    let sha1_again = HmacSha1::of_chunks(key, head, middle, tail);
+    let sha256_again = HmacSha256::of_chunks(key, head, middle, tail);
+    let sha512_again = HmacSha512::of_chunks(key, head, middle, tail);
     let hmacs: [&[u8]; 6] = [
         &sha1,
         &sha1_again,
@@ -48,8 +48,9 @@ pub(crate) fn hmacs(key: &[u8], bytes: &[u8], text: &mut String) -> Result<(), L
     Ok(text.push_str("hmac")?)
 }
 
-/// Appends the HMACs, by HMAC-SHA1, HMAC-SHA256 and HMAC-SHA512, of a text, of its first third and of the text
-/// again under one key, and then of the third first under the same key once more.
+/// Appends HMACs by HMAC-SHA1, HMAC-SHA256 and HMAC-SHA512 that reuse the state after the key. The
+/// state computes the HMAC of the text, of its first third, and of the text again. A clone of the
+/// state computes the HMAC of the first third and then of the text.
 pub(crate) fn hmacs_again(key: &[u8], bytes: &[u8], text: &mut String) -> Result<(), LineError> {
     let (sha1, sha256, sha512) = (
         HmacSha1::new(key),
@@ -64,50 +65,55 @@ pub(crate) fn hmacs_again(key: &[u8], bytes: &[u8], text: &mut String) -> Result
         [head, none, none],
         [none, none, bytes],
     ] {
-        push_hex(text, &sha1.with_pieces(one, two, three))?;
+        push_hex(text, &sha1.with_chunks(one, two, three))?;
         text.push_str(" ")?;
-        push_hex(text, &sha256.with_pieces(one, two, three))?;
+        push_hex(text, &sha256.with_chunks(one, two, three))?;
         text.push_str(" ")?;
-        push_hex(text, &sha512.with_pieces(one, two, three))?;
+        push_hex(text, &sha512.with_chunks(one, two, three))?;
         text.push_str(" ")?;
     }
     for [one, two, three] in [[none, head, none], [head, middle, tail]] {
-        push_hex(text, &other_sha1.with_pieces(one, two, three))?;
+        push_hex(text, &other_sha1.with_chunks(one, two, three))?;
         text.push_str(" ")?;
-        push_hex(text, &other_sha256.with_pieces(one, two, three))?;
+        push_hex(text, &other_sha256.with_chunks(one, two, three))?;
         text.push_str(" ")?;
-        push_hex(text, &other_sha512.with_pieces(one, two, three))?;
+        push_hex(text, &other_sha512.with_chunks(one, two, three))?;
         text.push_str(" ")?;
     }
     Ok(text.push_str("hmac")?)
 }
 
-/// Appends what is shown of keys: nothing.
+/// Appends what `Debug` prints of keys, which reveals nothing of them.
 pub(crate) fn hidden(line: &Line<'_>, text: &mut String) -> Result<(), LineError> {
     let hmac = HmacSha1::new(line.password.as_bytes());
     let key = IntegrityKey::short_term(line.password, IntegrityAlgorithm::Sha1);
     Ok(write!(text, "{hmac:?} {key:?}")?)
 }
 
-/// How many bytes a piece of a text has whose CRC-32 is taken.
-const PIECE: usize = 17;
+/// The length of a chunk, in bytes, when a CRC-32 is computed in chunks.
+const CHUNK: usize = 17;
 
-/// Appends the CRC-32 of a text, by the table, bit by bit, in pieces, its first four bytes apart, and as a
-/// FINGERPRINT has it.
+/// Appends the CRC-32 of a text, computed in five ways:
+///
+/// 1. with the table;
+/// 2. bit by bit;
+/// 3. in chunks;
+/// 4. with the first four bytes passed separately;
+/// 5. as FINGERPRINT uses it.
 pub(crate) fn crcs(bytes: &[u8], text: &mut String) -> Result<(), LineError> {
-    let mut pieces = Crc32::default();
-    for piece in bytes.chunks(PIECE) {
-        pieces.update(piece);
+    let mut parts = Crc32::default();
+    for chunk in bytes.chunks(CHUNK) {
+        parts.update(chunk);
     }
-    let behind_four = match bytes.split_first_chunk::<4>() {
-        Some((front, back)) => Crc32::of_pieces(*front, back),
+    let after_four = match bytes.split_first_chunk::<4>() {
+        Some((prefix, back)) => Crc32::of_chunks(*prefix, back),
         None => Crc32::checksum(bytes),
     };
     for crc in [
         Crc32::checksum(bytes),
         bitwise::checksum(bytes),
-        pieces.finalize(),
-        behind_four,
+        parts.finalize(),
+        after_four,
         u32::from_be_bytes(Fingerprint::compute(bytes)),
     ] {
         write!(text, "{crc:08x} ")?;
@@ -115,8 +121,8 @@ pub(crate) fn crcs(bytes: &[u8], text: &mut String) -> Result<(), LineError> {
     Ok(text.push_str("crc")?)
 }
 
-/// Appends the CRC-32 and the value of a message's FINGERPRINT, as if its header told a length, and whether
-/// a value of four bytes is that one.
+/// Appends the CRC-32 and the value of a message's FINGERPRINT, computed as if the header had this
+/// length field, and whether these four bytes are that value.
 pub(crate) fn fingerprint(
     line: &Line<'_>,
     value: &[u8],

@@ -1,4 +1,4 @@
-//! Lines for keys and what they sign, and for the judgement of a message by what a server knows.
+//! Lines for keys and their HMACs, and for a server's validation of a message.
 
 use crate::digests::thirds;
 use crate::line::Line;
@@ -17,7 +17,7 @@ use stun_types_integrity::integrity_sha512::MessageIntegritySha512;
 use stun_types_integrity::key::IntegrityKey;
 use stun_types_wire::algorithm::IntegrityAlgorithm;
 
-/// The credentials of a line: of a short-term password, where no name is told.
+/// Returns the credentials that a line names: a short-term password if the name is `-`.
 fn credentials_of(
     alloc: Global,
     line: &Line<'_>,
@@ -32,7 +32,7 @@ fn credentials_of(
     Ok(MessageIntegrityCredentials::from(key))
 }
 
-/// Appends what the credentials of a line tell, and what each of their keys signs of a text.
+/// Appends the credentials that a line names, and the HMACs of a text under each of their keys.
 pub(crate) fn sign(
     alloc: Global,
     line: &Line<'_>,
@@ -49,7 +49,7 @@ pub(crate) fn sign(
     }
 }
 
-/// Appends what credentials tell, and what their keys for each algorithm sign.
+/// Appends credentials, and the HMACs of a text under their key for each algorithm.
 fn push_signed(
     credentials: &MessageIntegrityCredentials,
     bytes: &[u8],
@@ -72,14 +72,14 @@ fn push_signed(
     Ok(())
 }
 
-/// Appends what a key signs of a text: by MESSAGE-INTEGRITY, by MESSAGE-INTEGRITY-SHA256 and by
-/// MESSAGE-INTEGRITY-SHA512, each in one piece and in three, and by the algorithm that the key was made for.
+/// Appends the HMACs of a text under a key: by MESSAGE-INTEGRITY, by MESSAGE-INTEGRITY-SHA256 and
+/// by MESSAGE-INTEGRITY-SHA512, each in one chunk and in three; then by the algorithm of the key.
 fn push_hmacs(key: &IntegrityKey<'_>, bytes: &[u8], text: &mut String) -> Result<(), LineError> {
     let [head, middle, tail] = thirds(bytes);
     write!(text, " {:?}", key.algorithm())?;
     for made in [
         MessageIntegrity::compute(bytes, key),
-        MessageIntegrity::compute_in_pieces(head, middle, tail, key),
+        MessageIntegrity::compute_in_chunks(head, middle, tail, key),
     ] {
         text.push_str(" ")?;
         match made {
@@ -89,7 +89,7 @@ fn push_hmacs(key: &IntegrityKey<'_>, bytes: &[u8], text: &mut String) -> Result
     }
     for made in [
         MessageIntegritySha256::compute(bytes, key),
-        MessageIntegritySha256::compute_in_pieces(head, middle, tail, key),
+        MessageIntegritySha256::compute_in_chunks(head, middle, tail, key),
     ] {
         text.push_str(" ")?;
         match made {
@@ -99,7 +99,7 @@ fn push_hmacs(key: &IntegrityKey<'_>, bytes: &[u8], text: &mut String) -> Result
     }
     for made in [
         MessageIntegritySha512::compute(bytes, key),
-        MessageIntegritySha512::compute_in_pieces(head, middle, tail, key),
+        MessageIntegritySha512::compute_in_chunks(head, middle, tail, key),
     ] {
         text.push_str(" ")?;
         match made {
@@ -111,7 +111,7 @@ fn push_hmacs(key: &IntegrityKey<'_>, bytes: &[u8], text: &mut String) -> Result
     push_hex(text, key.hmac(head, middle, tail).as_slice())
 }
 
-/// The key of a line: of a short-term password, where no name is told.
+/// Returns the key that a line names: that of a short-term password if the name is `-`.
 fn key_of<'a>(line: &Line<'a>) -> IntegrityKey<'a> {
     if line.name == "-" {
         IntegrityKey::short_term(line.password, line.algorithm)
@@ -120,8 +120,9 @@ fn key_of<'a>(line: &Line<'a>) -> IntegrityKey<'a> {
     }
 }
 
-/// Appends what the key of a line signs of a text, of its first third and of the text again, and what a clone
-/// of the key signs of the third first; and whether the two are equal, and for which algorithm the clone is.
+/// Appends HMACs under a line's key: of the text, of its first third, and of the text again. A
+/// clone of the key computes the HMAC of the first third and then of the text. Then appends whether
+/// the two keys are equal, and the clone's algorithm.
 pub(crate) fn sign_again(
     line: &Line<'_>,
     bytes: &[u8],
@@ -144,9 +145,9 @@ pub(crate) fn sign_again(
     Ok(write!(text, "{is_equal} {:?}", same.algorithm())?)
 }
 
-/// Appends whether a value is verified for a text under the key of a line: by MESSAGE-INTEGRITY, where it
-/// has twenty bytes, by MESSAGE-INTEGRITY-SHA256 and by MESSAGE-INTEGRITY-SHA512; and whether the key signs
-/// the text so, or begins to.
+/// Appends whether a value verifies for a text under a line's key: by MESSAGE-INTEGRITY, if it has
+/// exactly twenty bytes, by MESSAGE-INTEGRITY-SHA256 and by MESSAGE-INTEGRITY-SHA512. Then appends
+/// whether the value is the text's HMAC under the key or the first bytes of it.
 pub(crate) fn verify(
     line: &Line<'_>,
     value: &[u8],
@@ -165,8 +166,8 @@ pub(crate) fn verify(
     Ok(write!(text, " {by_sha256:?} {by_sha512:?} {signs}")?)
 }
 
-/// Appends whether the key of a line is that of the short-term password `pass`, and of `user` in `realm` by
-/// that password, for HMAC-SHA1; and for which algorithm it was made.
+/// Appends whether a line's key equals two keys for HMAC-SHA1: that of the short-term password
+/// `pass`, and that of `user` in `realm` with that password. Then appends the key's algorithm.
 pub(crate) fn equal(line: &Line<'_>, text: &mut String) -> Result<(), LineError> {
     let key = key_of(line);
     let short = IntegrityKey::short_term("pass", IntegrityAlgorithm::Sha1);
@@ -175,8 +176,9 @@ pub(crate) fn equal(line: &Line<'_>, text: &mut String) -> Result<(), LineError>
     Ok(write!(text, "{is_short} {is_long} {:?}", key.algorithm())?)
 }
 
-/// Appends whom a server of a realm takes a message for, or why for nobody, by the algorithms that it
-/// supports, the nonce that stands and the user whom it knows, `-` standing for none.
+/// Appends the user whom a server authenticates from a message, or the error. The line names the
+/// server's realm, its algorithms, the valid nonce and the known user; `-` means no nonce or no
+/// user.
 pub(crate) fn judge(
     alloc: Global,
     line: &Line<'_>,

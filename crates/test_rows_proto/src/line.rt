@@ -1,4 +1,4 @@
-//! What a line says.
+//! The contents of an input line.
 
 use line_io::refusal::LineError;
 use std::net::{IpAddr, Ipv4Addr, SocketAddr};
@@ -12,8 +12,8 @@ use stun_types_wire::algorithm::IntegrityAlgorithm;
 use stun_types_wire::class::MessageClass;
 use stun_types_wire::transaction::TransactionId;
 
-/// What a line says: what is done, and with what. What it doesn't name is the least of its kind, none, or
-/// `-`.
+/// The contents of a line: the operation and its arguments. An argument that the line does not name
+/// is zero or the first of its kind, `None`, or `-`.
 #[derive(Clone, Copy)]
 pub(crate) struct Line<'a> {
     pub(crate) what: &'a str,
@@ -26,7 +26,7 @@ pub(crate) struct Line<'a> {
     pub(crate) initial: Duration,
     pub(crate) most: Option<Duration>,
     pub(crate) times: u32,
-    pub(crate) behind: Duration,
+    pub(crate) following: Duration,
     pub(crate) class: MessageClass,
     pub(crate) algorithm: IntegrityAlgorithm,
     pub(crate) supported: SupportedIntegrity,
@@ -43,8 +43,8 @@ pub(crate) struct Line<'a> {
 }
 
 impl<'a> Line<'a> {
-    /// What the words of a line say: the first what is done, and each other one a name and what it stands
-    /// for.
+    /// Parses the words of a line: the first is the operation, and each other word is a name, `=`
+    /// and a value.
     pub(crate) fn read(words: &[&'a str]) -> Result<Line<'a>, LineError> {
         let [what, rest @ ..] = words else {
             return Err(LineError::Bad);
@@ -59,7 +59,7 @@ impl<'a> Line<'a> {
         Ok(line)
     }
 
-    /// The line of one word.
+    /// Returns the line with this one word.
     fn new(what: &'a str) -> Line<'a> {
         Line {
             what,
@@ -72,7 +72,7 @@ impl<'a> Line<'a> {
             initial: Duration::ZERO,
             most: None,
             times: 0,
-            behind: Duration::ZERO,
+            following: Duration::ZERO,
             class: MessageClass::Request,
             algorithm: IntegrityAlgorithm::Sha1,
             supported: SupportedIntegrity::only(IntegrityAlgorithm::Sha1),
@@ -89,7 +89,7 @@ impl<'a> Line<'a> {
         }
     }
 
-    /// Takes up what a name stands for.
+    /// Sets the argument with this name.
     fn take(&mut self, name: &str, value: &'a str) -> Result<(), LineError> {
         match name {
             "name" => self.name = value,
@@ -108,7 +108,7 @@ impl<'a> Line<'a> {
         Ok(())
     }
 
-    /// Takes up what a name of a number or an address stands for.
+    /// Sets the argument with this name, which is a number or an address.
     fn take_number(&mut self, name: &str, value: &str) -> Result<(), LineError> {
         match name {
             "transport" => self.transport = read(value)?,
@@ -120,7 +120,7 @@ impl<'a> Line<'a> {
             "initial" => self.initial = read_duration(value)?,
             "most" => self.most = Some(read_duration(value)?),
             "times" => self.times = read(value)?,
-            "behind" => self.behind = read_duration(value)?,
+            "behind" => self.following = read_duration(value)?,
             "seed" => self.seed = read(value)?,
             "length" => self.length = read(value)?,
             _ => return Err(LineError::Bad),
@@ -129,7 +129,7 @@ impl<'a> Line<'a> {
     }
 }
 
-/// What a word spells: a number, an address or a transport.
+/// Parses a word: a number, an address or a transport.
 pub(crate) fn read<T: FromStr>(word: &str) -> Result<T, LineError>
 where
     T::Err: Drop,
@@ -140,7 +140,7 @@ where
     }
 }
 
-/// A duration: nanoseconds, or seconds and nanoseconds with a point between.
+/// Parses a duration: nanoseconds, or seconds and nanoseconds separated by a point.
 fn read_duration(word: &str) -> Result<Duration, LineError> {
     match word.split_once('.') {
         Some((seconds, nanos)) => {
@@ -151,7 +151,7 @@ fn read_duration(word: &str) -> Result<Duration, LineError> {
     }
 }
 
-/// An integrity algorithm.
+/// Parses an integrity algorithm.
 fn read_algorithm(word: &str) -> Result<IntegrityAlgorithm, LineError> {
     match word {
         "sha1" => Ok(IntegrityAlgorithm::Sha1),
@@ -161,7 +161,7 @@ fn read_algorithm(word: &str) -> Result<IntegrityAlgorithm, LineError> {
     }
 }
 
-/// The algorithms that a side supports: one, or several with commas between.
+/// Parses the algorithms that a side supports: one, or several separated by commas.
 fn read_supported(word: &str) -> Result<SupportedIntegrity, LineError> {
     let mut words = word.split(',');
     let Some(first) = words.next() else {
@@ -174,7 +174,7 @@ fn read_supported(word: &str) -> Result<SupportedIntegrity, LineError> {
     Ok(supported)
 }
 
-/// Whether names are hidden behind hashes.
+/// Parses whether usernames are hashed.
 fn read_feature(word: &str) -> Result<Feature, LineError> {
     match word {
         "auto" => Ok(Feature::Auto),
@@ -184,7 +184,7 @@ fn read_feature(word: &str) -> Result<Feature, LineError> {
     }
 }
 
-/// The class of a message.
+/// Parses a message class.
 fn read_class(word: &str) -> Result<MessageClass, LineError> {
     match word {
         "request" => Ok(MessageClass::Request),

@@ -1,10 +1,14 @@
-//! Does what the lines of its input say with an agent of STUN requests, with the authenticators, and with
-//! the digests, keys and nonces below them, and prints what each line is answered.
+//! Runs the operations that the lines of standard input name and prints the results. They use an
+//! agent of STUN requests, the authenticators, and the digests, keys and nonces from which these
+//! are built.
 //!
-//! A byte `%` ends each section of the input but the last. The first line of a section says what its other
-//! lines are about: `agent`, `client`, `short`, `server` or `values`. A line is words parted by single
-//! spaces: the first says what is done, and each other one is a name, `=` and what it stands for. Empty lines
-//! and remarks behind `#` are passed over. A line that can't be read is answered `bad line`.
+//! - A byte `%` ends each section of the input but the last.
+//! - The first line of a section names what its other lines use: `agent`, `client`, `short`,
+//!   `server` or `values`.
+//! - A line consists of words separated by single spaces. The first is the operation; each other
+//!   word is a name, `=` and a value.
+//! - Empty lines and lines that begin with `#` are skipped.
+//! - The result of a line that cannot be parsed is `bad line`.
 #![tactic(auto)]
 
 mod agent;
@@ -42,7 +46,7 @@ fn main(rt: HostRuntime) -> io::Result<()> {
     done
 }
 
-/// Does what each section says.
+/// Runs each section.
 fn take_sections(rt: &HostRuntime, input: &[u8]) -> io::Result<()> {
     for section in input.split(|byte| *byte == b'%') {
         let (head, lines) = cut_line(section);
@@ -55,7 +59,7 @@ fn take_sections(rt: &HostRuntime, input: &[u8]) -> io::Result<()> {
     Ok(())
 }
 
-/// Does what the lines of a section say, by the words of its head.
+/// Runs the lines of a section, whose first line has these words.
 fn take_section(rt: &HostRuntime, words: &[&str], lines: &[u8]) -> io::Result<()> {
     match Line::read(words) {
         Ok(head) => match head.what {

@@ -1,4 +1,4 @@
-//! What the lines of a section are about.
+//! The object that the lines of a section use.
 
 use crate::line::Line;
 use line_io::cut::is_skipped;
@@ -8,9 +8,9 @@ use line_io::word::read_words;
 use std::alloc::Global;
 use std::io;
 
-/// What the lines of a section are about.
+/// The object that the lines of a section use.
 pub(crate) trait Party: Drop {
-    /// Does what a line says, whose bytes are these, and appends what it is answered.
+    /// Runs a line, whose bytes argument is decoded to these bytes, and appends the result.
     fn answer(
         &mut self,
         alloc: Global,
@@ -20,7 +20,7 @@ pub(crate) trait Party: Drop {
     ) -> Result<(), LineError>;
 }
 
-/// Does what each line says, and lets go what the lines are about.
+/// Runs each line and drops the object that the lines use.
 pub(crate) fn take_lines<P: Party>(rt: &HostRuntime, party: P, lines: &[u8]) -> io::Result<()> {
     let mut party = party;
     let done = take_each(rt, &mut party, lines);
@@ -28,7 +28,7 @@ pub(crate) fn take_lines<P: Party>(rt: &HostRuntime, party: P, lines: &[u8]) -> 
     done
 }
 
-/// Does what each line says, and prints what it is answered.
+/// Runs each line and prints its result.
 fn take_each<P: Party>(rt: &HostRuntime, party: &mut P, lines: &[u8]) -> io::Result<()> {
     for line in lines.split(|byte| *byte == b'\n') {
         if !is_skipped(line) {
@@ -44,7 +44,7 @@ fn take_each<P: Party>(rt: &HostRuntime, party: &mut P, lines: &[u8]) -> io::Res
     Ok(())
 }
 
-/// Does what a line says, and appends what it is answered.
+/// Runs a line and appends its result.
 fn take<P: Party>(
     alloc: Global,
     party: &mut P,

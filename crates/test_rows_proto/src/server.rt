@@ -1,9 +1,9 @@
-//! Lines for the authenticator of a server.
+//! Lines for a server's authenticator.
 
 use crate::client::account;
 use crate::line::Line;
 use crate::party::Party;
-use crate::signing::{begun, push_made};
+use crate::signing::{push_made, started};
 use crate::text::read_message;
 use line_io::refusal::LineError;
 use rand_chacha::ChaCha20Rng;
@@ -17,7 +17,7 @@ use stun_types_wire::error::StunWriteError;
 use stun_types_wire::registry::MAX_TEXT_LENGTH;
 use stun_types_write::writer::MessageWrite;
 
-/// A server of a realm.
+/// Returns a server with a realm.
 pub(crate) fn new_server(alloc: Global, realm: &str) -> Result<LongTermServerAuth, LineError> {
     if realm.len() > MAX_TEXT_LENGTH {
         return Err(LineError::Bad);
@@ -35,10 +35,10 @@ impl Party for LongTermServerAuth {
         text: &mut String,
     ) -> Result<(), LineError> {
         match line.what {
-            "tell" => tell(self, text),
-            "kept" => push_kept(self, line.address, text),
+            "tell" => report(self, text),
+            "kept" => push_stored(self, line.address, text),
             "refresh" => refresh(self, line, text),
-            "hear" => hear(self, line, bytes, text),
+            "hear" => process(self, line, bytes, text),
             "sign" => sign(alloc, self, line, text),
             _ => {
                 set_up(alloc, self, line)?;
@@ -48,7 +48,7 @@ impl Party for LongTermServerAuth {
     }
 }
 
-/// Sets a server up as a line says.
+/// Changes a server's settings as a line says.
 fn set_up(
     alloc: Global,
     server: &mut LongTermServerAuth,
@@ -62,23 +62,24 @@ fn set_up(
         "add" => server.add_supported_integrity(line.algorithm),
         "names" => server.set_anonymous_username(line.anonymity),
         "expiry" => {
-            if line.behind.as_nanos() < Duration::from_secs(MIN_NONCE_EXPIRY).as_nanos() {
+            if line.following.as_nanos() < Duration::from_secs(MIN_NONCE_EXPIRY).as_nanos() {
                 return Err(LineError::Bad);
             }
-            server.set_nonce_expiry_duration(line.behind);
+            server.set_nonce_expiry_duration(line.following);
         }
         _ => return Err(LineError::Bad),
     }
     Ok(())
 }
 
-/// Appends what a server tells of itself.
-fn tell(server: &LongTermServerAuth, text: &mut String) -> Result<(), LineError> {
+/// Appends a server's settings.
+fn report(server: &LongTermServerAuth, text: &mut String) -> Result<(), LineError> {
     let (algorithms, anonymity) = (server.supported_integrity(), server.anonymous_username());
     Ok(write!(text, "{} {algorithms:?} {anonymity:?}", server.realm())?)
 }
 
-/// Draws a nonce for an address at a moment, with the words of a seed, where none stands. What is kept then.
+/// Generates a nonce for an address from a seed if none is valid at this time. Then appends what
+/// the server stores for the address.
 fn refresh(
     server: &mut LongTermServerAuth,
     line: &Line<'_>,
@@ -86,12 +87,12 @@ fn refresh(
 ) -> Result<(), LineError> {
     let mut words = ChaCha20Rng::from_seed([line.seed; 32]);
     server.refresh_nonce(line.address, line.now, &mut words)?;
-    push_kept(server, line.address, text)
+    push_stored(server, line.address, text)
 }
 
-/// Appends what a server answers to a message from an address, at a moment, with the words of a seed, and
-/// what it keeps for the address then.
-fn hear(
+/// Appends a server's result of validating a message from an address at this time, with random
+/// words from a seed. Then appends what the server stores for the address.
+fn process(
     server: &mut LongTermServerAuth,
     line: &Line<'_>,
     bytes: &[u8],
@@ -103,11 +104,11 @@ fn hear(
         Ok(answer) => write!(text, "{answer:?} ")?,
         Err(error) => write!(text, "{error:?} ")?,
     }
-    push_kept(server, line.address, text)
+    push_stored(server, line.address, text)
 }
 
-/// Appends what a server keeps for an address.
-fn push_kept(
+/// Appends what a server stores for an address.
+fn push_stored(
     server: &LongTermServerAuth,
     address: SocketAddr,
     text: &mut String,
@@ -120,8 +121,8 @@ fn push_kept(
     Ok(())
 }
 
-/// Appends how many bytes a server tells that it adds to a message of a class that goes to an address, and
-/// what it makes of it.
+/// Appends how many bytes a server says that its signature adds to a message of this class to an
+/// address, and the signed message.
 fn sign(
     alloc: Global,
     server: &LongTermServerAuth,
@@ -134,14 +135,14 @@ fn sign(
     push_made(signed(alloc, server, line), text)
 }
 
-/// What a server makes of a message of a class that goes to an address, by either call.
+/// Returns a message of this class to an address as a server signs it, by either call.
 fn signed(
     alloc: Global,
     server: &LongTermServerAuth,
     line: &Line<'_>,
 ) -> Result<[Vec<u8>; 2], StunWriteError> {
-    let writer = begun(alloc, line.class)?;
-    let same = begun(alloc, line.class)?;
+    let writer = started(alloc, line.class)?;
+    let same = started(alloc, line.class)?;
     let signed = server.sign_outgoing_message(writer, line.address)?;
     let again = server.sign_outgoing_message_unchecked(same, line.address)?;
     Ok([signed.finish(), again.finish()])

@@ -1,9 +1,9 @@
-//! Messages that are signed.
+//! Messages to sign.
 
 ghost use Rattle.std.specs.Prelude.{[], ◌≡◌, IfOk};
 ghost use Rattle.stun_types_wire.specs.Text.{message_text};
 ghost use Rattle.stun_types_wire.specs.Types.{type_of};
-ghost use Rattle.stun_types_write.specs.Adding.{IsBegun};
+ghost use Rattle.stun_types_write.specs.Adding.{IsStarted};
 ghost use Rattle.stun_types_write.specs.Drafts.{none_ended};
 
 use crate::text::push_hex;
@@ -16,19 +16,19 @@ use stun_types_wire::error::StunWriteError;
 use stun_types_wire::transaction::TransactionId;
 use stun_types_write::vec::MessageWriteVec;
 
-/// A message of the method ALLOCATE and a class that is begun.
-pub(crate) fn begun(alloc: Global, class: MessageClass) -> Result<MessageWriteVec, NoMemory>
+/// Starts a message with the method ALLOCATE and this class.
+pub(crate) fn started(alloc: Global, class: MessageClass) -> Result<MessageWriteVec, NoMemory>
     ensures bytes { IfOk result (λ writer. writer.bytes
         ≡ message_text (type_of class 3) 0x7392 []) }
     ensures ended { IfOk result (λ writer. writer.ended ≡ none_ended) }
-    ensures begun { IfOk result (λ writer. IsBegun writer.bytes) }
+    ensures started { IfOk result (λ writer. IsStarted writer.bytes) }
 {
     let mtype = MessageType::from_class_method(class, Method(3));
     let number = TransactionId::from(0x7392u128);
     Message::builder(mtype, number, MessageWriteVec::new(alloc))
 }
 
-/// Appends what was made of a message by either call, or why it was refused.
+/// Appends the message that either call signed, or the error.
 pub(crate) fn push_made(
     made: Result<[Vec<u8>; 2], StunWriteError>,
     text: &mut String,

@@ -1,9 +1,9 @@
-//! What an answer is made of, and the messages that bytes are.
+//! Writes the parts of a result, and decodes messages.
 
 use line_io::refusal::LineError;
 use stun_types_message::parsed::Message;
 
-/// Appends bytes in hex, or `-` where there are none.
+/// Appends bytes in hex, or `-` if there are none.
 pub(crate) fn push_hex(text: &mut String, bytes: &[u8]) -> Result<(), LineError> {
     if bytes.is_empty() {
         text.push_str("-")?;
@@ -14,7 +14,7 @@ pub(crate) fn push_hex(text: &mut String, bytes: &[u8]) -> Result<(), LineError>
     Ok(())
 }
 
-/// The message that bytes are.
+/// Decodes a message from bytes.
 pub(crate) fn read_message(bytes: &[u8]) -> Result<Message<'_>, LineError> {
     match Message::from_bytes(bytes) {
         Ok(message) => Ok(message),

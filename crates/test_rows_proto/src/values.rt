@@ -1,10 +1,10 @@
-//! Lines for what needs nothing that lasts.
+//! Lines for operations that need no state.
 
 use crate::digests::{crcs, fingerprint, hidden, hmacs, hmacs_again};
 use crate::keys::{equal, judge, sign, sign_again, verify};
 use crate::line::{Line, read};
 use crate::party::Party;
-use crate::waits::{moment, waits};
+use crate::waits::{time, waits};
 use line_io::lower_hex::read_hex;
 use line_io::refusal::LineError;
 use std::alloc::Global;
@@ -15,7 +15,7 @@ use stun_proto_verify::error::LongTermServerAuthError;
 use stun_types_wire::algorithm::IntegrityAlgorithm;
 use stun_types_wire::error::{StunParseError, StunWriteError};
 
-/// That the lines of a section are about nothing that lasts.
+/// The object for the lines of a section whose operations need no state.
 #[derive(Drop)]
 pub(crate) struct Values;
 
@@ -28,7 +28,7 @@ impl Party for Values {
         text: &mut String,
     ) -> Result<(), LineError> {
         match line.what {
-            "moment" => moment(line, text),
+            "moment" => time(line, text),
             "waits" => waits(line, text),
             "crc" => crcs(bytes, text),
             "hidden" => hidden(line, text),
@@ -37,14 +37,14 @@ impl Party for Values {
             "sign-again" => sign_again(line, bytes, text),
             "judge" => judge(alloc, line, bytes, text),
             "nonce" => nonce(alloc, line, text),
-            "told" => push_features(NonceFeatures::told_by(line.nonce), text),
+            "told" => push_features(NonceFeatures::decoded_by(line.nonce), text),
             "errors" => errors(text),
             _ => with_value(alloc, line, bytes, text),
         }
     }
 }
 
-/// Does what a line says with the bytes of a value.
+/// Runs a line whose value argument is decoded from hex.
 fn with_value(
     alloc: Global,
     line: &Line<'_>,
@@ -61,7 +61,8 @@ fn with_value(
     }
 }
 
-/// Appends the features that a server offers, and the nonce of them and of the words of a generator.
+/// Appends the features that a server offers, and the nonce with these features and with these
+/// random words.
 fn nonce(alloc: Global, line: &Line<'_>, text: &mut String) -> Result<(), LineError> {
     let features = NonceFeatures::offered(line.supported, line.anonymity);
     let mut numbers = [0; NONCE_WORDS];
@@ -73,13 +74,13 @@ fn nonce(alloc: Global, line: &Line<'_>, text: &mut String) -> Result<(), LineEr
     Ok(write!(text, " {}", nonce.as_str())?)
 }
 
-/// Appends what a nonce tells of features.
+/// Appends the features that a nonce announces.
 fn push_features(features: NonceFeatures, text: &mut String) -> Result<(), LineError> {
     let (algorithms, anonymity) = (features.password_algorithms, features.anonymous_username);
     Ok(write!(text, "algorithms {algorithms} names {anonymity}")?)
 }
 
-/// Appends each refusal of an agent, of a client and of a server, and what it tells.
+/// Appends each error of an agent, of a client and of a server, and its text.
 fn errors(text: &mut String) -> Result<(), LineError> {
     for error in [
         StunError::AlreadyInProgress,

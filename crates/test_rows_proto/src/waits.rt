@@ -1,12 +1,12 @@
-//! Lines for moments, and for how long is waited for a response.
+//! Lines for times, and for how long an agent waits for a response.
 
 use crate::line::Line;
 use line_io::refusal::LineError;
 use stun_proto_transaction::waits::Waits;
 
-/// A moment and a duration: their sum, where there is one, and the moment that is reached else; how much
-/// later that is than the moment, and how much earlier.
-pub(crate) fn moment(line: &Line<'_>, text: &mut String) -> Result<(), LineError> {
+/// Adds a duration to a time. Appends the sum, or that there is none; then the saturated sum; then
+/// the time from the first time to it, and the time from it to the first time.
+pub(crate) fn time(line: &Line<'_>, text: &mut String) -> Result<(), LineError> {
     match line.now.checked_add(line.initial) {
         Some(sum) => write!(text, "sum {}", sum.as_nanos())?,
         None => text.push_str("no sum")?,
@@ -18,16 +18,19 @@ pub(crate) fn moment(line: &Line<'_>, text: &mut String) -> Result<(), LineError
     Ok(write!(text, " reached {reached} since {since} before {before}")?)
 }
 
-/// The places of the transmissions whose moments are told.
-const PLACES: [u32; 8] = [0, 1, 2, 3, 6, 63, 64, u32::MAX];
+/// The indexes of the transmissions whose times are appended.
+const INDEXES: [u32; 8] = [0, 1, 2, 3, 6, 63, 64, u32::MAX];
 
-/// When a request is sent, and its waits: the moments of its transmissions, were there so many; the end,
-/// twice; and how often it is transmitted over UDP and TCP.
+/// Appends the schedule of a request that is sent at this time with these waits:
+///
+/// 1. the times of the transmissions with these indexes, even if it transmits fewer times;
+/// 2. the end, twice: the second time from a copy;
+/// 3. the number of transmissions over UDP and over TCP.
 pub(crate) fn waits(line: &Line<'_>, text: &mut String) -> Result<(), LineError> {
-    let waits = Waits::new(line.initial, line.most, line.times, line.behind);
+    let waits = Waits::new(line.initial, line.most, line.times, line.following);
     text.push_str("at")?;
-    for place in PLACES {
-        write!(text, " {}", waits.slot(line.now, place).as_nanos())?;
+    for index in INDEXES {
+        write!(text, " {}", waits.slot(line.now, index).as_nanos())?;
     }
     let (end, again) = (waits.end(line.now), waits.copied().end(line.now));
     write!(text, " end {} {}", end.as_nanos(), again.as_nanos())?;

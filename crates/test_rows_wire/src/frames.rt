@@ -1,4 +1,4 @@
-//! Channel frames and indications, written and read.
+//! Writes and reads channel frames and indications.
 
 use crate::line::Line;
 use std::net::{IpAddr, Ipv4Addr, SocketAddr};
@@ -9,8 +9,8 @@ use turn_types_frame::channel::ChannelData;
 use turn_types_frame::delayed_channel::DelayedChannel;
 use turn_types_frame::delayed_message::DelayedMessage;
 
-/// `channel NUMBER ROOM DATA`: the frame of a channel's data, plain and padded, and what writing it into so
-/// many bytes of 09 is answered and leaves.
+/// `channel NUMBER ROOM DATA`: prints the frame for a channel's data, unpadded and padded. Then
+/// prints the result of writing it into ROOM bytes of 09, and these bytes afterwards.
 pub(crate) fn channel(line: &mut Line<'_>) {
     let (id, room, data) = (line.number(), line.value(0usize), line.bytes());
     if id < LEAST_CHANNEL || GREATEST_CHANNEL < id || data.len() > 65_535 {
@@ -34,7 +34,12 @@ pub(crate) fn channel(line: &mut Line<'_>) {
     }
 }
 
-/// `send PEER NUMBER DATA` and `told PEER NUMBER DATA`: a SEND or a DATA indication.
+/// Prints a Send indication or a Data indication:
+///
+/// ```text
+/// send PEER NUMBER DATA
+/// told PEER NUMBER DATA
+/// ```
 pub(crate) fn indication(line: &mut Line<'_>, is_sent: bool) {
     let (peer, number, data) = (line.address(), line.transaction(), line.bytes());
     let data = data.as_slice();
@@ -49,8 +54,8 @@ pub(crate) fn indication(line: &mut Line<'_>, is_sent: bool) {
     }
 }
 
-/// How many bytes are sent, and whether they are none; then they themselves, with the transport and the
-/// addresses, in a vector, and the same written in their place.
+/// Prints the number of bytes to send and whether it is zero. Then prints the transport, the
+/// addresses and the bytes twice: first built in a vector, then written into a slice.
 fn sent<T: DelayedTransmitBuild + Drop>(line: &mut Line<'_>, one: T, same: T) {
     let from = SocketAddr::new(IpAddr::V4(Ipv4Addr::new(192, 168, 0, 1)), 1000);
     let to = SocketAddr::new(IpAddr::V4(Ipv4Addr::new(10, 0, 0, 2)), 2000);
@@ -68,14 +73,14 @@ fn sent<T: DelayedTransmitBuild + Drop>(line: &mut Line<'_>, one: T, same: T) {
     }
 }
 
-/// The transport, and the addresses between which bytes go.
+/// Prints the transport and the source and destination addresses.
 fn way(line: &mut Line<'_>, transport: TransportType, from: SocketAddr, to: SocketAddr) {
     line.say(&transport);
     line.say(&from);
     line.say(&to);
 }
 
-/// `frame BYTES`: the header of the channel frame at the front, and the frame.
+/// `frame BYTES`: prints the header of the channel frame at the start of the bytes, and the frame.
 pub(crate) fn frame(line: &mut Line<'_>) {
     let bytes = line.bytes();
     match ChannelData::parse_header(bytes.as_slice()) {

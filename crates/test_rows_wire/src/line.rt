@@ -1,4 +1,4 @@
-//! A line: what its words stand for, and what it is answered.
+//! An input line: its words, and the output for it.
 
 use line_io::lower_hex::{read_hex, write_hex};
 use std::alloc::Global;
@@ -11,10 +11,11 @@ use stun_types_wire::error::StunParseError;
 use stun_types_wire::transaction::TransactionId;
 use stun_types_write::attribute::AttributeWrite;
 
-/// Of more bytes than these their number and their CRC-32 are told.
-const MOST_SHOWN: usize = 256;
+/// The maximum length of bytes that are printed in full. Longer bytes are printed as their length
+/// and CRC-32.
+const MOST_LISTED: usize = 256;
 
-/// The words of a line, of which so many were read, and those that answer it.
+/// The words of a line, how many were read, and the output so far.
 #[derive(Drop)]
 pub(crate) struct Line<'a> {
     pub(crate) alloc: Global,
@@ -35,7 +36,7 @@ impl<'a> Line<'a> {
         }
     }
 
-    /// The next word.
+    /// Returns the next word.
     pub(crate) fn word(&mut self) -> &'a str {
         let words = self.words;
         let word = words.get(self.read).copied();
@@ -44,12 +45,12 @@ impl<'a> Line<'a> {
         word.unwrap_or("")
     }
 
-    /// How many words are still to be read.
+    /// Returns how many words are left to read.
     pub(crate) fn left(&self) -> usize {
         self.words.len().saturating_sub(self.read)
     }
 
-    /// The value of the next word, or another one where it is none.
+    /// Parses the next word. Returns `other` if it cannot be parsed.
     pub(crate) fn value<T: FromStr + Drop>(&mut self, other: T) -> T
     where
         T::Err: Drop,
@@ -63,12 +64,12 @@ impl<'a> Line<'a> {
         }
     }
 
-    /// The address of the next word.
+    /// Parses the next word as a socket address.
     pub(crate) fn address(&mut self) -> SocketAddr {
         self.value(SocketAddr::new(IpAddr::V4(Ipv4Addr::new(0, 0, 0, 0)), 0))
     }
 
-    /// The bytes of the next word in hex, `-` for none; `NN*3` is `NN` three times.
+    /// Parses the next word as hex bytes. `-` means no bytes; `NN*3` means `NN` three times.
     pub(crate) fn bytes(&mut self) -> Vec<u8> {
         let word = self.word();
         let (once, count) = word.split_once('*').unwrap_or((word, "1"));
@@ -84,7 +85,7 @@ impl<'a> Line<'a> {
         all.unwrap_or(Vec::new(self.alloc))
     }
 
-    /// The text of the next word; `a*3` is `aaa`.
+    /// Returns the next word as text. `a*3` means `aaa`.
     pub(crate) fn text(&mut self) -> String {
         let word = self.word();
         let (once, count) = word.split_once('*').unwrap_or((word, "1"));
@@ -92,7 +93,7 @@ impl<'a> Line<'a> {
         all.unwrap_or(String::new(self.alloc))
     }
 
-    /// The types of attributes of the next word in hex, two bytes each.
+    /// Parses the next word as attribute types in hex, two bytes each.
     pub(crate) fn types(&mut self) -> Vec<AttributeType> {
         let bytes = self.bytes();
         let mut types = Vec::new(self.alloc);
@@ -102,26 +103,26 @@ impl<'a> Line<'a> {
         types
     }
 
-    /// The number of 16 bits of the next word in hex.
+    /// Parses the next word as a 16-bit integer in hex.
     pub(crate) fn number(&mut self) -> u16 {
         let number = u16::from_str_radix(self.word(), 16);
         self.is_bad = self.is_bad || number.is_err();
         number.unwrap_or(0)
     }
 
-    /// The number of a transaction of the next word in hex.
+    /// Parses the next word as a transaction ID in hex.
     pub(crate) fn transaction(&mut self) -> TransactionId {
         let number = u128::from_str_radix(self.word(), 16);
         self.is_bad = self.is_bad || number.is_err();
         TransactionId::from(number.unwrap_or(0))
     }
 
-    /// Answers what a value is printed as.
+    /// Appends a value to the output, as `Display` prints it.
     pub(crate) fn say<T: Display>(&mut self, value: &T) {
         let _ = write!(self.answer, " {value}");
     }
 
-    /// Answers what a call gives, or why it is refused.
+    /// Appends a call's value or error to the output.
     pub(crate) fn gave<T: Display + Drop, E: Display + Drop>(&mut self, answer: Result<T, E>) {
         match answer {
             Ok(value) => self.say(&value),
@@ -129,21 +130,22 @@ impl<'a> Line<'a> {
         }
     }
 
-    /// Answers bytes in hex, `-` for none; of many their number and their CRC-32.
+    /// Appends bytes in hex to the output, `-` for none. For many bytes it appends their length and
+    /// CRC-32.
     pub(crate) fn hex(&mut self, bytes: &[u8]) {
         let crc = Fingerprint::compute(bytes);
-        let shown = if bytes.len() > MOST_SHOWN {
+        let visible = if bytes.len() > MOST_LISTED {
             self.say(&bytes.len());
             crc.as_slice()
         } else {
             bytes
         };
-        if let Ok(text) = write_hex(self.alloc, shown) {
+        if let Ok(text) = write_hex(self.alloc, visible) {
             self.say(&text);
         }
     }
 
-    /// Answers an attribute in bytes: header, value and padding.
+    /// Appends an attribute's bytes to the output: header, value and padding.
     pub(crate) fn attribute<A: AttributeWrite>(&mut self, attribute: &A) {
         if let Ok(raw) = attribute.to_raw(self.alloc) {
             if let Ok(bytes) = raw.to_bytes(self.alloc) {
@@ -152,8 +154,8 @@ impl<'a> Line<'a> {
         }
     }
 
-    /// Answers a name and the attribute that was read, or why there is none; and nothing where it is of
-    /// another type.
+    /// Appends a name and the attribute that was read, or a name and the error, to the output.
+    /// Appends nothing if the attribute has another type.
     pub(crate) fn read<A: AttributeWrite + Drop>(
         &mut self,
         name: &str,

@@ -1,4 +1,4 @@
-//! Attributes as they are made, written and read again.
+//! Makes attributes, writes them and reads them back.
 
 use crate::line::Line;
 use stun_types_add::attribute::Fingerprint;
@@ -33,9 +33,14 @@ use turn_types_peer::data::Data;
 use turn_types_peer::icmp::Icmp;
 use turn_types_peer::xor_peer_address::XorPeerAddress;
 
-/// An attribute in bytes; what writing it is answered, and leaves of 09, into one byte more than it takes
-/// and into one less; the same of its header alone; and, in bytes, what is read of what it writes. Or why
-/// it is not made.
+/// Prints an attribute, or the error if it was not made. Prints:
+///
+/// 1. the bytes of the attribute;
+/// 2. the result of writing it into bytes of 09, and these bytes afterwards: with one byte too many
+///    and with one byte too few;
+/// 3. the result of writing its header alone into four and into three bytes of 09, and these bytes
+///    afterwards;
+/// 4. the bytes of the attribute that is read back from what it writes, or the error.
 fn made<'a, A: AttributeWrite + AttributeFromRaw<'a> + Drop>(
     line: &mut Line<'_>,
     made: Result<A, StunWriteError>,
@@ -55,7 +60,8 @@ fn made<'a, A: AttributeWrite + AttributeFromRaw<'a> + Drop>(
     }
 }
 
-/// What writing an attribute, or its header alone, into so many bytes of 09 is answered, and leaves.
+/// Prints the result of writing an attribute, or its header alone, into `room` bytes of 09, and
+/// these bytes afterwards.
 fn written<A: AttributeWrite>(line: &mut Line<'_>, attribute: &A, is_header: bool, room: usize) {
     if let Ok(mut room) = Vec::from_elem(line.alloc, 9u8, room) {
         let size = if is_header {
@@ -69,9 +75,12 @@ fn written<A: AttributeWrite>(line: &mut Line<'_>, attribute: &A, is_header: boo
     }
 }
 
-/// Makes the attribute of a line. Texts are `username TEXT`, `realm TEXT`, `nonce TEXT`, `software TEXT` and
-/// `alternate-domain TEXT`; addresses `mapped`, `relayed`, `peer` and `server ADDRESS NUMBER`, of which the
-/// last is not xored.
+/// Makes the attribute of a line.
+///
+/// - Texts: `username TEXT`, `realm TEXT`, `nonce TEXT`, `software TEXT` and `alternate-domain
+///   TEXT`.
+/// - Addresses: `mapped`, `relayed`, `peer` and `server ADDRESS NUMBER`; only the last is not
+///   XORed.
 pub(crate) fn ask(line: &mut Line<'_>, kind: &str) {
     match kind {
         "username" | "realm" | "nonce" | "software" | "alternate-domain" => text(line, kind),
@@ -86,7 +95,7 @@ pub(crate) fn ask(line: &mut Line<'_>, kind: &str) {
     }
 }
 
-/// An attribute of a text.
+/// Makes an attribute with a text.
 fn text(line: &mut Line<'_>, kind: &str) {
     let (text, alloc) = (line.text(), line.alloc);
     let text = text.as_str();
@@ -99,8 +108,8 @@ fn text(line: &mut Line<'_>, kind: &str) {
     }
 }
 
-/// `error-code CODE`, with the reason that goes with the code; `error-reason CODE TEXT`, made at once and by a
-/// builder.
+/// `error-code CODE` uses the default reason phrase for the code, and prints it; `error-reason CODE
+/// TEXT` makes the attribute with `new` and with a builder.
 fn error(line: &mut Line<'_>, has_reason: bool) {
     let (code, alloc) = (line.value(0), line.alloc);
     if has_reason {
@@ -118,7 +127,7 @@ fn error(line: &mut Line<'_>, has_reason: bool) {
     }
 }
 
-/// An attribute of an address.
+/// Makes an attribute with an address.
 fn address(line: &mut Line<'_>, kind: &str) {
     let (addr, number) = (line.address(), line.transaction());
     match kind {
@@ -129,9 +138,9 @@ fn address(line: &mut Line<'_>, kind: &str) {
     }
 }
 
-/// `lifetime N`, `requested-transport N`, `channel-number N`, `connection-id N`, `icmp TYPE CODE N`,
-/// `dont-fragment`, `requested-family IPV4`, `additional-family IPV6` and the other way round, and
-/// `userhash NAME REALM`.
+/// Makes an attribute with an integer, a family or a hash: `lifetime N`, `requested-transport N`,
+/// `channel-number N`, `connection-id N`, `icmp TYPE CODE N`, `dont-fragment`, `requested-family`
+/// and `additional-family` with `IPV4` or `IPV6`, and `userhash NAME REALM`.
 fn number(line: &mut Line<'_>, kind: &str) {
     let one = line.word();
     match kind {
@@ -154,7 +163,7 @@ fn number(line: &mut Line<'_>, kind: &str) {
     }
 }
 
-/// The family of a name.
+/// Returns the address family with this name.
 fn family_of(name: &str) -> AddressFamily {
     if name == "IPV4" {
         AddressFamily::IPV4
@@ -163,8 +172,8 @@ fn family_of(name: &str) -> AddressFamily {
     }
 }
 
-/// `password-algorithm NAME`, with its name and the algorithm of integrity that it goes with;
-/// `password-algorithms NAME..`.
+/// `password-algorithm NAME` prints the name, the matching integrity algorithm and the attribute;
+/// `password-algorithms NAME..` prints the attribute.
 fn algorithms(line: &mut Line<'_>, kind: &str) {
     let mut algorithms = Vec::new(line.alloc);
     for _ in 0..line.left() {
@@ -185,8 +194,9 @@ fn algorithms(line: &mut Line<'_>, kind: &str) {
     }
 }
 
-/// `unknown-attributes TYPES ADDED`: the UNKNOWN-ATTRIBUTES of some types, to which others are added: whether each
-/// is there before, and why it is not added.
+/// `unknown-attributes TYPES ADDED`: makes an UNKNOWN-ATTRIBUTES with the first types and adds the
+/// others. For each added type prints whether it was listed already, and the error if the add
+/// fails.
 fn unknown(line: &mut Line<'_>) {
     let (types, added) = (line.types(), line.types());
     let mut unknown = UnknownAttributes::new(line.alloc, types.as_slice());
@@ -201,20 +211,20 @@ fn unknown(line: &mut Line<'_>) {
     made(line, unknown);
 }
 
-/// `integrity BYTES`, `integrity-sha256 BYTES`, `integrity-sha512 BYTES`, `data BYTES`, and
-/// `fingerprint BYTES`, of the CRC-32 of these bytes.
+/// Makes an attribute with bytes: `integrity BYTES`, `integrity-sha256 BYTES`, `integrity-sha512
+/// BYTES`, `data BYTES`, and `fingerprint BYTES` with the CRC-32 of these bytes.
 fn bytes(line: &mut Line<'_>, kind: &str) {
     let bytes = line.bytes();
-    let (front, _) = bytes.as_slice().split_at(bytes.len().min(65_535));
+    let (head, _) = bytes.as_slice().split_at(bytes.len().min(65_535));
     match kind {
-        "integrity" => match front.first_chunk::<20>() {
+        "integrity" => match head.first_chunk::<20>() {
             Some(hmac) => made(line, Ok(MessageIntegrity::new(*hmac))),
             None => line.is_bad = true,
         },
-        "integrity-sha256" => made(line, MessageIntegritySha256::new(front)),
-        "integrity-sha512" => made(line, MessageIntegritySha512::new(front)),
-        "fingerprint" => made(line, Ok(Fingerprint::new(Fingerprint::compute(front)))),
-        _ => match Data::new(line.alloc, front) {
+        "integrity-sha256" => made(line, MessageIntegritySha256::new(head)),
+        "integrity-sha512" => made(line, MessageIntegritySha512::new(head)),
+        "fingerprint" => made(line, Ok(Fingerprint::new(Fingerprint::compute(head)))),
+        _ => match Data::new(line.alloc, head) {
             Ok(data) => made(line, Ok(data)),
             Err(error) => line.say(&error),
         },

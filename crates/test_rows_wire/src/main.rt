@@ -1,8 +1,11 @@
-//! Asks the libraries of the wire what each line of its standard input hands in, and prints what they
-//! answer. A line is words parted by single spaces, of which the first names the call; an empty line and
-//! one that begins with `#` say nothing. Bytes are in lower case hex, or `-` for none; in bytes and in
-//! texts `NN*3` stands for `NN` three times. `tests/oracle/rows_wire.py` makes the lines and
-//! what is to be answered.
+//! Makes the call that each line of standard input names, and prints the results.
+//!
+//! - A line consists of words separated by single spaces. The first word names the call.
+//! - An empty line and a line that begins with `#` are skipped.
+//! - Bytes are in lower-case hex, or `-` for none. In bytes and in texts `NN*3` stands for `NN`
+//!   three times.
+//!
+//! `tests/oracle/rows_wire.py` generates the lines and the expected output.
 #![tactic(auto)]
 
 mod frames;
@@ -32,7 +35,7 @@ fn main(rt: HostRuntime) -> io::Result<()> {
     Ok(())
 }
 
-/// Prints the first word of a line, and what the line is answered.
+/// Prints the first word of a line and the output for the line.
 fn take(rt: &HostRuntime, line: &[u8]) -> io::Result<()> {
     match read_words(rt.alloc(), line) {
         Ok(words) => {

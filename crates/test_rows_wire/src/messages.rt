@@ -1,4 +1,4 @@
-//! Messages that are written and judged.
+//! Writes and validates messages.
 
 use crate::line::Line;
 use crate::written::{add_all, begin};
@@ -14,37 +14,39 @@ use stun_types_write::slice::MessageWriteMutSlice;
 use stun_types_write::vec::MessageWriteVec;
 use stun_types_write::writer::MessageWrite;
 
-/// `message HOW BYTES ADD..`: a message in memory of its own. Behind what it tells come its bytes.
+/// `message HOW BYTES ADD..`: writes a message into memory that the writer allocates. After the
+/// results of the adds and the writer's properties, prints the message's bytes.
 pub(crate) fn message(line: &mut Line<'_>) {
     let (how, bytes) = (line.word(), line.bytes());
-    let begun = begin(how, bytes.as_slice(), MessageWriteVec::new(line.alloc));
-    if let Some(mut writer) = begun {
+    let started = begin(how, bytes.as_slice(), MessageWriteVec::new(line.alloc));
+    if let Some(mut writer) = started {
         add_all(line, &mut writer);
         line.say(&(writer.as_slice() == writer.data()));
         line.hex(writer.finish().as_slice());
     }
 }
 
-/// `lent ROOM HOW BYTES ADD..`: a message in so many lent bytes of EE, of which those that are not written come
-/// last.
+/// `lent ROOM HOW BYTES ADD..`: writes a message into ROOM borrowed bytes of EE, at least 20. After
+/// the results of the adds and the writer's properties, prints the message's bytes and last the
+/// bytes that were not written.
 pub(crate) fn lent(line: &mut Line<'_>) {
     let (room, how, bytes) = (line.value(0usize), line.word(), line.bytes());
     let room = Vec::from_elem(line.alloc, 0xEEu8, room.max(MessageHeader::LENGTH));
     if let Ok(mut room) = room {
         let writer = MessageWriteMutSlice::new(room.as_mut_slice());
-        let begun = begin(how, bytes.as_slice(), writer);
-        if let Some(mut writer) = begun {
+        let started = begin(how, bytes.as_slice(), writer);
+        if let Some(mut writer) = started {
             add_all(line, &mut writer);
             line.say(&(writer.as_slice() == writer.data()));
             line.say(&writer.lent().len());
-            let (front, behind) = writer.finish();
-            line.hex(front);
-            line.hex(behind);
+            let (head, following) = writer.finish();
+            line.hex(head);
+            line.hex(following);
         }
     }
 }
 
-/// The credentials of a user in a realm, or those of a password alone where the user is `-`.
+/// Returns the credentials of a user in a realm, or of a password alone if the user is `-`.
 pub(crate) fn credentials(
     alloc: Global,
     user: &str,
@@ -60,8 +62,8 @@ pub(crate) fn credentials(
     MessageIntegrityCredentials::from(LongTermKeyCredentials::new(user, password, realm))
 }
 
-/// `judge USER REALM PASSWORD BYTES`: a message is judged by its last integrity attribute, and by the key of
-/// each algorithm.
+/// `judge USER REALM PASSWORD BYTES`: validates a message by its last integrity attribute, and then
+/// with the key for each algorithm.
 pub(crate) fn judge(line: &mut Line<'_>) {
     let (user, realm, password) = (line.word(), line.word(), line.word());
     let bytes = line.bytes();
@@ -82,7 +84,7 @@ pub(crate) fn judge(line: &mut Line<'_>) {
     }
 }
 
-/// A verdict: the algorithm, or why it is refused.
+/// Prints the algorithm by which the message validates, or the error.
 fn verdict(line: &mut Line<'_>, verdict: Result<IntegrityAlgorithm, ValidateError>) {
     match verdict {
         Ok(algorithm) => {

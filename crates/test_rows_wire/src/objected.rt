@@ -1,4 +1,4 @@
-//! Requests that are objected to.
+//! Error responses to requests with bad attributes.
 
 ghost use Rattle.std.specs.Prelude.{◌≡◌};
 ghost use Rattle.stun_types_wire.specs.Attributes.{kind_at};
@@ -15,8 +15,9 @@ use stun_types_write::slice::MessageWriteMutSlice;
 use stun_types_write::vec::MessageWriteVec;
 use stun_types_write::writer::MessageWrite;
 
-/// `object ROOM BYTES HOW..`: the response that objects to a request, in so many lent bytes, or where ROOM is 0
-/// in memory of its own. HOW is `check SUPPORTED REQUIRED`, `unknown TYPES` or `bad`.
+/// `object ROOM BYTES HOW..`: prints the error response to a request, written into ROOM borrowed
+/// bytes, at least 20, or into memory that the writer allocates if ROOM is 0. HOW is `check
+/// SUPPORTED REQUIRED`, `unknown TYPES` or `bad`.
 pub(crate) fn object(line: &mut Line<'_>) {
     let (room, bytes) = (line.value(0usize), line.bytes());
     match Message::from_bytes(bytes.as_slice()) {
@@ -38,7 +39,7 @@ pub(crate) fn object(line: &mut Line<'_>) {
     }
 }
 
-/// Objects to a request.
+/// Writes the error response to a request.
 fn reply<W: MessageWrite + Drop>(line: &mut Line<'_>, request: &Message, writer: W)
     requires request { class_of (kind_at request.now) ≡ Request }
     requires empty { CanBegin (W.draft writer) }
@@ -66,7 +67,7 @@ fn reply<W: MessageWrite + Drop>(line: &mut Line<'_>, request: &Message, writer:
     }
 }
 
-/// A response, or why it is not written.
+/// Prints a response, or the error if it was not written.
 fn replied<W: MessageWrite + Drop>(line: &mut Line<'_>, replied: Result<W, StunWriteError>) {
     match replied {
         Ok(reply) => line.hex(reply.data()),

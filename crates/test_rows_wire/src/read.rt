@@ -1,4 +1,4 @@
-//! Attributes as they are read: by themselves, and out of a message.
+//! Reads attributes from their bytes and from a message.
 
 use crate::line::Line;
 use std::boxed::BoxedSlice;
@@ -39,9 +39,13 @@ use turn_types_peer::data::Data;
 use turn_types_peer::icmp::Icmp;
 use turn_types_peer::xor_peer_address::XorPeerAddress;
 
-/// `raw NUMBER BYTES`: the header, the raw attribute at the front, and the same in bytes of its own. What of
-/// each type it is read as, in bytes, and, of the attributes of TURN that name a peer, a family or a
-/// number, what they tell; or why it is none, but for its type.
+/// `raw NUMBER BYTES`: reads the attribute at the start of the bytes. Prints:
+///
+/// 1. its header;
+/// 2. for each attribute type, the bytes of the attribute that was read, or the error unless it is
+///    a wrong type; for TURN's attributes with a peer, a family or an integer also the decoded
+///    value;
+/// 3. the raw attribute, and its bytes with an owned value.
 pub(crate) fn raw(line: &mut Line<'_>) {
     let (number, bytes) = (line.transaction(), line.bytes());
     match AttributeHeader::try_from(bytes.as_slice()) {
@@ -55,7 +59,7 @@ pub(crate) fn raw(line: &mut Line<'_>) {
         Ok(raw) => {
             as_value(line, &raw);
             as_list(line, &raw);
-            as_told(line, &raw);
+            as_decoded(line, &raw);
             as_peer(line, &raw, number);
             owned(line, raw);
         }
@@ -63,8 +67,8 @@ pub(crate) fn raw(line: &mut Line<'_>) {
     }
 }
 
-/// A raw attribute: whether it has to be understood, its value, padded length and bytes, and the bytes of
-/// the same with a value of its own.
+/// Prints a raw attribute: whether its type is comprehension-required, its value, its padded length
+/// and its bytes; then its bytes with an owned value.
 fn owned(line: &mut Line<'_>, raw: RawAttribute<'_>) {
     let atype = raw.get_type();
     line.say(&"|");
@@ -80,7 +84,7 @@ fn owned(line: &mut Line<'_>, raw: RawAttribute<'_>) {
     }
 }
 
-/// What a raw attribute is as a text or a list.
+/// Reads a raw attribute as each text and list type.
 fn as_list(line: &mut Line<'_>, raw: &RawAttribute<'_>) {
     let alloc = line.alloc;
     line.read("Username", Username::from_raw_ref(alloc, raw));
@@ -99,7 +103,7 @@ fn as_list(line: &mut Line<'_>, raw: &RawAttribute<'_>) {
     );
 }
 
-/// What it is as a value of a few bytes.
+/// Reads a raw attribute as each type whose value has a few bytes.
 fn as_value(line: &mut Line<'_>, raw: &RawAttribute<'_>) {
     line.read("PasswordAlgorithm", PasswordAlgorithm::try_from(raw));
     line.read("Lifetime", Lifetime::try_from(raw));
@@ -121,8 +125,8 @@ fn as_value(line: &mut Line<'_>, raw: &RawAttribute<'_>) {
     line.read("Fingerprint", Fingerprint::try_from(raw));
 }
 
-/// What it is as a family of addresses, or as a number of TURN, and which.
-fn as_told(line: &mut Line<'_>, raw: &RawAttribute<'_>) {
+/// Reads a raw attribute as an address family or as one of TURN's integers, and prints the value.
+fn as_decoded(line: &mut Line<'_>, raw: &RawAttribute<'_>) {
     line.read(
         "RequestedAddressFamily",
         RequestedAddressFamily::try_from(raw),
@@ -147,11 +151,11 @@ fn as_told(line: &mut Line<'_>, raw: &RawAttribute<'_>) {
     }
 }
 
-/// What it is of what a peer sent, and what that tells.
-fn as_peer(line: &mut Line<'_>, raw: &RawAttribute<'_>, number: TransactionId) {
+/// Reads a raw attribute as each type about a peer, and prints the value.
+fn as_peer(line: &mut Line<'_>, raw: &RawAttribute<'_>, transaction_id: TransactionId) {
     line.read("XorPeerAddress", XorPeerAddress::try_from(raw));
     if let Ok(peer) = XorPeerAddress::try_from(raw) {
-        line.say(&peer.addr(number));
+        line.say(&peer.addr(transaction_id));
     }
     line.read("Data", Data::from_raw_ref(line.alloc, raw));
     if let Ok(bytes) = Data::bytes_of(raw) {
@@ -165,8 +169,8 @@ fn as_peer(line: &mut Line<'_>, raw: &RawAttribute<'_>, number: TransactionId) {
     }
 }
 
-/// `check TYPE to=N but=N BYTES`: a raw attribute is held against a type and the bounds of its length. `but`
-/// leaves its number out; `-` is no bound.
+/// `check TYPE to=N but=N BYTES`: checks a raw attribute against a type and the bounds of its
+/// length. `to` is an inclusive bound, `but` an exclusive one, and `-` means no bound.
 pub(crate) fn check(line: &mut Line<'_>) {
     let atype = AttributeType(line.number());
     let (least, most, bytes) = (bound(line), bound(line), line.bytes());
@@ -178,7 +182,7 @@ pub(crate) fn check(line: &mut Line<'_>) {
     }
 }
 
-/// The bound of the next word.
+/// Parses the next word as a bound.
 fn bound(line: &mut Line<'_>) -> Bound<usize> {
     match line.word().split_once('=') {
         Some(("to", number)) => Bound::Included(number.parse().unwrap_or(0)),
@@ -187,8 +191,9 @@ fn bound(line: &mut Line<'_>) -> Bound<usize> {
     }
 }
 
-/// `plain NUMBER BYTES`: the address in the value of an attribute; what it is under the number, and that again
-/// under the number; and the attribute of the address.
+/// `plain NUMBER BYTES`: prints the address in an attribute's value, that address XORed with the
+/// transaction ID, and the result XORed again. Then prints an attribute that is made with the
+/// address.
 pub(crate) fn plain(line: &mut Line<'_>) {
     let (number, bytes) = (line.transaction(), line.bytes());
     if let Ok(raw) = RawAttribute::from_bytes(bytes.as_slice()) {
@@ -208,9 +213,11 @@ pub(crate) fn plain(line: &mut Line<'_>) {
     }
 }
 
-/// `look TYPE N BYTES`: whether a message is a request, of BINDING, a response; whether it shows an attribute
-/// of a type, and the first one; and where the type has one of its own the first, and that behind so
-/// many others, as they are read.
+/// `look TYPE N BYTES`: prints whether a message is a request, of the method BINDING, and a
+/// response. Then prints whether an attribute of this type is visible, and the first one.
+///
+/// For a type that has a type of its own in the library, it also reads and prints the first such
+/// attribute and the one after N others.
 pub(crate) fn look(line: &mut Line<'_>) {
     let atype = AttributeType(line.number());
     let (count, bytes) = (line.value(0usize), line.bytes());
@@ -229,7 +236,7 @@ pub(crate) fn look(line: &mut Line<'_>) {
     }
 }
 
-/// Reads what a message shows of a type.
+/// Reads a message's visible attributes of this type.
 fn typed(line: &mut Line<'_>, message: &Message<'_>, atype: AttributeType, count: usize) {
     match atype.value() {
         0x0006 => nth::<Username>(line, message, count),
@@ -252,7 +259,7 @@ fn typed(line: &mut Line<'_>, message: &Message<'_>, atype: AttributeType, count
     }
 }
 
-/// The first attribute of a type, and the one behind so many others.
+/// Reads the first attribute of a type, and the one after `count` others.
 fn nth<'a, A: AttributeFromRaw<'a> + AttributeStaticType + AttributeWrite + Drop>(
     line: &mut Line<'_>,
     message: &Message<'a>,

@@ -1,4 +1,4 @@
-//! Types of messages, headers, numbers, transports and families of addresses.
+//! Message types, headers, transaction IDs, transports and address families.
 
 use crate::line::Line;
 use crate::made;
@@ -16,8 +16,11 @@ use stun_types_wire::header::MessageHeader;
 use stun_types_wire::transaction::TransactionId;
 use stun_types_write::vec::MessageWriteVec;
 
-/// `number NUMBER` is the number of a transaction as it is printed, and in bytes; `transport NAME` the transport
-/// of a name; `causes` are those that no line is refused for.
+/// Prints small values:
+///
+/// - `number NUMBER`: a transaction ID as `Display` prints it, and its bytes;
+/// - `transport NAME`: the transport with this name;
+/// - `causes`: the errors that no line can cause.
 pub(crate) fn ask(line: &mut Line<'_>, kind: &str) {
     match kind {
         "type" => message_type(line),
@@ -43,8 +46,8 @@ pub(crate) fn ask(line: &mut Line<'_>, kind: &str) {
     }
 }
 
-/// `type CLASS METHOD`: the type of a message in bytes; the same written over three bytes of 09; and what
-/// is read of that.
+/// `type CLASS METHOD`: prints the bytes of a message type, then three bytes of 09 into which it
+/// was written, and the type that is read back from them.
 fn message_type(line: &mut Line<'_>) {
     let class = match line.word() {
         "request" => MessageClass::Request,
@@ -60,11 +63,11 @@ fn message_type(line: &mut Line<'_>) {
     let mut written = [9; 3];
     mtype.write_into(&mut written);
     line.hex(&written);
-    told(line, MessageType::from_bytes(&written));
+    reported(line, MessageType::from_bytes(&written));
 }
 
-/// What a type of a message tells: class, whether it answers a request, method.
-fn told(line: &mut Line<'_>, read: Result<MessageType, StunParseError>) {
+/// Prints what a message type says: its class, whether it is a response, and its method.
+fn reported(line: &mut Line<'_>, read: Result<MessageType, StunParseError>) {
     match read {
         Ok(mtype) => {
             line.say(match mtype.class() {
@@ -80,10 +83,11 @@ fn told(line: &mut Line<'_>, read: Result<MessageType, StunParseError>) {
     }
 }
 
-/// `header BYTES`: the type at the front; and the header: its length, its number, and the same in bytes.
+/// `header BYTES`: prints the message type at the start, and the header: its length field, its
+/// transaction ID and its bytes.
 fn header(line: &mut Line<'_>) {
     let bytes = line.bytes();
-    told(line, MessageType::from_bytes(bytes.as_slice()));
+    reported(line, MessageType::from_bytes(bytes.as_slice()));
     line.say(&"|");
     match MessageHeader::from_bytes(bytes.as_slice()) {
         Ok(header) => {
@@ -95,7 +99,8 @@ fn header(line: &mut Line<'_>) {
     }
 }
 
-/// `family ADDRESS`: the family of an address: with its port and without, by its own kind too.
+/// `family ADDRESS`: prints the family of an address with its port and without it, first from the
+/// general types and then from the types for IPv4 or IPv6.
 fn family(line: &mut Line<'_>) {
     let addr = line.address();
     line.say(&AddressFamily::from(&addr));
@@ -110,8 +115,8 @@ fn family(line: &mut Line<'_>) {
     }
 }
 
-/// `draw SEED METHOD`: a number that is drawn from a generator of this seed, and a request and an indication
-/// that are begun with the next ones.
+/// `draw SEED METHOD`: prints a transaction ID from a generator with this seed, and a request and
+/// an indication that are started with the next ones.
 fn draw(line: &mut Line<'_>) {
     let (seed, method) = (line.bytes(), Method::new(line.number().min(0x0FFF)));
     let mut key = [0; 32];
@@ -124,8 +129,8 @@ fn draw(line: &mut Line<'_>) {
     if let Ok(request) = request {
         line.hex(request.as_slice());
     }
-    let told = Message::builder_indication(method, &mut rng, MessageWriteVec::new(line.alloc));
-    if let Ok(told) = told {
-        line.hex(told.as_slice());
+    let reported = Message::builder_indication(method, &mut rng, MessageWriteVec::new(line.alloc));
+    if let Ok(reported) = reported {
+        line.hex(reported.as_slice());
     }
 }

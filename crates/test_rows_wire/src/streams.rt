@@ -1,4 +1,4 @@
-//! Streams of frames, in pieces.
+//! Streams of frames in chunks.
 
 use crate::line::Line;
 use std::net::{IpAddr, Ipv4Addr, SocketAddr};
@@ -6,12 +6,20 @@ use stun_types_base::transmit::Transmit;
 use stun_types_base::transport::TransportType;
 use turn_types_frame::tcp::{IncomingTcp, StoredTcp, TurnTcpBuffer};
 
-/// How often a buffer is asked at most for all frames that it has.
+/// The maximum number of frames that one `polls` takes from a buffer.
 const MOST_FRAMES: usize = 8;
 
-/// `stream WORD..`: a new buffer, told of a stream. `take BYTES` gives it a piece of the stream, `poll` asks it
-/// for a frame, `polls` for frames until there is none, and `empty` whether no bytes are kept; `front` asks
-/// for the frame at the front, which stays there, and `drop` lets it go. Last come the bytes that are left.
+/// Feeds a stream to a new buffer, as the words say, and prints the bytes that are left:
+///
+/// ```text
+/// stream WORD..
+/// take BYTES   feeds a chunk of the stream
+/// poll         takes a frame
+/// polls        takes frames until there is none
+/// empty        prints whether no bytes are buffered
+/// front        prints the frame at the head, which stays in the buffer
+/// drop         removes the frame at the head
+/// ```
 pub(crate) fn stream(line: &mut Line<'_>) {
     let mut buffer = TurnTcpBuffer::new(line.alloc);
     for _ in 0..line.left() {
@@ -24,15 +32,15 @@ pub(crate) fn stream(line: &mut Line<'_>) {
     line.hex(left.as_slice());
 }
 
-/// Does what a word says.
+/// Does what the next word says.
 fn feed(line: &mut Line<'_>, buffer: &mut TurnTcpBuffer) {
     match line.word() {
         "empty" => line.say(&buffer.is_empty()),
-        "front" => match buffer.front() {
+        "front" => match buffer.head() {
             Some(frame) => line.hex(frame),
             None => line.say(&"nothing"),
         },
-        "drop" => buffer.drop_front(),
+        "drop" => buffer.drop_head(),
         "poll" => {
             poll(line, buffer);
         }
@@ -47,23 +55,23 @@ fn feed(line: &mut Line<'_>, buffer: &mut TurnTcpBuffer) {
             let from = SocketAddr::new(IpAddr::V4(Ipv4Addr::new(10, 0, 0, 2)), 3478);
             let to = SocketAddr::new(IpAddr::V4(Ipv4Addr::new(192, 168, 0, 1)), 1000);
             let bytes = line.bytes();
-            let piece = Transmit::new(bytes.as_slice(), TransportType::Tcp, from, to);
-            let came = buffer.incoming_tcp(piece);
-            tell(line, &came);
+            let chunk = Transmit::new(bytes.as_slice(), TransportType::Tcp, from, to);
+            let came = buffer.incoming_tcp(chunk);
+            report(line, &came);
             drop(came);
         }
     }
 }
 
-/// What a piece is answered.
-fn tell(line: &mut Line<'_>, came: &Option<IncomingTcp<&[u8]>>) {
+/// Prints the result of feeding a chunk.
+fn report(line: &mut Line<'_>, came: &Option<IncomingTcp<&[u8]>>) {
     let (word, frame) = match came {
         None => ("none", None),
-        Some(IncomingTcp::CompleteMessage(piece, range)) => {
-            ("message", piece.bytes.get(range.start..range.end))
+        Some(IncomingTcp::CompleteMessage(chunk, range)) => {
+            ("message", chunk.bytes.get(range.start..range.end))
         }
-        Some(IncomingTcp::CompleteChannel(piece, range)) => {
-            ("channel", piece.bytes.get(range.start..range.end))
+        Some(IncomingTcp::CompleteChannel(chunk, range)) => {
+            ("channel", chunk.bytes.get(range.start..range.end))
         }
         Some(IncomingTcp::StoredMessage(frame, _)) => ("stored-message", Some(frame.as_slice())),
         Some(IncomingTcp::StoredChannel(frame, _)) => ("stored-channel", Some(frame.as_slice())),
@@ -75,7 +83,7 @@ fn tell(line: &mut Line<'_>, came: &Option<IncomingTcp<&[u8]>>) {
     }
 }
 
-/// Asks for a frame, and answers whether there was one.
+/// Takes a frame, prints it, and returns whether there was one.
 fn poll(line: &mut Line<'_>, buffer: &mut TurnTcpBuffer) -> bool {
     match buffer.poll_recv() {
         Ok(Some(StoredTcp::Message(frame))) => {

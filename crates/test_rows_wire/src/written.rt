@@ -1,7 +1,7 @@
-//! Adds to a message, in any writer.
+//! Adds attributes to a message, in any writer.
 
 ghost use Rattle.std.specs.Prelude.{◌<◌, ◌^◌, IfSome, length};
-ghost use Rattle.stun_types_write.specs.Adding.{IsBegun};
+ghost use Rattle.stun_types_write.specs.Adding.{IsStarted};
 ghost use Rattle.stun_types_write.specs.Outcomes.{CanBegin};
 
 use crate::line::Line;
@@ -26,11 +26,11 @@ use stun_types_write::writer::MessageWrite;
 use turn_types_attributes::lifetime::Lifetime;
 use turn_types_attributes::requested_transport::RequestedTransport;
 
-/// Begins a message in an empty writer: as the header in some bytes tells (`begin`), or as the success or the
-/// error response to the request that they are (`success`, `error`).
+/// Starts a message in an empty writer. `begin` takes the header at the start of the bytes;
+/// `success` and `error` start the success or the error response to the request in the bytes.
 pub(crate) fn begin<W: MessageWrite + Drop>(how: &str, bytes: &[u8], writer: W) -> Option<W>
     requires empty { CanBegin (W.draft writer) }
-    ensures { IfSome result (λ begun. IsBegun (W.draft begun).bytes) }
+    ensures { IfSome result (λ started. IsStarted (W.draft started).bytes) }
 {
     if how == "begin" {
         return match MessageHeader::from_bytes(bytes) {
@@ -50,11 +50,14 @@ pub(crate) fn begin<W: MessageWrite + Drop>(how: &str, bytes: &[u8], writer: W) 
     }
 }
 
-/// Adds what the words say: the size of the message then, and why the add is refused. Then comes what the
-/// writer tells: whether the message is a request, of BINDING, a response; its number, the greatest size,
-/// whether it shows USERNAME, and which it shows first of USERNAME, REALM and LIFETIME.
+/// Makes the adds that the words name. After each add prints the length of the message, and `fine`
+/// or the error. Then prints the writer's properties:
+///
+/// 1. whether the message is a request, of the method BINDING, and a response;
+/// 2. its transaction ID, and the maximum length if there is one;
+/// 3. whether USERNAME is visible, and which of USERNAME, REALM and LIFETIME is visible first.
 pub(crate) fn add_all<W: MessageWrite>(line: &mut Line<'_>, writer: &mut W)
-    requires { IsBegun (W.draft writer.old).bytes }
+    requires { IsStarted (W.draft writer.old).bytes }
 {
     for _ in 0..line.left() {
         if line.left() > 0 {
@@ -80,10 +83,10 @@ pub(crate) fn add_all<W: MessageWrite>(line: &mut Line<'_>, writer: &mut W)
     }
 }
 
-/// Makes an add, and answers as it does.
+/// Makes one add and returns its result.
 fn add<W: MessageWrite>(line: &mut Line<'_>, writer: &mut W) -> Result<(), StunWriteError>
-    requires { IsBegun (W.draft writer.old).bytes }
-    ensures { IsBegun (W.draft writer.new).bytes }
+    requires { IsStarted (W.draft writer.old).bytes }
+    ensures { IsStarted (W.draft writer.new).bytes }
 {
     let kind = line.word();
     match kind {
@@ -103,14 +106,14 @@ fn add<W: MessageWrite>(line: &mut Line<'_>, writer: &mut W) -> Result<(), StunW
         }
         "zeros" => {
             let zeros = line.bytes();
-            let (front, _) = zeros.as_slice().split_at(zeros.len().min(65_535));
-            add_raw(writer, front)
+            let (head, _) = zeros.as_slice().split_at(zeros.len().min(65_535));
+            add_raw(writer, head)
         }
         _ => add_attribute(line, writer, kind),
     }
 }
 
-/// The algorithm of integrity of the next word.
+/// Parses the next word as an integrity algorithm.
 fn algorithm(line: &mut Line<'_>) -> IntegrityAlgorithm {
     match line.word() {
         "sha1" => IntegrityAlgorithm::Sha1,
@@ -119,24 +122,24 @@ fn algorithm(line: &mut Line<'_>) -> IntegrityAlgorithm {
     }
 }
 
-/// Adds an attribute of a type that nothing names.
+/// Adds an attribute of an unassigned type.
 fn add_raw<W: MessageWrite>(writer: &mut W, value: &[u8]) -> Result<(), StunWriteError>
-    requires begun { IsBegun (W.draft writer.old).bytes }
+    requires started { IsStarted (W.draft writer.old).bytes }
     requires short { length value.now < 2 ^ 16 }
-    ensures { IsBegun (W.draft writer.new).bytes }
+    ensures { IsStarted (W.draft writer.new).bytes }
 {
     let raw = RawAttribute::new(AttributeType(0x0022), value);
     add_as(writer, &raw, &raw)
 }
 
-/// Adds an attribute that does not end a message.
+/// Adds an attribute that is neither an integrity attribute nor FINGERPRINT.
 fn add_attribute<W: MessageWrite>(
     line: &mut Line<'_>,
     writer: &mut W,
     kind: &str,
 ) -> Result<(), StunWriteError>
-    requires { IsBegun (W.draft writer.old).bytes }
-    ensures { IsBegun (W.draft writer.new).bytes }
+    requires { IsStarted (W.draft writer.old).bytes }
+    ensures { IsStarted (W.draft writer.new).bytes }
 {
     let alloc = line.alloc;
     match kind {

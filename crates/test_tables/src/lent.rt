@@ -1,4 +1,4 @@
-//! Bytes that are lent to a message, and to a writer.
+//! Bytes that are borrowed by a message and by a writer.
 
 use std::test::Fail;
 use stun_types_add::ext::MessageWriteExt;
@@ -11,11 +11,12 @@ use stun_types_write::slice::MessageWriteMutSlice;
 use stun_types_write::vec::MessageWriteVec;
 use stun_types_write::writer::MessageWrite;
 
-/// A BINDING request that shows REALM `r`.
+/// A BINDING request with REALM `r`.
 const REQUEST: &[u8] =
     b"\0\x01\0\x08\x21\x12\xa4\x42\0\0\0\0\0\0\0\0\0\0\x73\x92\0\x14\0\x01r\0\0\0";
 
-/// The first attribute of a type, which is borrowed for as long as the bytes are, and outlives the message.
+/// Returns the first attribute of a type. It is borrowed from the bytes, so it outlives the
+/// message.
 fn first_of(
     bytes: &[u8],
     atype: AttributeType,
@@ -26,18 +27,18 @@ fn first_of(
 
 #[test]
 fn attributes_outlive_their_message(rt: HostRuntime) -> Result<(), Fail> {
-    let shown = first_of(REQUEST, AttributeType(0x0014))?.ok_or("no REALM")?;
-    assert_eq!(rt; shown.value(), b"r".as_slice());
+    let visible = first_of(REQUEST, AttributeType(0x0014))?.ok_or("no REALM")?;
+    assert_eq!(rt; visible.value(), b"r".as_slice());
     let message = Message::from_bytes(REQUEST)?;
     let mut left = message.iter_attributes();
     let (offset, _) = left.next().ok_or("nothing is shown")?;
-    // what has ended stays ended
+    // An iterator that has ended stays ended.
     assert!(rt; offset == 20 && left.next().is_none() && left.next().is_none());
     Ok(())
 }
 
-/// The request is begun with another realm, of which a byte is then changed in place, and one behind it
-/// where there is one: what the writers give shows both.
+/// Builds the request with another realm, and then changes a byte of the realm in place, and a byte
+/// after the request if the buffer has one. What the writers return has both changes.
 #[test]
 fn bytes_are_changed_in_place(rt: HostRuntime) -> Result<(), Fail> {
     let header = MessageHeader::from_bytes(REQUEST)?;

@@ -1,6 +1,7 @@
-//! Tests of what no printed row shows: bytes that are lent and change hands, names that a program adds,
-//! readers and writers that fail. What has bytes or words to show stands in the stored runs of
-//! `test_rows_wire`, `test_rows_proto`, `test_rows_client`, `turn_replay` and `stun_inspect`.
+//! Tests of what no printed row can show: borrowed bytes and their ownership, names that a program
+//! adds, and readers and writers that fail. Everything with bytes or words to print is tested by
+//! the stored runs of `test_rows_wire`, `test_rows_proto`, `test_rows_client`, `turn_replay` and
+//! `stun_inspect`.
 #![tactic(auto)]
 
 #[cfg(test)]

@@ -1,4 +1,4 @@
-//! Names that a program adds to those of RFC 8489, which `stun_inspect` prints.
+//! Names that a program adds to those of RFC 8489, and that `stun_inspect` prints.
 
 use std::test::Fail;
 use stun_types_wire::attribute::AttributeType;
@@ -10,7 +10,7 @@ use stun_types_wire::registry::BINDING;
 fn the_last_name_counts(rt: HostRuntime) -> Result<(), Fail> {
     let mut names = Names::new(rt.alloc());
     let (allocate, priority) = (Method::new(0x003), AttributeType::new(0x0024));
-    // the name of a type is none of a method of that number
+    // The name of an attribute type doesn't name the method with the same number.
     names.add_attribute(AttributeType::new(0x003), "OTHER")?;
     let before = [
         BINDING.name(&names),
@@ -20,12 +20,12 @@ fn the_last_name_counts(rt: HostRuntime) -> Result<(), Fail> {
     names.add_method(allocate, "ALLOC")?;
     names.add_method(allocate, "ALLOCATE")?;
     names.add_attribute(priority, "PRIORITY")?;
-    let behind = [
+    let following = [
         BINDING.name(&names),
         allocate.name(&names),
         priority.name(&names),
     ];
     assert_eq!(rt; before, ["BINDING", "unknown", "unknown"]);
-    assert_eq!(rt; behind, ["BINDING", "ALLOCATE", "PRIORITY"]);
+    assert_eq!(rt; following, ["BINDING", "ALLOCATE", "PRIORITY"]);
     Ok(())
 }

@@ -1,4 +1,4 @@
-//! Bytes that are borrowed, owned, and change hands.
+//! Bytes that are borrowed, owned, and moved.
 
 use std::boxed::BoxedSlice;
 use std::net::SocketAddr;
@@ -31,9 +31,9 @@ fn bytes_change_hands(rt: HostRuntime) -> Result<(), Fail> {
     let sent = Transmit::new(BYTES, TransportType::Tcp, from, to);
     let sent = sent.reinterpret_data(|bytes| Data::from(bytes));
     assert_eq!(rt; sent.bytes, Data::from(BYTES));
-    let kept = sent.into_owned(rt.alloc())?;
-    assert_eq!(rt; kept.bytes, owned);
-    let way = (kept.transport, kept.from, kept.to);
+    let stored = sent.into_owned(rt.alloc())?;
+    assert_eq!(rt; stored.bytes, owned);
+    let way = (stored.transport, stored.from, stored.to);
     assert_eq!(rt; way, (TransportType::Tcp, from, to));
     Ok(())
 }

@@ -1,12 +1,14 @@
-//! What a trace that is stored can't show: readers and writers that fail, and the longest trace.
+//! What a stored trace can't test: readers and writers that fail, and the longest trace.
 
 use line_io::input::MAX_INPUT;
 use line_io::status::Status;
+use std::alloc::Global;
 use std::io;
 use std::io::{Error, ErrorKind, Read, Write};
+use std::process::Abort;
 use turn_desk_world::trace::replay;
 
-/// A reader of a remark of so many bytes, behind which it fails or ends.
+/// A reader of a remark of `left` bytes, after which it fails or ends.
 #[derive(Drop)]
 struct Remark {
     left: usize,
@@ -29,16 +31,16 @@ impl Read for Remark {
     }
 }
 
-/// A reader of a trace in pieces of so many bytes, which fails once, behind so many reads.
+/// A reader of a trace in chunks of `size` bytes, which fails once, after `reads` reads.
 #[derive(Drop)]
-struct Pieces<'a> {
+struct Chunks<'a> {
     rest: &'a [u8],
     size: usize,
     reads: usize,
     fails: ErrorKind,
 }
 
-impl Read for Pieces<'_> {
+impl Read for Chunks<'_> {
     fn read(&mut self, buf: &mut [u8]) -> io::Result<usize> {
         if self.reads == 0 {
             self.reads = usize::MAX;
@@ -50,11 +52,11 @@ impl Read for Pieces<'_> {
     }
 }
 
-/// A writer that has room for so many bytes, takes so many writes, and then fails, and maybe when it is to be flushed.
-/// It keeps what it took.
+/// A writer that has room for `room` bytes, accepts `writes` writes, and then fails. It may also
+/// fail when it is flushed. It stores what it accepted.
 #[derive(Drop)]
 struct Narrow {
-    kept: Vec<u8>,
+    stored: Vec<u8>,
     room: usize,
     writes: usize,
     flushes: bool,
@@ -68,7 +70,7 @@ impl Write for Narrow {
         let count = buf.len().min(self.room);
         self.room -= count;
         self.writes -= 1;
-        self.kept.write(&buf[..count])
+        self.stored.write(&buf[..count])
     }
 
     fn flush(&mut self) -> io::Result<()> {
@@ -80,7 +82,7 @@ impl Write for Narrow {
     }
 }
 
-/// A trace of 86 bytes, and the 28 that it prints.
+/// A trace of 86 bytes. Replaying it prints 28 bytes.
 const TRACE: &[u8] =
     b"desk realm sha1 auto\ntodesk 0 10.0.0.1:1 - 0 grant\ntodesk 0 10.0.0.1:1 - 0 grant\nhello";
 
@@ -88,27 +90,67 @@ const PRINTED: &[u8] = b"none\nnone\nbad trace: line 4\n";
 
 #[test]
 fn readers_that_fail(rt: HostRuntime) {
-    let (broken, memory) = (Some(ErrorKind::BrokenPipe), Some(ErrorKind::OutOfMemory));
+    let (invalid, memory) = (Some(ErrorKind::BrokenPipe), Some(ErrorKind::OutOfMemory));
     for (left, fails, status, text) in [
-        (0, broken, Status::Fault, "read fault\n"),
+        (0, invalid, Status::Fault, "read fault\n"),
         (0, memory, Status::NoMemory, "no memory\n"),
-        (1, broken, Status::Fault, "read fault\n"),
+        (1, invalid, Status::Fault, "read fault\n"),
         (1, memory, Status::NoMemory, "no memory\n"),
-        (100_000, broken, Status::Fault, "read fault\n"),
+        (100_000, invalid, Status::Fault, "read fault\n"),
         (100_000, memory, Status::NoMemory, "no memory\n"),
-        // the longest trace, one byte more, and one that never seems to end
-        (MAX_INPUT, None, Status::Done, ""),
-        (MAX_INPUT + 1, None, Status::Fault, "read fault\n"),
-        (usize::MAX, None, Status::Fault, "read fault\n"),
     ] {
-        let mut input = Remark { left, fails };
-        let mut output = Vec::new(rt.alloc());
-        let told = replay(rt.alloc(), &mut input, &mut output);
-        assert_eq!(rt; told, status, "{left} {fails:?}");
-        assert_eq!(rt; output.as_slice(), text.as_bytes(), "{left} {fails:?}");
-        let taken = left.saturating_sub(input.left);
-        assert_eq!(rt; taken, left.min(MAX_INPUT + 1), "{left} {fails:?}");
+        replay_remark(&rt, rt.alloc(), left, fails, status, text);
     }
+}
+
+/// Replays a remark of `left` bytes, and compares the status, what is printed, and how many bytes
+/// are read.
+fn replay_remark(
+    rt: &impl Abort,
+    alloc: Global,
+    left: usize,
+    fails: Option<ErrorKind>,
+    status: Status,
+    text: &str,
+) {
+    let mut input = Remark { left, fails };
+    let mut output = Vec::new(alloc);
+    let reported = replay(alloc, &mut input, &mut output);
+    assert_eq!(rt; reported, status, "{left} {fails:?}");
+    assert_eq!(rt; output.as_slice(), text.as_bytes(), "{left} {fails:?}");
+    let taken = left.saturating_sub(input.left);
+    assert_eq!(rt; taken, left.min(MAX_INPUT + 1), "{left} {fails:?}");
+}
+
+// Each of the long traces is a test by itself: before any proof one takes half a minute.
+
+#[test]
+fn the_longest_trace(rt: HostRuntime) {
+    replay_remark(&rt, rt.alloc(), MAX_INPUT, None, Status::Done, "");
+}
+
+#[test]
+fn a_trace_one_byte_too_long(rt: HostRuntime) {
+    replay_remark(
+        &rt,
+        rt.alloc(),
+        MAX_INPUT + 1,
+        None,
+        Status::Fault,
+        "read fault\n",
+    );
+}
+
+#[test]
+fn a_trace_without_end(rt: HostRuntime) {
+    replay_remark(
+        &rt,
+        rt.alloc(),
+        usize::MAX,
+        None,
+        Status::Fault,
+        "read fault\n",
+    );
 }
 
 #[test]
@@ -126,22 +168,23 @@ fn reads_that_fail(rt: HostRuntime) {
         ),
         (ErrorKind::Interrupted, Status::BadTrace, PRINTED),
     ] {
-        // 18 reads give five bytes and less, the one behind them tells the end, and there is no other one
+        // 18 reads return at most five bytes each, the next one returns the end, and there are no
+        // more.
         for reads in 0..20 {
-            let mut input = Pieces {
+            let mut input = Chunks {
                 rest: TRACE,
                 size: 5,
                 reads,
                 fails,
             };
             let mut output = Vec::new(rt.alloc());
-            let told = replay(rt.alloc(), &mut input, &mut output);
+            let reported = replay(rt.alloc(), &mut input, &mut output);
             let (status, text) = if reads < 19 {
                 (status, text)
             } else {
                 (Status::BadTrace, PRINTED)
             };
-            assert_eq!(rt; told, status, "{reads} {fails:?}");
+            assert_eq!(rt; reported, status, "{reads} {fails:?}");
             assert_eq!(rt; output.as_slice(), text, "{reads} {fails:?}");
         }
     }
@@ -154,27 +197,27 @@ fn writers_that_fail(rt: HostRuntime) {
         for (room, writes, flushes) in [(k, most, true), (most, k, true), (k, most, false)] {
             let mut input = TRACE;
             let mut output = Narrow {
-                kept: Vec::new(rt.alloc()),
+                stored: Vec::new(rt.alloc()),
                 room,
                 writes,
                 flushes,
             };
-            let told = replay(rt.alloc(), &mut input, &mut output);
-            let kept = output.kept.as_slice();
-            // it is whole only where there is room for each byte, and for each write
-            let is_whole = kept == PRINTED;
-            assert!(rt; PRINTED.starts_with(kept), "{room} {writes}");
+            let reported = replay(rt.alloc(), &mut input, &mut output);
+            let stored = output.stored.as_slice();
+            // The output is complete only if there is room for each byte and for each write.
+            let is_whole = stored == PRINTED;
+            assert!(rt; PRINTED.starts_with(stored), "{room} {writes}");
             assert_eq!(rt;
-                told == Status::BadTrace,
+                reported == Status::BadTrace,
                 is_whole && flushes,
                 "{room} {writes}"
             );
             assert_eq!(rt;
-                told == Status::Fault,
+                reported == Status::Fault,
                 !is_whole || !flushes,
                 "{room} {writes}"
             );
-            assert!(rt; writes != most || kept.len() == room, "{room} {writes}");
+            assert!(rt; writes != most || stored.len() == room, "{room} {writes}");
         }
     }
 }

@@ -1,5 +1,5 @@
 pub mod Escapes
-pub mod Drawn
+pub mod Transmitted
 pub mod Lines
 pub mod Pictures
-pub mod Shown
+pub mod Visible

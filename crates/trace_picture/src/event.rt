@@ -1,12 +1,12 @@
-//! What an event line says, and what is written beside its arrow.
+//! The parts of an event line, and the text beside its arrow.
 
 use crate::kind::Kind;
 use line_io::lower_hex::read_hex;
 use line_io::refusal::LineError;
 use std::alloc::{AllocError, Global};
 
-/// What lines begin with that tell no moment.
-const WITHOUT_MOMENT: [&str; 7] = [
+/// The first words of lines that have no time.
+const WITHOUT_TIME: [&str; 7] = [
     "event",
     "have",
     "permissions",
@@ -16,49 +16,49 @@ const WITHOUT_MOMENT: [&str; 7] = [
     "relayed",
 ];
 
-/// An event line, and what it was answered.
+/// An event line and its result.
 #[derive(Clone, Copy)]
 pub(crate) struct Event<'w, 'l, 't, 'a> {
-    /// What the line is.
+    /// The kind of the line.
     pub kind: Kind,
-    /// Its words.
+    /// The words of the line.
     pub words: &'w [&'l str],
-    /// The answer.
+    /// The result.
     pub answer: &'a str,
-    /// Its words.
-    pub told: &'t [&'a str],
+    /// The words of the result.
+    pub reported: &'t [&'a str],
 }
 
 impl<'w, 'l, 't, 'a> Event<'w, 'l, 't, 'a> {
-    /// The moment of the line, in nanoseconds. None where it tells none.
-    pub(crate) fn moment(&self) -> Option<u64> {
+    /// Returns the time of the line, in nanoseconds, or `None` if it has none.
+    pub(crate) fn time(&self) -> Option<u64> {
         match self.words {
-            [first, now, ..] if tells_moment(first) => now.parse::<u64>().ok(),
+            [first, now, ..] if reports_time(first) => now.parse::<u64>().ok(),
             _ => None,
         }
     }
 
-    /// The word of the bytes that client or desk is handed.
-    pub(crate) fn handed(&self) -> Option<&'l str> {
-        handed_word(self.words)
+    /// Returns the word for the bytes that the line delivers to the client or to the server core.
+    pub(crate) fn delivered(&self) -> Option<&'l str> {
+        delivered_word(self.words)
     }
 
-    /// The bytes of the answer; none where it has none.
+    /// Returns the bytes of the result, which are empty if it has none.
     pub(crate) fn answered(&self, alloc: Global) -> Result<Vec<u8>, LineError> {
-        read_hex(alloc, answered_word(self.told))
+        read_hex(alloc, answered_word(self.reported))
     }
 
-    /// The answer, without its first word where that is the line's.
-    pub(crate) fn shown(&self) -> &'a str {
+    /// Returns the result, without its first word if this is also the first word of the line.
+    pub(crate) fn visible(&self) -> &'a str {
         match (self.words, self.answer.split_once(' ')) {
-            ([first, ..], Some((front, rest))) if front == *first => rest,
+            ([first, ..], Some((head, rest))) if head == *first => rest,
             _ => self.answer,
         }
     }
 
-    /// Appends the line without its moment.
+    /// Appends the line without its time.
     pub(crate) fn push_call(&self, text: &mut String) -> Result<(), AllocError> {
-        let mut left_out = self.moment().is_some();
+        let mut left_out = self.time().is_some();
         for (at, word) in self.words.iter().enumerate() {
             if at == 1 && left_out {
                 left_out = false;
@@ -73,23 +73,24 @@ impl<'w, 'l, 't, 'a> Event<'w, 'l, 't, 'a> {
     }
 }
 
-/// The word of the bytes that a line of these words hands to client or desk.
-pub(crate) fn handed_word<'l>(words: &[&'l str]) -> Option<&'l str> {
+/// Returns the word for the bytes that a line with these words delivers to the client or to the
+/// server core.
+pub(crate) fn delivered_word<'l>(words: &[&'l str]) -> Option<&'l str> {
     match words {
         ["todesk", _, _, bytes, ..] | ["toclient", _, _, _, bytes] => Some(bytes),
         _ => None,
     }
 }
 
-/// The word of the bytes of an answer of these words, `-` where it has none.
-fn answered_word<'a>(told: &[&'a str]) -> &'a str {
-    match told {
+/// Returns the word for the bytes of a result with these words, or `-` if it has none.
+fn answered_word<'a>(reported: &[&'a str]) -> &'a str {
+    match reported {
         ["transmit" | "peer", _, _, hex] | ["reply", hex] => hex,
         _ => "-",
     }
 }
 
-/// Whether the second word of a line that begins so is a moment.
-fn tells_moment(first: &str) -> bool {
-    !WITHOUT_MOMENT.contains(&first)
+/// Returns whether the second word of a line is a time, from the line's first word.
+fn reports_time(first: &str) -> bool {
+    !WITHOUT_TIME.contains(&first)
 }

@@ -1,4 +1,4 @@
-//! What the lines of a trace are, and which arrows they give.
+//! The kinds of a trace's lines, and the arrows that are drawn for them.
 
 ghost use Rattle.std.specs.Prelude.{◌≡◌, IfOk, MatchOption, map};
 ghost use Rattle.trace_picture.specs.Lines.{Begins, IsKind, arrows_of, carries};
@@ -7,24 +7,25 @@ ghost use Rattle.trace_picture.specs.declared.kind.Kind.{Kind};
 use crate::row::{Arrow, Mark};
 use std::alloc::{AllocError, Global};
 
-/// What a line of a trace is.
+/// The kind of a trace's line.
 #[derive(Clone, Copy, PartialEq, Eq)]
 pub enum Kind {
-    /// It is done before the first event.
+    /// A setup line, which comes before the first event.
     Setup,
-    /// The desk is handed bytes.
+    /// Bytes reach the server core.
     ToDesk,
-    /// The client is handed bytes.
+    /// Bytes reach the client.
     ToClient,
-    /// The client is asked for a message that is due, which may be lost on its way.
+    /// The client is polled for a message to transmit, which may be lost on its way.
     Drawing,
-    /// The client is given data for a peer. Its answer goes to its server, and no later line has to take it.
+    /// The client is given data for a peer. The result goes to its server; no later line has to
+    /// deliver it.
     Sending,
     /// Any other call of the client.
     Calling,
 }
 
-/// What a line of these words is. None where no line begins so.
+/// Returns the kind of a line with these words, or `None` if no line begins like this.
 pub(crate) fn kind_of(words: &[&str]) -> Option<Kind>
     ensures { MatchOption result ((kind : Kind) → ¬ (Begins (map (λ x. x.now) words.now) kind))
         (Begins (map (λ x. x.now) words.now)) }
@@ -35,7 +36,7 @@ pub(crate) fn kind_of(words: &[&str]) -> Option<Kind>
     }
 }
 
-/// What a line is that begins with a word.
+/// Returns the kind of a line that begins with this word, or `None` if no line does.
 fn kind_of_word(word: &str) -> Option<Kind>
     ensures { MatchOption result ((kind : Kind) → ¬ (IsKind word.now kind)) (IsKind word.now) }
 {
@@ -64,7 +65,7 @@ fn kind_of_word(word: &str) -> Option<Kind>
     }
 }
 
-/// Whether an answer has bytes that go into the network, by its words.
+/// Returns whether a result with these words has bytes that enter the network.
 pub(crate) fn carries(words: &[&str]) -> bool
     ensures { result ≡ carries (map (λ x. x.now) words.now) }
 {
@@ -74,8 +75,8 @@ pub(crate) fn carries(words: &[&str]) -> bool
     }
 }
 
-/// The arrows of an event line, at these places: the first, and the reply of a desk. What `send` gives is
-/// never drawn as lost.
+/// Returns the arrows of an event line: one at height `first`, and the server core's reply at
+/// height `reply`. What `send` transmits is never drawn as lost.
 pub(crate) fn marks_of(
     alloc: Global,
     kind: Kind,
@@ -89,7 +90,7 @@ pub(crate) fn marks_of(
     let arrow = match kind {
         Kind::Setup => return Ok(Vec::new(alloc)),
         Kind::ToDesk => Arrow::Reached,
-        Kind::ToClient => Arrow::Heard,
+        Kind::ToClient => Arrow::Processed,
         Kind::Drawing if carries && lost => Arrow::SentLost,
         Kind::Drawing | Kind::Sending if carries => Arrow::Sent,
         Kind::Drawing | Kind::Sending | Kind::Calling => Arrow::Called,

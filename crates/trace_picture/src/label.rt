@@ -1,22 +1,23 @@
 //! Labels, one below another.
 
-use crate::row::{Label, Place};
-use line_io::word::pieces;
+use crate::row::{Label, Position};
+use line_io::word::chunks;
 use std::alloc::{AllocError, Global};
 
-/// How many characters of a text are shown.
+/// The maximum number of characters of a label.
 const WIDEST: usize = 42;
 
-/// How far one label stands below another, in pixels.
+/// The distance between two labels, one below the other, in pixels.
 pub(crate) const STEP: usize = 14;
 
-/// How far a row goes below its last foot, in pixels.
+/// The space in a row below its last baseline, in pixels.
 const BELOW: usize = 4;
 
-/// How far an arrow runs below the top of its row, in pixels: below the foot of its name.
+/// The distance of an arrow from the top of its row, in pixels. The arrow is below the baseline of
+/// its name.
 pub(crate) const ARROW: usize = 19;
 
-/// Labels.
+/// A list of labels.
 #[derive(Drop)]
 pub(crate) struct Labels {
     alloc: Global,
@@ -24,7 +25,7 @@ pub(crate) struct Labels {
 }
 
 impl Labels {
-    /// None.
+    /// Returns an empty list.
     pub(crate) fn new(alloc: Global) -> Labels {
         Labels {
             alloc,
@@ -32,56 +33,56 @@ impl Labels {
         }
     }
 
-    /// Adds a text, or as much of it as there is room for.
-    pub(crate) fn put(&mut self, place: Place, at: usize, text: &str) -> Result<(), AllocError> {
+    /// Adds a label, shortened if the text is too long.
+    pub(crate) fn put(&mut self, index: Position, at: usize, text: &str) -> Result<(), AllocError> {
         let mut short = String::new(self.alloc);
         push_shortened(&mut short, text)?;
         self.labels.push(Label {
-            place,
+            index,
             at,
             text: short,
         })?;
         Ok(())
     }
 
-    /// Adds the name of an arrow whose row has its top there, and what it shows below the arrow: the lines of a
-    /// text. Answers how far down it all goes.
+    /// Adds the lines of a text as labels of an arrow in a row with this top. The first line is the
+    /// arrow's name; the others are below the arrow. Returns the height of the row's bottom.
     pub(crate) fn stack(
         &mut self,
-        places: (Place, Place),
+        indexes: (Position, Position),
         top: usize,
         text: &str,
     ) -> Result<usize, AllocError> {
-        let lines = pieces(self.alloc, text, '\n')?;
-        self.stack_lines(places, top, lines.as_slice())
+        let lines = chunks(self.alloc, text, '\n')?;
+        self.stack_lines(indexes, top, lines.as_slice())
     }
 
-    /// The same of lines.
+    /// Adds these lines as labels of an arrow, as `stack` does.
     fn stack_lines(
         &mut self,
-        (name, more): (Place, Place),
+        (name, more): (Position, Position),
         top: usize,
         lines: &[&str],
     ) -> Result<usize, AllocError> {
         let arrow = top.saturating_add(ARROW);
         let (mut at, mut foot) = (top.saturating_add(STEP), arrow);
-        let mut place = name;
+        let mut index = name;
         for line in lines {
-            self.put(place, at, line)?;
+            self.put(index, at, line)?;
             foot = foot.max(at);
             at = foot.max(arrow).saturating_add(STEP);
-            place = more;
+            index = more;
         }
         Ok(foot.saturating_add(BELOW))
     }
 
-    /// The labels.
+    /// Returns the labels.
     pub(crate) fn into_vec(self) -> Vec<Label> {
         self.labels
     }
 }
 
-/// Appends a text of at most [`WIDEST`] characters: its front, and `…`, where it has more.
+/// Appends a text of at most [`WIDEST`] characters. A longer one is cut, and ends with `…`.
 fn push_shortened(short: &mut String, text: &str) -> Result<(), AllocError> {
     let mut left = WIDEST;
     for c in text.chars() {

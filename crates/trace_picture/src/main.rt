@@ -1,13 +1,18 @@
-//! `trace-picture`: reads a trace and what its event lines were answered from standard input, a line `%`
-//! between them, and prints a picture of both, a sequence diagram in SVG. `docs/TRACE.md` says what is drawn.
+//! `trace-picture`: reads a trace and the results of its event lines from standard input, separated
+//! by a line `%`, and prints a picture of both, a sequence diagram in SVG. `docs/TRACE.md` says
+//! what is drawn.
 //!
-//! The exit status is 0 where the picture was drawn, 1 at a bad line, 2 where memory was refused, 3 where the
-//! input could not be read or the picture not be written.
+//! The exit status is:
+//!
+//! - 0: the picture was drawn.
+//! - 1: there is a bad line.
+//! - 2: an allocation failed.
+//! - 3: the input could not be read, or the picture could not be written.
 #![tactic(auto)]
 
 mod escape;
 mod event;
-mod front;
+mod head;
 mod kind;
 mod label;
 mod pen;

@@ -1,4 +1,4 @@
-//! What is known while rows are drawn, from the first to the last.
+//! The state while rows are drawn, from the first to the last.
 
 ghost use Rattle.std.specs.Prelude.{IfOk};
 ghost use Rattle.trace_picture.specs.Lines.{IsMarked};
@@ -6,8 +6,8 @@ ghost use Rattle.trace_picture.specs.Lines.{IsMarked};
 use crate::event::Event;
 use crate::kind::{Kind, carries, marks_of};
 use crate::label::{ARROW, Labels, STEP};
-use crate::row::{Label, Place, Row};
-use crate::sent::{Handed, answered_by};
+use crate::row::{Label, Position, Row};
+use crate::sent::{Delivered, answered_by};
 use line_io::lower_hex::read_hex;
 use line_io::refusal::LineError;
 use std::alloc::{AllocError, Global};
@@ -16,88 +16,89 @@ use stun_describe::names::names;
 use stun_types_base::memory::NoMemory;
 use stun_types_wire::names::Names;
 
-/// How far down the foot of the heads stands, in pixels.
+/// The height of the lifeline heads' baseline, in pixels from the top.
 const HEAD: usize = 22;
 
-/// How far down the first row begins, in pixels.
+/// The height of the first row's top, in pixels from the top.
 const TOP: usize = 40;
 
-/// How far apart rows of one moment stand, in pixels.
+/// The distance between two rows with the same time, in pixels.
 const CLOSE: usize = 8;
 
-/// How far apart rows stand at most, in pixels.
+/// The maximum distance between two rows, in pixels.
 const APART: usize = 64;
 
-/// How far below the top of a row its moment has its foot, in pixels: above a call.
-const MOMENT: usize = 4;
+/// The distance of a time's baseline from the top of its row, in pixels. It is above a call.
+const TIME: usize = 4;
 
-/// Nanoseconds of a millisecond.
+/// The number of nanoseconds in a millisecond.
 const MILLISECOND: u64 = 1_000_000;
 
-/// What is known while rows are drawn.
+/// The state while rows are drawn.
 #[derive(Drop)]
 pub(crate) struct Pen {
     alloc: Global,
     names: Names,
-    handed: Handed,
-    /// The bytes that each event line so far was answered.
+    delivered: Delivered,
+    /// The bytes of the result of each event line so far.
     answers: Vec<Vec<u8>>,
-    /// How far down the next row begins.
+    /// The height at which the next row begins.
     down: usize,
-    /// The last moment that was told.
-    moment: Option<u64>,
-    /// The heads of the two lines, where a client was told of.
+    /// The last time that a line had.
+    time: Option<u64>,
+    /// The heads of the two lifelines, if a line has set up a client.
     heads: Option<(String, String)>,
 }
 
-/// Where the arrows of a row are.
+/// The heights of the arrows of a row.
 #[derive(Clone, Copy)]
 struct Laid {
-    /// Whether no later line hands on what it was answered.
+    /// Whether no later line delivers the bytes of the result.
     lost: bool,
-    /// How far down the first arrow runs, in pixels.
+    /// The height of the first arrow, in pixels from the top.
     first: usize,
-    /// How far down a reply runs, in pixels.
+    /// The height of a reply's arrow, in pixels from the top.
     reply: usize,
 }
 
 impl Pen {
-    /// Nothing is drawn yet.
-    pub(crate) fn new(alloc: Global, handed: Handed) -> Result<Pen, NoMemory> {
+    /// Returns the state before the first row.
+    pub(crate) fn new(alloc: Global, delivered: Delivered) -> Result<Pen, NoMemory> {
         Ok(Pen {
             alloc,
             names: names(alloc)?,
-            handed,
+            delivered,
             answers: Vec::new(alloc),
             down: TOP,
-            moment: None,
+            time: None,
             heads: None,
         })
     }
 
-    /// How far down the picture goes.
+    /// Returns the height of the picture.
     pub(crate) fn height(&self) -> usize {
         self.down.saturating_add(STEP)
     }
 
-    /// The heads of the two lines.
+    /// Returns the heads of the two lifelines.
     pub(crate) fn heads(&self) -> Result<Vec<Label>, AllocError> {
         let mut labels = Labels::new(self.alloc);
         let (client, desk) = match &self.heads {
             Some((client, desk)) => (client.as_str(), desk.as_str()),
             None => ("no client", "desk"),
         };
-        labels.put(Place::Client, HEAD, client)?;
-        labels.put(Place::Desk, HEAD, desk)?;
+        labels.put(Position::Client, HEAD, client)?;
+        labels.put(Position::Desk, HEAD, desk)?;
         Ok(labels.into_vec())
     }
 
-    /// Where memory is asked for.
+    /// Returns the allocator.
     pub(crate) fn alloc(&self) -> Global {
         self.alloc
     }
 
-    /// Takes the heads of the two lines from a setup line of these words.
+    /// Takes the heads of the two lifelines from the words of a setup line, if it is a `client`
+    /// line.
     pub(crate) fn set_up(&mut self, words: &[&str]) -> Result<(), AllocError> {
         if let ["client", transport, local, remote, ..] = words {
             let client = format!(in self.alloc; "client {local}, {transport}")?;
@@ -107,7 +108,7 @@ impl Pen {
         Ok(())
     }
 
-    /// The row of an event line.
+    /// Returns the row of an event line.
     pub(crate) fn row(
         &mut self,
         line: &str,
@@ -123,7 +124,7 @@ impl Pen {
             marks: marks_of(
                 self.alloc,
                 event.kind,
-                carries(event.told),
+                carries(event.reported),
                 laid.lost,
                 laid.first,
                 laid.reply,
@@ -132,8 +133,8 @@ impl Pen {
         })
     }
 
-    /// Adds the labels of a row, and keeps the bytes of its answer and how far down it goes. Answers where its
-    /// arrows are.
+    /// Adds the labels of a row, stores the bytes of its result and the height of its bottom, and
+    /// returns the heights of its arrows.
     fn lay(
         &mut self,
         labels: &mut Labels,
@@ -146,30 +147,31 @@ impl Pen {
         self.answers.push(answered)?;
         self.down = foot;
         Ok(Laid {
-            lost: !self.handed.has(number),
+            lost: !self.delivered.has(number),
             first: top.saturating_add(ARROW),
             reply,
         })
     }
 
-    /// Begins a row: its number, and its moment where that is another. Answers how far down its top is.
+    /// Begins a row: adds its number, and its time if this differs from the last one. Returns the
+    /// height of the row's top.
     fn begin(
         &mut self,
         labels: &mut Labels,
         event: &Event<'_, '_, '_, '_>,
     ) -> Result<usize, AllocError> {
         let mut gap = CLOSE;
-        let moment = event.moment();
-        if let Some(now) = moment {
-            gap = gap_between(self.moment, now);
+        let time = event.time();
+        if let Some(now) = time {
+            gap = gap_between(self.time, now);
         }
         let top = self.down.saturating_add(gap);
         self.put_number(labels, top.saturating_add(ARROW))?;
-        if let Some(now) = moment {
-            if self.moment != moment {
-                self.put_moment(labels, top.saturating_add(MOMENT), now)?;
+        if let Some(now) = time {
+            if self.time != time {
+                self.put_time(labels, top.saturating_add(TIME), now)?;
             }
-            self.moment = moment;
+            self.time = time;
         }
         Ok(top)
     }
@@ -178,17 +180,17 @@ impl Pen {
     fn put_number(&self, labels: &mut Labels, at: usize) -> Result<(), AllocError> {
         let number = self.answers.len().saturating_add(1);
         let text = format!(in self.alloc; "{number}")?;
-        labels.put(Place::Number, at, text.as_str())
+        labels.put(Position::Number, at, text.as_str())
     }
 
-    /// Adds a moment.
-    fn put_moment(&self, labels: &mut Labels, at: usize, now: u64) -> Result<(), AllocError> {
-        let text = moment_in_words(self.alloc, now)?;
-        labels.put(Place::Moment, at, text.as_str())
+    /// Adds a time.
+    fn put_time(&self, labels: &mut Labels, at: usize, now: u64) -> Result<(), AllocError> {
+        let text = time_in_words(self.alloc, now)?;
+        labels.put(Position::Time, at, text.as_str())
     }
 
-    /// Adds what is written beside the arrows of a row. Answers how far down a reply runs, and how far down the
-    /// row goes.
+    /// Adds the text beside the arrows of a row. Returns the height of a reply's arrow, and that of
+    /// the row's bottom.
     fn describe(
         &self,
         labels: &mut Labels,
@@ -196,15 +198,15 @@ impl Pen {
         answered: &[u8],
         top: usize,
     ) -> Result<(usize, usize), LineError> {
-        let near = (Place::Near, Place::NearMore);
+        let near = (Position::Near, Position::NearMore);
         let beside = top.saturating_add(ARROW);
         match event.kind {
             Kind::ToDesk => self.describe_desk(labels, event, answered, top),
             Kind::ToClient => {
-                labels.put(Place::BesideMore, beside, event.answer)?;
-                Ok((top, self.stack_handed(labels, near, top, event, "")?))
+                labels.put(Position::BesideMore, beside, event.answer)?;
+                Ok((top, self.stack_delivered(labels, near, top, event, "")?))
             }
-            Kind::Drawing | Kind::Sending if carries(event.told) => {
+            Kind::Drawing | Kind::Sending if carries(event.reported) => {
                 self.put_call(labels, beside, event)?;
                 Ok((top, self.stack_bytes(labels, near, top, answered)?))
             }
@@ -212,7 +214,8 @@ impl Pen {
         }
     }
 
-    /// Adds what the desk is handed, and its reply.
+    /// Adds the text for the bytes that reach the server core, and for its reply. Returns the
+    /// height of the reply's arrow, and that of the row's bottom.
     fn describe_desk(
         &self,
         labels: &mut Labels,
@@ -220,20 +223,20 @@ impl Pen {
         answered: &[u8],
         top: usize,
     ) -> Result<(usize, usize), LineError> {
-        let far = (Place::Far, Place::FarMore);
-        if !carries(event.told) {
+        let far = (Position::Far, Position::FarMore);
+        if !carries(event.reported) {
             return Ok((
                 top,
-                self.stack_handed(labels, far, top, event, "\nno reply")?,
+                self.stack_delivered(labels, far, top, event, "\nno reply")?,
             ));
         }
-        let below = self.stack_handed(labels, far, top, event, "")?;
+        let below = self.stack_delivered(labels, far, top, event, "")?;
         let below = below.saturating_add(CLOSE);
         let foot = self.stack_bytes(labels, far, below, answered)?;
         Ok((below.saturating_add(ARROW), foot))
     }
 
-    /// Adds a call, without its moment, in one line.
+    /// Adds a call, without its time, in one line.
     fn put_call(
         &self,
         labels: &mut Labels,
@@ -242,10 +245,10 @@ impl Pen {
     ) -> Result<(), AllocError> {
         let mut call = String::new(self.alloc);
         event.push_call(&mut call)?;
-        labels.put(Place::BesideMore, at, call.as_str())
+        labels.put(Position::BesideMore, at, call.as_str())
     }
 
-    /// Adds a call, without its moment, and below it its answer. Answers how far down they go.
+    /// Adds a call, without its time, and its result below. Returns the height of their bottom.
     fn stack_call(
         &self,
         labels: &mut Labels,
@@ -255,43 +258,45 @@ impl Pen {
         let mut text = String::new(self.alloc);
         event.push_call(&mut text)?;
         text.push_str("\n")?;
-        text.push_str(event.shown())?;
-        labels.stack((Place::Beside, Place::BesideMore), top, text.as_str())
+        text.push_str(event.visible())?;
+        labels.stack((Position::Beside, Position::BesideMore), top, text.as_str())
     }
 
-    /// Adds what bytes are. Answers how far down that goes.
+    /// Adds the description of bytes. Returns the height of its bottom.
     fn stack_bytes(
         &self,
         labels: &mut Labels,
-        places: (Place, Place),
+        indexes: (Position, Position),
         top: usize,
         bytes: &[u8],
     ) -> Result<usize, NoMemory> {
         let mut text = String::new(self.alloc);
         push_lines(self.alloc, &mut text, bytes, &self.names)?;
-        let foot = labels.stack(places, top, text.as_str())?;
+        let foot = labels.stack(indexes, top, text.as_str())?;
         Ok(foot)
     }
 
-    /// Adds what client or desk is handed, and more text behind that. Answers how far down it all goes.
-    fn stack_handed(
+    /// Adds the description of the bytes that reach the client or the server core, and the text
+    /// `more` after it. Returns the height of their bottom.
+    fn stack_delivered(
         &self,
         labels: &mut Labels,
-        places: (Place, Place),
+        indexes: (Position, Position),
         top: usize,
         event: &Event<'_, '_, '_, '_>,
         more: &str,
     ) -> Result<usize, LineError> {
         let mut text = String::new(self.alloc);
-        self.push_handed(&mut text, event.handed())?;
+        self.push_delivered(&mut text, event.delivered())?;
         text.push_str(more)?;
-        let foot = labels.stack(places, top, text.as_str())?;
+        let foot = labels.stack(indexes, top, text.as_str())?;
         Ok(foot)
     }
 
-    /// Appends what a word of bytes is, in lines: pieces, where it has parts or names a piece of an answer; else
-    /// the answer that it names, or its bytes.
-    fn push_handed(&self, text: &mut String, word: Option<&str>) -> Result<(), LineError> {
+    /// Appends the description of a BYTES word, in lines. A word with several parts, or one that
+    /// names a range of a result, is printed as it is, under the heading `pieces`. For other words
+    /// the result that it names is described, or its hex bytes.
+    fn push_delivered(&self, text: &mut String, word: Option<&str>) -> Result<(), LineError> {
         let Some(word) = word else {
             return Err(LineError::Bad);
         };
@@ -309,8 +314,8 @@ impl Pen {
         Ok(())
     }
 
-    /// The bytes that an event line before this one was answered, lines counted from 1. None where there is no
-    /// such line, or it was answered none.
+    /// Returns the bytes of the result of an earlier event line, counted from 1, or `None` if there
+    /// is no such line or its result has no bytes.
     fn answer(&self, number: usize) -> Option<&[u8]> {
         if number == 0 {
             return None;
@@ -322,8 +327,8 @@ impl Pen {
     }
 }
 
-/// How far apart two rows stand, in pixels: more where there is more time between them, by its digits in
-/// milliseconds.
+/// Returns the distance between two rows, in pixels. It grows with the number of digits of the time
+/// between them in milliseconds.
 fn gap_between(before: Option<u64>, now: u64) -> usize {
     let Some(before) = before else {
         return CLOSE;
@@ -338,8 +343,9 @@ fn gap_between(before: Option<u64>, now: u64) -> usize {
     }
 }
 
-/// A moment: in seconds from ten on, else in milliseconds. `…` stands for what is less than a millisecond.
-fn moment_in_words(alloc: Global, now: u64) -> Result<String, AllocError> {
+/// Returns a time as text: in seconds from ten seconds on, otherwise in milliseconds. `…` stands
+/// for a fraction of a millisecond.
+fn time_in_words(alloc: Global, now: u64) -> Result<String, AllocError> {
     let whole = now / MILLISECOND;
     let more = if now % MILLISECOND == 0 { "" } else { "…" };
     if whole < 10_000 {

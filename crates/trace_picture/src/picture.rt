@@ -1,38 +1,40 @@
-//! The picture of a trace and its answers.
+//! The picture of a trace and its results.
 
 ghost use Rattle.std.specs.Prelude.{ℕ, ◌≡◌, ◌≢◌, ◌++◌, IfOk, List, OnOk, codes, false, map, string_bytes, true};
 ghost use Rattle.std.specs.List.{flat_map};
 ghost use Rattle.std.specs.Option.{option_copied};
-ghost use Rattle.line_io.specs.Cut.{lines_behind, lines_of};
+ghost use Rattle.line_io.specs.Cut.{lines_after, lines_of};
 ghost use Rattle.line_io.specs.LineWords.{AreWords};
-ghost use Rattle.trace_picture.specs.Drawn.{label_text};
+ghost use Rattle.trace_picture.specs.Transmitted.{label_text};
 ghost use Rattle.trace_picture.specs.Lines.{Begins};
-ghost use Rattle.trace_picture.specs.Pictures.{AreDrawn, AreOver, IsPicture, IsShown, IsStep, Parted};
+ghost use Rattle.trace_picture.specs.Pictures.{AreTransmitted, AreOver, IsPicture, IsListed, IsStep, Parted};
 
-use crate::event::{Event, handed_word};
-use crate::front::front;
+use crate::event::{Event, delivered_word};
+use crate::head::head;
 use crate::kind::{Kind, kind_of};
 use crate::pen::Pen;
 use crate::row::{Label, push_labels, push_row};
-use crate::sent::Handed;
+use crate::sent::Delivered;
 use line_io::cut::{cut_line, is_skipped};
 use line_io::refusal::LineError;
 use line_io::stop::{Stop, stop_at};
 use line_io::word::read_words;
 use std::alloc::{AllocError, Global};
 
-/// The picture of a trace and of what its event lines were answered, a line `%` between them.
+/// Returns the picture of a trace and the results of its event lines, which are separated by a line
+/// `%`.
 pub(crate) fn picture(alloc: Global, text: &[u8]) -> Result<String, Stop>
     ensures { IfOk result (λ svg. IsPicture text.now (string_bytes svg)) }
 {
-    let (handed, answers) = find_answers(alloc, text)?;
-    match Pen::new(alloc, handed) {
+    let (delivered, answers) = find_answers(alloc, text)?;
+    match Pen::new(alloc, delivered) {
         Ok(mut pen) => draw_picture(&mut pen, text, answers),
         Err(_) => Err(Stop::NoMemory),
     }
 }
 
-/// The picture of a trace and of these answers, which stand behind it, by a pen that has drawn nothing.
+/// Returns the picture of a trace, drawn by a new pen. `answers` is the part of `text` after the
+/// line `%`.
 fn draw_picture(pen: &mut Pen, text: &[u8], answers: &[u8]) -> Result<String, Stop>
     requires parted { Parted (lines_of text.now) (lines_of answers.now) }
     ensures { IfOk result (λ svg. IsPicture text.now (string_bytes svg)) }
@@ -47,11 +49,12 @@ fn draw_picture(pen: &mut Pen, text: &[u8], answers: &[u8]) -> Result<String, St
     }
 }
 
-/// The answers behind the line `%`, and which lines' bytes the trace before it hands on.
-fn find_answers(alloc: Global, text: &[u8]) -> Result<(Handed, &[u8]), Stop>
+/// Returns the results, which come after the line `%`, and which lines' bytes the trace before it
+/// delivers.
+fn find_answers(alloc: Global, text: &[u8]) -> Result<(Delivered, &[u8]), Stop>
     ensures { IfOk result (λ found. Parted (lines_of text.entry.now) (lines_of found.1.now)) }
 {
-    let mut handed = Handed::new(alloc);
+    let mut delivered = Delivered::new(alloc);
     let mut rest = text;
     let mut number = 0usize;
     'lines: loop {
@@ -61,16 +64,16 @@ fn find_answers(alloc: Global, text: &[u8]) -> Result<(Handed, &[u8]), Stop>
             return Err(Stop::BadLine(number));
         };
         if is_parting(line) {
-            return Ok((handed, after));
+            return Ok((delivered, after));
         }
-        if let Err(error) = note_line(alloc, &mut handed, line) {
+        if let Err(error) = note_line(alloc, &mut delivered, line) {
             return Err(stop_at(number, error));
         }
         rest = after;
     }
 }
 
-/// Whether a line parts the trace from its answers.
+/// Returns whether a line separates the trace from its results.
 fn is_parting(line: &[u8]) -> bool
     ensures yes { result ≡ true → line.now ≡ codes "%" }
     ensures no { result ≡ false → line.now ≢ codes "%" }
@@ -81,23 +84,23 @@ fn is_parting(line: &[u8]) -> bool
     }
 }
 
-/// Notes which lines' bytes a line hands to client or desk.
-fn note_line(alloc: Global, handed: &mut Handed, line: &[u8]) -> Result<(), LineError> {
+/// Notes which lines' bytes a line delivers to the client or to the server core.
+fn note_line(alloc: Global, delivered: &mut Delivered, line: &[u8]) -> Result<(), LineError> {
     if is_skipped(line) {
         return Ok(());
     }
-    handed.begin_line()?;
+    delivered.begin_line()?;
     let words = read_words(alloc, line)?;
-    if let Some(bytes) = handed_word(words.as_slice()) {
-        handed.note(alloc, bytes)?;
+    if let Some(bytes) = delivered_word(words.as_slice()) {
+        delivered.note(alloc, bytes)?;
     }
     Ok(())
 }
 
-/// What is drawn of each event line before the line `%`, one behind another. Each has an answer, and there is
-/// no other.
+/// Returns the rows of the event lines before the line `%`, one after another. Each event line has
+/// to have a result, and there may be no other results.
 fn draw_rows(pen: &mut Pen, text: &[u8], answers: &[u8]) -> Result<String, Stop>
-    ensures { IfOk result (λ rows. AreDrawn (lines_of text.now) (lines_of answers.now)
+    ensures { IfOk result (λ rows. AreTransmitted (lines_of text.now) (lines_of answers.now)
         (string_bytes rows)) }
 {
     let mut svg = String::new(pen.alloc());
@@ -117,16 +120,17 @@ fn draw_rows(pen: &mut Pen, text: &[u8], answers: &[u8]) -> Result<String, Stop>
             };
         }
         match draw_line(pen, &mut svg, line, left) {
-            Ok(behind) => left = behind,
+            Ok(following) => left = following,
             Err(error) => return Err(stop_at(number, error)),
         }
         rest = after;
     }
 }
 
-/// Whether nothing is left of the answers: nothing at all, or what stands behind the last line feed.
+/// Returns whether no results are left: there is no line left, or only the empty one after the last
+/// line feed.
 fn is_over(left: Option<&[u8]>) -> bool
-    ensures { result ≡ true → AreOver (lines_behind (option_copied left.entry)) }
+    ensures { result ≡ true → AreOver (lines_after (option_copied left.entry)) }
 {
     match left {
         Some(text) => text.is_empty(),
@@ -134,15 +138,15 @@ fn is_over(left: Option<&[u8]>) -> bool
     }
 }
 
-/// Appends what is drawn of a line, where it is an event's, and answers which answers are left.
+/// Appends the row of a line, if it is an event line. Returns the results that are left.
 fn draw_line<'a>(
     pen: &mut Pen,
     svg: &mut String,
     line: &[u8],
     left: Option<&'a [u8]>,
 ) -> Result<Option<&'a [u8]>, LineError>
-    ensures { IfOk result (λ behind. IsStep line.now (lines_behind (option_copied left.entry))
-        (lines_behind (option_copied behind)) (string_bytes svg.old) (string_bytes svg.new)) }
+    ensures { IfOk result (λ following. IsStep line.now (lines_after (option_copied left.entry))
+        (lines_after (option_copied following)) (string_bytes svg.old) (string_bytes svg.new)) }
 {
     if is_skipped(line) {
         return Ok(left);
@@ -158,12 +162,12 @@ fn draw_line<'a>(
     let Some(left) = left else {
         return Err(LineError::Bad);
     };
-    let (answer, behind) = cut_line(left);
+    let (answer, following) = cut_line(left);
     draw_event(pen, svg, line, kind, words.as_slice(), answer)?;
-    Ok(behind)
+    Ok(following)
 }
 
-/// Appends what is drawn of an event line of this kind and these words, which was answered so.
+/// Appends the row of an event line with this kind, these words and this result.
 fn draw_event(
     pen: &mut Pen,
     svg: &mut String,
@@ -175,9 +179,10 @@ fn draw_event(
     requires words { AreWords line.now (map (λ x. x.now) words.now) }
     requires begins { Begins (map (λ x. x.now) words.now) kind }
     requires event { kind ≢ Kind.Setup }
-    ensures { OnOk result (IsShown line.now answer.now (string_bytes svg.old) (string_bytes svg.new)) }
+    ensures { OnOk result (IsListed line.now answer.now (string_bytes svg.old)
+        (string_bytes svg.new)) }
 {
-    let told = read_words(pen.alloc(), answer)?;
+    let reported = read_words(pen.alloc(), answer)?;
     let (Ok(line), Ok(answer)) = (std::str::from_utf8(line), std::str::from_utf8(answer)) else {
         return Err(LineError::Bad);
     };
@@ -185,19 +190,19 @@ fn draw_event(
         kind,
         words,
         answer,
-        told: told.as_slice(),
+        reported: reported.as_slice(),
     };
     let row = pen.row(line, &event)?;
     push_row(svg, &row)?;
     Ok(())
 }
 
-/// Rows in the frame of a picture of this height, with the heads of its lines.
+/// Returns a picture with this height: its beginning, the heads of its lifelines, and these rows.
 fn frame(alloc: Global, height: usize, heads: &[Label], rows: &str) -> Result<String, AllocError>
-    ensures { IfOk result (λ svg. (front : List ℕ) × (string_bytes svg
-        ≡ front ++ flat_map label_text heads.now ++ rows.now ++ codes "</svg>\n")) }
+    ensures { IfOk result (λ svg. (head : List ℕ) × (string_bytes svg
+        ≡ head ++ flat_map label_text heads.now ++ rows.now ++ codes "</svg>\n")) }
 {
-    let mut svg = front(alloc, height)?;
+    let mut svg = head(alloc, height)?;
     push_labels(&mut svg, heads)?;
     svg.push_str(rows)?;
     svg.push_str("</svg>\n")?;

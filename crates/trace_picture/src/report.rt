@@ -1,9 +1,9 @@
-//! The input, and the picture of it.
+//! Reading the input, and printing its picture.
 
 ghost use Rattle.std.specs.Prelude.{◌≡◌, ◌≢◌, ◌+◌, Err, OnErr, OnOk};
 ghost use Rattle.std.specs.Io.KnownBytes.{Keeps};
 ghost use Rattle.line_io.specs.Input.{TakesAtMost};
-ghost use Rattle.trace_picture.specs.Shown.{Draws, Prints};
+ghost use Rattle.trace_picture.specs.Visible.{Draws, Prints};
 
 use crate::picture::picture;
 use line_io::input::{InputError, MAX_INPUT, read_input};
@@ -12,14 +12,17 @@ use line_io::stop::{Stop, flush, print_stop};
 use std::alloc::Global;
 use std::io::{Read, Write};
 
-/// Reads an input whole, and prints the picture of it. At the first bad line it prints `bad trace: line N`,
-/// lines counted from 1, and no picture: at a line that can't be read, an event line without an answer, the
-/// line `%` where more answers stand behind it than event lines before it, the last line where none is `%`.
-/// Where memory is refused it prints `no memory`; where the input can't be read or is too long `read fault`.
+/// Reads a whole input, and prints its picture. If there is no picture, it prints one line instead:
+///
+/// - `bad trace: line N` at the first bad line; lines are counted from 1. A bad line is one that
+///   can't be read; an event line without a result; the line `%`, if there are more results than
+///   event lines; or the last line, if no line is `%`.
+/// - `no memory` if an allocation failed.
+/// - `read fault` if the input can't be read or is too long.
 pub(crate) fn draw<I: Read, O: Write>(alloc: Global, input: &mut I, output: &mut O) -> Status
-    // At most one byte more than the longest input is taken from the reader.
+    // At most one byte more than the maximum length of an input is read.
     ensures taken { TakesAtMost (MAX_INPUT + 1) (I.remaining input.old) (I.remaining input.new) }
-    // What is printed is the picture of all that the reader had, or why there is none.
+    // The output is the picture of everything that the reader had, or the reason why there is none.
     ensures printed { Prints result (I.remaining input.old) (I.remaining input.new)
         (O.contents output.old) (O.contents output.new) }
 {
@@ -29,12 +32,12 @@ pub(crate) fn draw<I: Read, O: Write>(alloc: Global, input: &mut I, output: &mut
     }
 }
 
-/// Reads an input whole, and prints the picture of it.
+/// Reads a whole input, and prints its picture.
 fn draw_input<I: Read, O: Write>(alloc: Global, input: &mut I, output: &mut O) -> Result<(), Stop>
     ensures taken { TakesAtMost (MAX_INPUT + 1) (I.remaining input.old) (I.remaining input.new) }
     ensures done { OnOk result (Draws (I.remaining input.old) (I.remaining input.new)
         (O.contents output.old) (O.contents output.new)) }
-    ensures kept { result ≢ Err Stop.Unwritten → OnErr result
+    ensures stored { result ≢ Err Stop.Unwritten → OnErr result
         (Keeps (O.contents output.old) (O.contents output.new)) }
 {
     let text = match read_input(alloc, input) {

@@ -1,82 +1,82 @@
-//! What is drawn of one event line: its arrows and its labels.
+//! The row of one event line: its arrows and its labels.
 
 ghost use Rattle.std.specs.Prelude.{◌≡◌, ◌++◌, OnOk, codes, string_bytes};
 ghost use Rattle.std.specs.List.{flat_map};
-ghost use Rattle.trace_picture.specs.Drawn.{arrow_back, arrow_front, label_text, mark_text, place_front, place_text, row_text};
+ghost use Rattle.trace_picture.specs.Transmitted.{arrow_back, arrow_head, label_text, mark_text, index_head, index_text, row_text};
 
 use crate::escape::push_escaped;
 use std::alloc::{AllocError, Global};
 
-/// How an arrow runs.
+/// What an arrow stands for.
 #[derive(Clone, Copy)]
 pub enum Arrow {
     /// A call of the client.
     Called,
-    /// The client sends into the network.
+    /// The client transmits into the network.
     Sent,
-    /// The client sends a message that was due, and nobody is handed it.
+    /// The client transmits a message that was due, and it is never delivered.
     SentLost,
-    /// The network hands the client something.
-    Heard,
-    /// The network hands the desk something.
+    /// The network delivers bytes to the client.
+    Processed,
+    /// The network delivers bytes to the server core.
     Reached,
-    /// The desk replies into the network.
+    /// The server core replies into the network.
     Replied,
-    /// The desk replies, and nobody is handed the reply.
+    /// The server core replies, and the reply is never delivered.
     ReplyLost,
 }
 
-/// An arrow, and how far down it runs, in pixels.
+/// An arrow and its height, in pixels from the top.
 #[derive(Clone, Copy)]
 pub struct Mark {
-    /// How it runs.
+    /// What it stands for.
     pub arrow: Arrow,
-    /// How far down.
+    /// Its height.
     pub at: usize,
 }
 
-/// Where a label stands.
+/// The column and the role of a label.
 #[derive(Clone, Copy)]
-pub enum Place {
+pub enum Position {
     /// The number of an event line.
     Number,
-    /// A moment.
-    Moment,
+    /// A time.
+    Time,
     /// A call, beside the client.
     Beside,
-    /// An answer, beside the client.
+    /// A result, beside the client.
     BesideMore,
-    /// The name of what runs between client and network.
+    /// The name of an arrow between client and network.
     Near,
-    /// What it shows.
+    /// The details below the arrow.
     NearMore,
-    /// The name of what runs between network and desk.
+    /// The name of an arrow between network and server core.
     Far,
-    /// What it shows.
+    /// The details below the arrow.
     FarMore,
-    /// The head of the client's line.
+    /// The head of the client's lifeline.
     Client,
-    /// The head of the desk's line.
+    /// The head of the server core's lifeline.
     Desk,
 }
 
-/// A text, where it stands, and how far down its foot is, in pixels.
+/// A text, its place, and the height of its baseline, in pixels from the top.
 #[derive(Drop)]
 pub struct Label {
-    /// Where it stands.
-    pub place: Place,
-    /// How far down.
+    /// Its place.
+    pub index: Position,
+    /// The height of its baseline.
     pub at: usize,
     /// The text.
     pub text: String,
 }
 
-/// What is drawn of one event line.
+/// The row of one event line.
 #[derive(Drop)]
 pub struct Row {
     /// The line.
     pub line: String,
-    /// What it was answered.
+    /// Its result.
     pub answer: String,
     /// The arrows.
     pub marks: Vec<Mark>,
@@ -84,8 +84,9 @@ pub struct Row {
     pub labels: Vec<Label>,
 }
 
-/// Appends what is drawn of one event line: line and answer as the title of a group, arrows, labels.
-#[tactic(auto, unfolding(crate::specs::Drawn::row_text))]
+/// Appends the row of one event line: a group with the line and the result as its title, the
+/// arrows, and the labels.
+#[tactic(auto, unfolding(crate::specs::Transmitted::row_text))]
 pub(crate) fn push_row(svg: &mut String, row: &Row) -> Result<(), AllocError>
     ensures { OnOk result (string_bytes svg.new ≡ string_bytes svg.old ++ row_text row.now) }
 {
@@ -111,31 +112,31 @@ fn push_marks(svg: &mut String, marks: &[Mark]) -> Result<(), AllocError>
 }
 
 /// Appends an arrow.
-#[tactic(auto, unfolding(crate::specs::Drawn::mark_text))]
+#[tactic(auto, unfolding(crate::specs::Transmitted::mark_text))]
 fn push_mark(svg: &mut String, mark: Mark) -> Result<(), AllocError>
     ensures { OnOk result (string_bytes svg.new ≡ string_bytes svg.old ++ mark_text mark) }
 {
-    let (front, at, back) = (arrow_front(mark.arrow), mark.at, arrow_back(mark.arrow));
-    write!(svg, "<path class=\"{front} {at}{back}\"/>\n")?;
+    let (head, at, back) = (arrow_head(mark.arrow), mark.at, arrow_back(mark.arrow));
+    write!(svg, "<path class=\"{head} {at}{back}\"/>\n")?;
     Ok(())
 }
 
-/// The class of an arrow, and where it begins.
-fn arrow_front(arrow: Arrow) -> &'static str
-    ensures { result.now ≡ arrow_front arrow }
+/// Returns the class of an arrow, and where it begins.
+fn arrow_head(arrow: Arrow) -> &'static str
+    ensures { result.now ≡ arrow_head arrow }
 {
     match arrow {
         Arrow::Called => "c\" d=\"M 96",
         Arrow::Sent => "a\" d=\"M 320",
         Arrow::SentLost => "x\" d=\"M 320",
-        Arrow::Heard => "a\" d=\"M 560",
+        Arrow::Processed => "a\" d=\"M 560",
         Arrow::Reached => "a\" d=\"M 596",
         Arrow::Replied => "a\" d=\"M 836",
         Arrow::ReplyLost => "x\" d=\"M 836",
     }
 }
 
-/// Where an arrow ends.
+/// Returns where an arrow ends.
 fn arrow_back(arrow: Arrow) -> &'static str
     ensures { result.now ≡ arrow_back arrow }
 {
@@ -143,7 +144,7 @@ fn arrow_back(arrow: Arrow) -> &'static str
         Arrow::Called => " H 318",
         Arrow::Sent => " H 558",
         Arrow::SentLost => " H 520",
-        Arrow::Heard => " H 322",
+        Arrow::Processed => " H 322",
         Arrow::Reached => " H 834",
         Arrow::Replied => " H 598",
         Arrow::ReplyLost => " H 636",
@@ -162,39 +163,39 @@ pub(crate) fn push_labels(svg: &mut String, labels: &[Label]) -> Result<(), Allo
 }
 
 /// Appends a label.
-#[tactic(auto, unfolding(crate::specs::Drawn::label_text))]
+#[tactic(auto, unfolding(crate::specs::Transmitted::label_text))]
 fn push_label(svg: &mut String, label: &Label) -> Result<(), AllocError>
     ensures { OnOk result (string_bytes svg.new ≡ string_bytes svg.old ++ label_text label.now) }
 {
-    push_place(svg, label.place, label.at)?;
+    push_index(svg, label.index, label.at)?;
     push_escaped(svg, label.text.as_str())?;
     svg.push_str("</text>\n")
 }
 
 /// Appends the beginning of a label.
-#[tactic(auto, unfolding(crate::specs::Drawn::place_text))]
-fn push_place(svg: &mut String, place: Place, at: usize) -> Result<(), AllocError>
-    ensures { OnOk result (string_bytes svg.new ≡ string_bytes svg.old ++ place_text place at) }
+#[tactic(auto, unfolding(crate::specs::Transmitted::index_text))]
+fn push_index(svg: &mut String, index: Position, at: usize) -> Result<(), AllocError>
+    ensures { OnOk result (string_bytes svg.new ≡ string_bytes svg.old ++ index_text index at) }
 {
-    let front = place_front(place);
-    write!(svg, "<text class=\"{front}\" y=\"{at}\">")?;
+    let head = index_head(index);
+    write!(svg, "<text class=\"{head}\" y=\"{at}\">")?;
     Ok(())
 }
 
-/// The class of a label, and how far right it stands.
-fn place_front(place: Place) -> &'static str
-    ensures { result.now ≡ place_front place }
+/// Returns the class of a label, and its horizontal position.
+fn index_head(index: Position) -> &'static str
+    ensures { result.now ≡ index_head index }
 {
-    match place {
-        Place::Number => "e d\" x=\"20",
-        Place::Moment => "e d\" x=\"88",
-        Place::Beside => "e\" x=\"312",
-        Place::BesideMore => "e d\" x=\"312",
-        Place::Near => "m\" x=\"440",
-        Place::NearMore => "m d\" x=\"440",
-        Place::Far => "m\" x=\"716",
-        Place::FarMore => "m d\" x=\"716",
-        Place::Client => "m w\" x=\"320",
-        Place::Desk => "e w\" x=\"872",
+    match index {
+        Position::Number => "e d\" x=\"20",
+        Position::Time => "e d\" x=\"88",
+        Position::Beside => "e\" x=\"312",
+        Position::BesideMore => "e d\" x=\"312",
+        Position::Near => "m\" x=\"440",
+        Position::NearMore => "m d\" x=\"440",
+        Position::Far => "m\" x=\"716",
+        Position::FarMore => "m d\" x=\"716",
+        Position::Client => "m w\" x=\"320",
+        Position::Desk => "e w\" x=\"872",
     }
 }

@@ -1,44 +1,46 @@
-//! Which event lines' bytes are handed to somebody.
+//! Which event lines' bytes are delivered to the client or to the server core.
 
-use line_io::word::pieces;
+use line_io::word::chunks;
 use std::alloc::{AllocError, Global};
 
-/// The lines of a trace whose bytes a later line hands to client or desk, by their numbers among the event lines.
+/// The event lines whose bytes a later line delivers to the client or to the server core, by their
+/// numbers.
 #[derive(Drop)]
-pub(crate) struct Handed {
-    /// One for each line so far: whether its number names one whose bytes are handed on.
-    places: Vec<bool>,
+pub(crate) struct Delivered {
+    /// One flag for each line so far: whether the event line with this number is one whose bytes
+    /// are delivered.
+    indexes: Vec<bool>,
 }
 
-impl Handed {
-    /// None.
-    pub(crate) fn new(alloc: Global) -> Handed {
-        Handed {
-            places: Vec::new(alloc),
+impl Delivered {
+    /// Returns an empty list.
+    pub(crate) fn new(alloc: Global) -> Delivered {
+        Delivered {
+            indexes: Vec::new(alloc),
         }
     }
 
-    /// Makes room for one more line: no line names a later one.
+    /// Makes room for one more line. No line names a later one.
     pub(crate) fn begin_line(&mut self) -> Result<(), AllocError> {
-        self.places.push(false)?;
+        self.indexes.push(false)?;
         Ok(())
     }
 
-    /// Whether the bytes of an event line are handed to somebody.
+    /// Returns whether the bytes of an event line are delivered.
     pub(crate) fn has(&self, number: usize) -> bool {
-        match self.places.get(number) {
-            Some(is_handed) => *is_handed,
+        match self.indexes.get(number) {
+            Some(is_delivered) => *is_delivered,
             None => false,
         }
     }
 
-    /// Notes the lines whose bytes stand in a word of bytes.
+    /// Notes the lines whose bytes a BYTES word names.
     pub(crate) fn note(&mut self, alloc: Global, word: &str) -> Result<(), AllocError> {
-        let parts = pieces(alloc, word, '+')?;
+        let parts = chunks(alloc, word, '+')?;
         for part in parts.as_slice() {
             if let Some(number) = answered_by(part) {
-                if let Some(place) = self.places.get_mut(number) {
-                    *place = true;
+                if let Some(index) = self.indexes.get_mut(number) {
+                    *index = true;
                 }
             }
         }
@@ -46,7 +48,8 @@ impl Handed {
     }
 }
 
-/// The number of the event line whose answer a part of a word of bytes names, `@k` or `@k:a:b`.
+/// Returns the number of the event line whose result a part of a BYTES word names, `@k` or
+/// `@k:a:b`.
 pub(crate) fn answered_by(part: &str) -> Option<usize> {
     let reference = part.strip_prefix('@')?;
     match reference.split_once(':') {

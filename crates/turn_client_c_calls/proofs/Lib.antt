@@ -1,5 +1,5 @@
 pub mod Calling
 pub mod Handles
 pub mod Showing
-pub mod Telling
+pub mod Reporting
 pub mod Values

@@ -1,4 +1,4 @@
--- The answers of the trait's calls, by the statuses that tell them to C.
+-- The results of the trait's calls, by the statuses that report them to C.
 use Rattle.std.specs.Prelude.{ℕ, ℤ, Option, Some, None, Result, Ok, Err, if◌then◌else◌}
 use Rattle.turn_client_proto_api.specs.declared.error.BindChannelError.{BindChannelError}
 use Rattle.turn_client_proto_api.specs.declared.error.BindChannelError.TheVariants as binding
@@ -25,7 +25,7 @@ permission_answer s =
     else if same s already_exists then Some (Err permission.AlreadyExists)
     else if same s no_memory then Some (Err permission.NoMemory) else None
 
--- with the last moment at which a channel that ended is a bar
+-- With the last time at which an expired channel makes the peer refused.
 abbrev pub bind_answer : ℤ → ℕ → Option (Result (Unit {0}) BindChannelError)
 bind_answer s until =
     if same s ok then Some (Ok tt)
@@ -50,6 +50,6 @@ socket_answer s =
     else if same s already_exists then Some (Err socket.AlreadyExists)
     else if same s no_memory then Some (Err socket.NoMemory) else None
 
--- done, or memory was refused
+-- Success, or a failed allocation.
 abbrev pub memory_answer : ℤ → Option (Result (Unit {0}) (Unit {0}))
 memory_answer s = if same s ok then Some (Ok tt) else if same s no_memory then Some (Err tt) else None

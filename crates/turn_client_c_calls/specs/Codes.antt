@@ -1,7 +1,7 @@
--- What a call answers C, by the numbers of `enum turn_status`.
+-- The results of calls, by the numbers of `enum turn_status`.
 use Rattle.std.specs.Prelude.{◌==◌, ℤ, pos, negsuc, Bool, false}
 
--- whether two statuses are the same
+-- Two statuses are equal.
 abbrev pub same : ℤ → ℤ → Bool
 same (pos n) (pos m) = n == m
 same (negsuc n) (negsuc m) = n == m

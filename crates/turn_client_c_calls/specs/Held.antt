@@ -7,22 +7,22 @@ use Rattle.std.specs.declared.option.Option.TheVariants.{None, Some}
 use Rattle.std.specs.declared.alloc.Global.{Global}
 use Rattle.std.specs.contracts.impls.GlobalAllocator.TheImpl.{ghosts}
 use Rattle.std_alloc.specs.Box.Ownership.{box_owns}
-use Rattle.turn_client_c_calls.specs.contracts.whole.Whole.{the_row}
-use Rattle.turn_client_c_calls.specs.declared.whole.Whole.{Whole}
+use Rattle.turn_client_c_calls.specs.contracts.whole.HandleState.{the_row}
+use Rattle.turn_client_c_calls.specs.declared.whole.HandleState.{HandleState}
 
--- a client, as contracts see it; none where there is no client
+-- A client as contracts see it, or `None`.
 abbrev pub Held : Type 0
-Held = Option Whole
+Held = Option HandleState
 
--- the code of such a value, by which proofs tell values apart
+-- An injective code of such a value, by which proofs distinguish values.
 abbrev pub held_code : Coded Held
 held_code = coded_option the_row.coded
 
--- the handle of the heap, which is one value
+-- The allocator of the heap, a type of one value.
 abbrev pub heap : Global
 heap = record { memory = record { seal = tt } }
 
--- the box of the client behind the pointer; nothing where there is none
+-- The box of the client behind the pointer is owned; nothing is, if there is no client.
 abbrev pub held : Ptr → Held → Fml
 held p None = ftrue
 held p (Some x) = box_owns (ghosts.dealloc_token heap) the_row p x

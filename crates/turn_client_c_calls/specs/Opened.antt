@@ -1,4 +1,4 @@
--- What a client is that C opened, and why one isn't opened.
+-- What a client is that C opened, and why one is not opened.
 use Rattle.std.specs.Prelude.{◌≡◌, ◌⊎◌, ◌≤◌, ◌<◌, ◌||◌, ℕ, ℤ, Bool, true, is_some, List, [], length, Some, None, IsUtf8}
 use Rattle.std.specs.declared.net.socket_addr.SocketAddr.{SocketAddr}
 use Rattle.stun_types_wire.specs.Registry.{longest_username}
@@ -6,7 +6,7 @@ use Rattle.stun_types_base.specs.declared.transport.TransportType.{TransportType
 use Rattle.stun_types_base.specs.declared.transport.TransportType.TheVariants.{Udp, Tcp}
 use Rattle.turn_types_frame.specs.Streams.{alive}
 use Rattle.turn_client_proto.specs.Core.Beginning.{IsNew}
-use Rattle.turn_client_proto.specs.Clients.{kept_of}
+use Rattle.turn_client_proto.specs.Clients.{stored_of}
 use Rattle.turn_client_proto_api.specs.Config.{Config}
 use Rattle.turn_client_proto.specs.Recv.Control.{Control, Datagrams, Open}
 use Rattle.turn_client_proto.specs.declared.client.TurnClient.{TurnClient}
@@ -16,21 +16,21 @@ use Rattle.turn_client_c_calls.specs.Codes.{same}
 use Rattle.turn_client_c_calls.specs.Held.{Held}
 use Rattle.turn_client_c_types.specs.Settings.{config_of, transports_of}
 use Rattle.turn_client_c_types.specs.declared.settings.TurnSettings.{TurnSettings}
-use Rattle.turn_client_c_calls.specs.declared.whole.Whole.{Whole}
+use Rattle.turn_client_c_calls.specs.declared.whole.HandleState.{HandleState}
 
--- how bytes come to a new client
+-- How bytes arrive at a new client.
 abbrev pub first_control : TransportType → Control
 first_control Udp = Datagrams
 first_control Tcp = Open (alive [])
 
--- a new client by a transport, between two addresses
-pub record IsBegun (by : TransportType) (local server : SocketAddr) (config : Config) (seed : List ℕ)
+-- The client is new, over this transport and between these addresses.
+pub record IsStarted (by : TransportType) (local server : SocketAddr) (config : Config) (seed : List ℕ)
     (client : TurnClient) : Type 0 where
-  pub is_new : IsNew by local server config seed (kept_of client).core
-  pub control : (kept_of client).control ≡ first_control by
+  pub is_new : IsNew by local server config seed (stored_of client).core
+  pub control : (stored_of client).control ≡ first_control by
 
--- a new client of a user, with settings each of which names something
-pub record IsOpened (s : TurnSettings) (name password seed : List ℕ) (whole : Whole) : Type 0 where
+-- The client is new and of this user, all of its settings are valid, and no joined bytes are unread.
+pub record IsOpened (s : TurnSettings) (name password seed : List ℕ) (whole : HandleState) : Type 0 where
   pub local : SocketAddr
   pub local_is : address_of s.local ≡ Some local
   pub server : SocketAddr
@@ -40,7 +40,7 @@ pub record IsOpened (s : TurnSettings) (name password seed : List ℕ) (whole : 
   pub name_is_text : IsUtf8 name
   pub password_is_text : IsUtf8 password
   pub short : length name ≤ longest_username
-  pub begun : IsBegun by.0 local server (config_of s by.1 (record { username = name; password = password })) seed
+  pub started : IsStarted by.0 local server (config_of s by.1 (record { username = name; password = password })) seed
       whole.client
   pub none_wait : whole.joined.items ≡ []
 
@@ -48,12 +48,13 @@ abbrev pub HoldsOpened : TurnSettings → (name password seed : List ℕ) → He
 HoldsOpened s name password seed None = ⊥
 HoldsOpened s name password seed (Some whole) = IsOpened s name password seed whole
 
--- what is answered
+-- The statuses that `turn_client_open` returns.
 abbrev pub is_answer : ℤ → Bool
 is_answer s = same s code.ok || (same s code.already_open || (same s code.bad_family || (same s code.bad_setting
     || (same s code.bad_text || (same s code.long_name || same s code.no_memory)))))
 
--- each refusal comes where it says so; and that the handle is open, just where it is
+-- A status of `turn_client_open` is returned only if its reason holds. It is `already_open` if and only if
+-- the handle is open.
 pub record WhyNot (old : Held) (s : TurnSettings) (name password : List ℕ) (status : ℤ) : Type 0 where
   pub answer : is_answer status ≡ true
   pub already : is_some old ≡ true → status ≡ code.already_open

@@ -1,9 +1,9 @@
-//! The calls that ask the server for something.
+//! The calls that request something from the server.
 
 ghost use Rattle.std.specs.Prelude.{◌≡◌, Err, Some};
 ghost use Rattle.turn_client_c_types.specs.Addresses.{address_of, transport_of};
 ghost use Rattle.turn_client_c_calls.specs.Answers.{bind_answer, connect_answer, delete_answer, permission_answer};
-ghost use Rattle.turn_client_c_calls.specs.Calls.{Named, OnClient, OnCore, Tells};
+ghost use Rattle.turn_client_c_calls.specs.Calls.{Named, OnClient, OnCore, Reports};
 ghost use Rattle.turn_client_c_calls.specs.Codes.{bad_family, bad_setting};
 ghost use Rattle.std.specs.Net.Socket.{socket_ip};
 ghost use Rattle.turn_client_proto.specs.Recv.Connecting.{IsConnectAnswered};
@@ -21,10 +21,10 @@ use turn_client_proto_api::error::{
     BindChannelError, CreatePermissionError, DeleteError, TcpConnectError,
 };
 
-/// Asks for the end of the allocations (RFC 8656, section 8.1).
+/// Requests the end of all allocations (RFC 8656, section 8.1).
 pub fn turn_client_delete(alloc: Global, client: &mut TurnHandle, now: u64) -> i32
-    ensures { OnClient client.old.hold.value client.new.hold.value result (λ old new.
-        Tells (delete_answer result) (λ answer.
+    ensures { OnClient client.old.boxed_client.value client.new.boxed_client.value result (λ old new.
+        Reports (delete_answer result) (λ answer.
         OnCore (λ old new. IsDeleteAnswered old now answer new) old new)) }
 {
     let Some(mut whole) = client.take(alloc) else {
@@ -39,7 +39,8 @@ pub fn turn_client_delete(alloc: Global, client: &mut TurnHandle, now: u64) -> i
     }
 }
 
-/// Asks for a permission for the address of a peer, whose port doesn't count (RFC 8656, section 9).
+/// Requests a permission for a peer's IP address (RFC 8656, section 9). The peer's port does not
+/// count.
 pub fn turn_client_permit(
     alloc: Global,
     client: &mut TurnHandle,
@@ -47,12 +48,12 @@ pub fn turn_client_permit(
     peer: &TurnAddress,
     now: u64,
 ) -> i32
-    ensures { Named (transport_of transport) bad_setting client.old.hold.value client.new.hold.value
+    ensures { Named (transport_of transport) bad_setting client.old.boxed_client.value client.new.boxed_client.value
         result (λ by.
-        Named (address_of peer.now) bad_family client.old.hold.value client.new.hold.value
+        Named (address_of peer.now) bad_family client.old.boxed_client.value client.new.boxed_client.value
         result (λ to.
-        OnClient client.old.hold.value client.new.hold.value result (λ old new.
-        Tells (permission_answer result) (λ answer.
+        OnClient client.old.boxed_client.value client.new.boxed_client.value result (λ old new.
+        Reports (permission_answer result) (λ answer.
         OnCore (λ old new. IsPermissionAnswered old by (socket_ip to) now answer new) old new)))) }
 {
     let Some(by) = transport_of(transport) else {
@@ -76,14 +77,14 @@ pub fn turn_client_permit(
     }
 }
 
-/// Tells why no channel is asked for.
-fn tell_unbound(error: BindChannelError, until: &mut u64) -> i32
+/// Returns the status of an error of `bind_channel`, and writes the time of `ExpiredChannelExists`.
+fn report_unbound(error: BindChannelError, until: &mut u64) -> i32
     ensures { bind_answer result until.new ≡ Some (Err error) }
 {
     match error {
         BindChannelError::AlreadyExists => status::ALREADY_EXISTS,
-        BindChannelError::ExpiredChannelExists(moment) => {
-            *until = moment.as_nanos();
+        BindChannelError::ExpiredChannelExists(time) => {
+            *until = time.as_nanos();
             status::EXPIRED_CHANNEL
         }
         BindChannelError::NoAllocation => status::NO_ALLOCATION,
@@ -92,8 +93,8 @@ fn tell_unbound(error: BindChannelError, until: &mut u64) -> i32
     }
 }
 
-/// Asks for a channel to a peer (RFC 8656, section 12). Where one ended a short while ago, the last moment
-/// at which that is a bar is written to `until`.
+/// Requests a channel to a peer (RFC 8656, section 12). If one expired a short while ago, writes to
+/// `until` the last time at which the peer is refused for that.
 pub fn turn_client_bind(
     alloc: Global,
     client: &mut TurnHandle,
@@ -102,12 +103,12 @@ pub fn turn_client_bind(
     now: u64,
     until: &mut u64,
 ) -> i32
-    ensures { Named (transport_of transport) bad_setting client.old.hold.value client.new.hold.value
+    ensures { Named (transport_of transport) bad_setting client.old.boxed_client.value client.new.boxed_client.value
         result (λ by.
-        Named (address_of peer.now) bad_family client.old.hold.value client.new.hold.value
+        Named (address_of peer.now) bad_family client.old.boxed_client.value client.new.boxed_client.value
         result (λ to.
-        OnClient client.old.hold.value client.new.hold.value result (λ old new.
-        Tells (bind_answer result until.new) (λ answer.
+        OnClient client.old.boxed_client.value client.new.boxed_client.value result (λ old new.
+        Reports (bind_answer result until.new) (λ answer.
         OnCore (λ old new. IsBindAnswered old by to now answer new) old new)))) }
 {
     let Some(by) = transport_of(transport) else {
@@ -123,21 +124,21 @@ pub fn turn_client_bind(
     client.put(whole);
     match answer {
         Ok(()) => status::OK,
-        Err(error) => tell_unbound(error, until),
+        Err(error) => report_unbound(error, until),
     }
 }
 
-/// Asks for a connection to a peer (RFC 6062, section 4.3).
+/// Requests a TCP connection to a peer (RFC 6062, section 4.3).
 pub fn turn_client_connect(
     alloc: Global,
     client: &mut TurnHandle,
     peer: &TurnAddress,
     now: u64,
 ) -> i32
-    ensures { Named (address_of peer.now) bad_family client.old.hold.value client.new.hold.value
+    ensures { Named (address_of peer.now) bad_family client.old.boxed_client.value client.new.boxed_client.value
         result (λ to.
-        OnClient client.old.hold.value client.new.hold.value result (λ old new.
-        Tells (connect_answer result) (λ answer.
+        OnClient client.old.boxed_client.value client.new.boxed_client.value result (λ old new.
+        Reports (connect_answer result) (λ answer.
         OnCore (λ old new. IsConnectAnswered old to now answer new) old new))) }
 {
     let Some(to) = peer.to_socket() else {

@@ -1,8 +1,8 @@
-//! The calls that show what the client holds.
+//! The calls that list what the client holds.
 
 ghost use Rattle.std.specs.Prelude.{◌≡◌, false};
-ghost use Rattle.turn_client_c_types.specs.Addresses.{told_ip};
-ghost use Rattle.turn_client_c_calls.specs.Shown.{Lists, Shows, is_permitted, named, permitted_of, told_channel, told_connection, told_relayed};
+ghost use Rattle.turn_client_c_types.specs.Addresses.{reported_ip};
+ghost use Rattle.turn_client_c_calls.specs.Visible.{Lists, Shows, is_permitted, named, permitted_of, reported_channel, reported_connection, reported_relayed};
 ghost use Rattle.turn_client_proto.specs.Getters.{channels_of, connections_of, relayed_of};
 
 use crate::handle::TurnHandle;
@@ -16,7 +16,7 @@ use turn_client_proto::api::TurnClientApi;
 #[repr(C)]
 #[derive(Clone, Copy)]
 pub struct TurnRelayed {
-    /// The transport between the server and the peers, by its number in IP.
+    /// The transport between the server and the peers, by its protocol number in IP.
     pub transport: u32,
     /// The address.
     pub address: TurnAddress,
@@ -26,9 +26,9 @@ pub struct TurnRelayed {
 #[repr(C)]
 #[derive(Clone, Copy)]
 pub struct TurnChannel {
-    /// Its number.
+    /// The channel's number.
     pub number: u16,
-    /// Its peer.
+    /// The channel's peer.
     pub peer: TurnAddress,
 }
 
@@ -40,13 +40,14 @@ pub struct TurnConnection {
     pub local: TurnAddress,
     /// The peer.
     pub peer: TurnAddress,
-    /// The number by which the server knows it.
+    /// The ID by which the server knows it.
     pub id: u32,
     /// Whether it is bound.
     pub is_bound: bool,
 }
 
-/// A transport and an address, where each names something.
+/// Returns the transport with this protocol number and the address, or `None` if one of them is
+/// invalid.
 fn named(transport: u32, address: &TurnAddress) -> Option<(TransportType, SocketAddr)>
     ensures { result ≡ named transport address.now }
 {
@@ -56,30 +57,31 @@ fn named(transport: u32, address: &TurnAddress) -> Option<(TransportType, Socket
     }
 }
 
-/// Writes the relayed addresses, as many as there is room for. Answers how many there are.
+/// Writes the relayed addresses, as many as there is room for. Returns how many there are.
 pub fn turn_client_relayed(alloc: Global, client: &mut TurnHandle, out: &mut [TurnRelayed]) -> usize
-    ensures { Lists told_relayed (λ kept. relayed_of kept.core) client.old.hold.value
-        client.new.hold.value result out.old out.new }
+    ensures { Lists reported_relayed (λ stored. relayed_of stored.core) client.old.boxed_client.value
+        client.new.boxed_client.value result out.old out.new }
 {
     let Some(whole) = client.take(alloc) else {
         return 0;
     };
-    let mut shown = whole.client.relayed_addresses();
-    let count = shown.len();
+    let mut visible = whole.client.relayed_addresses();
+    let count = visible.len();
     for slot in out.iter_mut() {
-        let Some((transport, address)) = shown.next() else {
+        let Some((transport, address)) = visible.next() else {
             break;
         };
         slot.transport = number_of(transport);
-        slot.address.tell(&address);
+        slot.address.report(&address);
     }
     client.put(whole);
     count
 }
 
-/// Writes the addresses that are permitted at a relayed address. Answers how many there are; none where the
-/// transport or the family names nothing.
-#[tactic(auto, using(crate::proofs::Showing::none_shown))]
+/// Writes the IP addresses that have a permission in the allocation of a relayed address, as many
+/// as there is room for. Returns how many there are, and 0 if the transport or the address family
+/// is invalid.
+#[tactic(auto, using(crate::proofs::Showing::none_visible))]
 pub fn turn_client_permissions(
     alloc: Global,
     client: &mut TurnHandle,
@@ -87,8 +89,8 @@ pub fn turn_client_permissions(
     relayed: &TurnAddress,
     out: &mut [TurnAddress],
 ) -> usize
-    ensures { Lists told_ip (permitted_of transport relayed.now) client.old.hold.value
-        client.new.hold.value result out.old out.new }
+    ensures { Lists reported_ip (permitted_of transport relayed.now) client.old.boxed_client.value
+        client.new.boxed_client.value result out.old out.new }
 {
     let Some(whole) = client.take(alloc) else {
         return 0;
@@ -97,84 +99,86 @@ pub fn turn_client_permissions(
         client.put(whole);
         return 0;
     };
-    let mut shown = whole.client.permissions(by, at);
-    let count = shown.len();
+    let mut visible = whole.client.permissions(by, at);
+    let count = visible.len();
     for slot in out.iter_mut() {
-        let Some(ip) = shown.next() else {
+        let Some(ip) = visible.next() else {
             break;
         };
-        slot.tell_ip(ip);
+        slot.report_ip(ip);
     }
     client.put(whole);
     count
 }
 
-/// Whether a permission for the address of a peer stands; no where the transport or the family names nothing.
+/// Returns whether there is a permission for a peer's IP address, and false if the transport or the
+/// address family is invalid.
 pub fn turn_client_is_permitted(
     alloc: Global,
     client: &mut TurnHandle,
     transport: u32,
     peer: &TurnAddress,
 ) -> bool
-    ensures { Shows false (is_permitted transport peer.now) client.old.hold.value
-        client.new.hold.value result }
+    ensures { Shows false (is_permitted transport peer.now) client.old.boxed_client.value
+        client.new.boxed_client.value result }
 {
     let Some(whole) = client.take(alloc) else {
         return false;
     };
-    let stands = match named(transport, peer) {
+    let occurs = match named(transport, peer) {
         Some((by, to)) => whole.client.have_permission(by, to.ip()),
         None => false,
     };
     client.put(whole);
-    stands
+    occurs
 }
 
-/// Writes the channels. Answers how many there are.
+/// Writes the channels, as many as there is room for. Returns how many there are.
 pub fn turn_client_channels(
     alloc: Global,
     client: &mut TurnHandle,
     out: &mut [TurnChannel],
 ) -> usize
-    ensures { Lists told_channel (λ kept. channels_of kept.core) client.old.hold.value
-        client.new.hold.value result out.old out.new }
+    ensures { Lists reported_channel (λ stored. channels_of stored.core) client.old.boxed_client.value
+        client.new.boxed_client.value result out.old out.new }
 {
     let Some(whole) = client.take(alloc) else {
         return 0;
     };
-    let mut shown = whole.client.channels();
-    let count = shown.len();
+    let mut visible = whole.client.channels();
+    let count = visible.len();
     for slot in out.iter_mut() {
-        let Some((number, peer)) = shown.next() else {
+        let Some((number, peer)) = visible.next() else {
             break;
         };
         slot.number = number;
-        slot.peer.tell(&peer);
+        slot.peer.report(&peer);
     }
     client.put(whole);
     count
 }
 
-/// Writes the connections to peers that have a socket. Answers how many there are.
+/// Writes the connections to peers that have a socket, as many as there is room for. Returns how
+/// many there are.
 pub fn turn_client_connections(
     alloc: Global,
     client: &mut TurnHandle,
     out: &mut [TurnConnection],
 ) -> usize
-    ensures { Lists told_connection (λ kept. connections_of kept.core) client.old.hold.value
-        client.new.hold.value result out.old out.new }
+    ensures { Lists reported_connection (λ stored. connections_of stored.core) client.old.boxed_client.value
+        client.new.boxed_client.value result out.old out.new }
 {
     let Some(whole) = client.take(alloc) else {
         return 0;
     };
-    let mut shown = whole.client.connections();
-    let count = shown.len();
+    let mut visible = whole.client.connections();
+    let count = visible.len();
     for slot in out.iter_mut() {
-        let Some((local, peer, id, is_bound)) = shown.next() else {
+        let Some((local, peer, id, is_bound)) = visible.next() else {
             break;
         };
-        slot.local.tell(&local);
-        slot.peer.tell(&peer);
+        slot.local.report(&local);
+        slot.peer.report(&peer);
         slot.id = id;
         slot.is_bound = is_bound;
     }

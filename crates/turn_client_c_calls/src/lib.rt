@@ -1,14 +1,17 @@
-//! The calls of `bindings/c/include/turn_client.h`, in the words of C: a handle, addresses, numbers, bytes. Each is a
-//! function of `opening`, `traffic`, `waiting`, `asking`, `sockets` or `getters`, and its contract says what it does
-//! to the client in the words of the trait `TurnClientApi`. `turn_client_c` exports them.
+//! The bodies of the calls of `bindings/c/include/turn_client.h`, with C's types: a handle,
+//! addresses, numbers and bytes.
+//!
+//! Each call is a function of `opening`, `traffic`, `waiting`, `asking`, `sockets` or `getters`.
+//! Its contract states its effect on the client in terms of the trait `TurnClientApi`.
+//! `turn_client_c` exports the calls.
 #![tactic(auto)]
 
 pub mod asking;
+mod boxed_client;
 pub mod getters;
 pub mod handle;
-mod hold;
-mod loose;
 pub mod opening;
+mod raw_box;
 pub mod sockets;
 mod status;
 pub mod traffic;

@@ -4,12 +4,12 @@ ghost use Rattle.std.specs.Prelude.{◌≡◌, ◌≢◌, ◌≤◌, [], IfOk, I
 ghost use Rattle.stun_types_wire.specs.Registry.{longest_username};
 ghost use Rattle.stun_types_base.specs.declared.transport.TransportType.TheVariants.{Udp};
 ghost use Rattle.turn_client_c_calls.specs.Codes.{ok};
-ghost use Rattle.turn_client_c_calls.specs.Opened.{HoldsOpened, IsBegun, WhyNot};
+ghost use Rattle.turn_client_c_calls.specs.Opened.{HoldsOpened, IsStarted, WhyNot};
 ghost use Rattle.turn_client_c_types.specs.Settings.{config_of};
 
 use crate::handle::{TurnHandle, may_go_to_another_thread};
 use crate::status;
-use crate::whole::Whole;
+use crate::whole::HandleState;
 use std::alloc::Global;
 use std::net::SocketAddr;
 use stun_types_base::memory::NoMemory;
@@ -22,7 +22,8 @@ use turn_client_proto::tcp::TurnClientTcp;
 use turn_client_proto::udp::TurnClientUdp;
 use turn_client_proto_api::config::TurnConfig;
 
-/// A new client over a transport, between two addresses; over UDP its allocation is over UDP.
+/// Creates a client over a transport, between two addresses. Over UDP its allocation has to be over
+/// UDP.
 fn make(
     alloc: Global,
     transport: TransportType,
@@ -33,7 +34,7 @@ fn make(
 ) -> Result<TurnClient, NoMemory>
     requires name { length config.credentials.username ≤ longest_username }
     requires transport { transport ≡ Udp → config.transport ≡ Udp }
-    ensures { IfOk result (IsBegun transport local server config seed) }
+    ensures { IfOk result (IsStarted transport local server config seed) }
 {
     match transport {
         TransportType::Udp => {
@@ -47,7 +48,7 @@ fn make(
     }
 }
 
-/// A new client of a user in a box. None where memory is refused.
+/// Creates a client of this user in a box. `None` if an allocation fails.
 fn begin(
     alloc: Global,
     settings: &TurnSettings,
@@ -58,11 +59,11 @@ fn begin(
     username: &str,
     password: &str,
     seed: [u8; 32],
-) -> Option<Box<Whole>>
+) -> Option<Box<HandleState>>
     requires name { length username.now ≤ longest_username }
     requires over_udp { transport ≡ Udp → peers ≡ Udp }
     ensures { IfSome result (λ whole. whole.value.joined.items ≡ []
-        × IsBegun transport local server (config_of settings.now peers (record {
+        × IsStarted transport local server (config_of settings.now peers (record {
           username = username.now;
           password = password.now;
         })) seed whole.value.client) }
@@ -70,10 +71,10 @@ fn begin(
     let config = settings.config(alloc, username, password, peers).ok()?;
     let client = make(alloc, transport, local, server, config, seed).ok()?;
     let joined = Vec::new(alloc);
-    Box::new(alloc, Whole { client, joined }).ok()
+    Box::new(alloc, HandleState { client, joined }).ok()
 }
 
-/// Opens a client of a user. Nothing is sent yet.
+/// Opens a client of this user. Nothing is sent yet.
 pub fn turn_client_open(
     alloc: Global,
     client: &mut TurnHandle,
@@ -83,9 +84,9 @@ pub fn turn_client_open(
     seed: &TurnSeed,
 ) -> i32
     ensures opened { result ≡ ok → HoldsOpened settings.now username.now password.now
-        seed.now.bytes client.new.hold.value }
-    ensures stays { result ≢ ok → client.new.hold.value ≡ client.old.hold.value }
-    ensures why { WhyNot client.old.hold.value settings.now username.now password.now result }
+        seed.now.bytes client.new.boxed_client.value }
+    ensures stays { result ≢ ok → client.new.boxed_client.value ≡ client.old.boxed_client.value }
+    ensures why { WhyNot client.old.boxed_client.value settings.now username.now password.now result }
 {
     if client.is_open {
         return status::ALREADY_OPEN;
@@ -114,9 +115,9 @@ pub fn turn_client_open(
     }
 }
 
-/// Closes a client: frees it, and tells the server nothing.
+/// Closes a client: frees it, and sends nothing to the server.
 pub fn turn_client_close(alloc: Global, client: &mut TurnHandle)
-    ensures { client.new.hold.value ≡ None }
+    ensures { client.new.boxed_client.value ≡ None }
 {
     may_go_to_another_thread(client);
     let _whole = client.take(alloc);

@@ -1,16 +1,16 @@
-//! The calls that tell of the sockets of connections (RFC 6062, sections 4.3 and 4.6).
+//! The calls that report the sockets of connections to peers (RFC 6062, sections 4.3 and 4.6).
 
 ghost use Rattle.std.specs.Prelude.{◌≡◌};
 ghost use Rattle.turn_client_c_types.specs.Addresses.{address_of, socket_of};
 ghost use Rattle.turn_client_c_calls.specs.Answers.{memory_answer, socket_answer};
-ghost use Rattle.turn_client_c_calls.specs.Calls.{Named, OnClient, OnKept, Tells};
+ghost use Rattle.turn_client_c_calls.specs.Calls.{Named, OnClient, OnStored, Reports};
 ghost use Rattle.turn_client_c_calls.specs.Codes.{bad_family};
-ghost use Rattle.turn_client_c_calls.specs.Sockets.{IsClosedTold, own_tuple};
-ghost use Rattle.turn_client_proto.specs.SocketsTold.{IsSocketTold};
+ghost use Rattle.turn_client_c_calls.specs.Sockets.{IsClosedReported, own_tuple};
+ghost use Rattle.turn_client_proto.specs.SocketsReported.{IsSocketReported};
 
 use crate::handle::TurnHandle;
 use crate::status;
-use crate::whole::Whole;
+use crate::whole::HandleState;
 use std::alloc::Global;
 use std::net::SocketAddr;
 use stun_types_base::instant::Instant;
@@ -20,7 +20,7 @@ use turn_client_proto::client::TurnClient;
 use turn_client_proto_api::answer::Socket5Tuple;
 use turn_client_proto_api::error::TcpAllocateError;
 
-/// The client's own connection to the server.
+/// Returns the client's own connection to the server.
 fn own_tuple(client: &TurnClient) -> Socket5Tuple
     ensures { result ≡ own_tuple client.now }
 {
@@ -31,17 +31,18 @@ fn own_tuple(client: &TurnClient) -> Socket5Tuple
     }
 }
 
-/// Tells a client the own address of the socket that was opened for a connection, or that none was.
-#[tactic(auto, using(crate::proofs::Telling::socket_told))]
-fn tell_socket(
-    whole: &mut Whole,
+/// Reports to a client the own address of the socket that was opened for a connection, or that none
+/// was.
+#[tactic(auto, using(crate::proofs::Reporting::socket_reported))]
+fn report_socket(
+    whole: &mut HandleState,
     id: u32,
     to: SocketAddr,
     here: Option<SocketAddr>,
     now: Instant,
 ) -> i32
-    ensures { Tells (socket_answer result) (λ answer. OnKept (λ before after.
-        IsSocketTold before id (own_tuple whole.old.client) to here now answer after)
+    ensures { Reports (socket_answer result) (λ answer. OnStored (λ before after.
+        IsSocketReported before id (own_tuple whole.old.client) to here now answer after)
         whole.old whole.new) }
 {
     let tuple = own_tuple(&whole.client);
@@ -53,7 +54,7 @@ fn tell_socket(
     }
 }
 
-/// Tells the own address of the socket that was opened for a connection, or that none was.
+/// Reports the own address of the socket that was opened for a connection, or that none was.
 pub fn turn_client_socket(
     alloc: Global,
     client: &mut TurnHandle,
@@ -62,13 +63,13 @@ pub fn turn_client_socket(
     local: &TurnAddress,
     now: u64,
 ) -> i32
-    ensures { Named (address_of peer.now) bad_family client.old.hold.value client.new.hold.value
+    ensures { Named (address_of peer.now) bad_family client.old.boxed_client.value client.new.boxed_client.value
         result (λ to.
-        Named (socket_of local.now) bad_family client.old.hold.value client.new.hold.value
+        Named (socket_of local.now) bad_family client.old.boxed_client.value client.new.boxed_client.value
         result (λ here.
-        OnClient client.old.hold.value client.new.hold.value result (λ old new.
-        Tells (socket_answer result) (λ answer. OnKept (λ before after.
-        IsSocketTold before id (own_tuple old.client) to here now answer after) old new)))) }
+        OnClient client.old.boxed_client.value client.new.boxed_client.value result (λ old new.
+        Reports (socket_answer result) (λ answer. OnStored (λ before after.
+        IsSocketReported before id (own_tuple old.client) to here now answer after) old new)))) }
 {
     let Some(to) = peer.to_socket() else {
         return status::BAD_FAMILY;
@@ -79,12 +80,12 @@ pub fn turn_client_socket(
     let Some(mut whole) = client.take(alloc) else {
         return status::NO_CLIENT;
     };
-    let answer = tell_socket(&mut whole, id, to, here, Instant::from_nanos(now));
+    let answer = report_socket(&mut whole, id, to, here, Instant::from_nanos(now));
     client.put(whole);
     answer
 }
 
-/// Tells that the socket of a connection was closed.
+/// Reports that the socket of a connection was closed.
 pub fn turn_client_closed(
     alloc: Global,
     client: &mut TurnHandle,
@@ -92,13 +93,13 @@ pub fn turn_client_closed(
     remote: &TurnAddress,
     now: u64,
 ) -> i32
-    ensures { Named (address_of local.now) bad_family client.old.hold.value client.new.hold.value
+    ensures { Named (address_of local.now) bad_family client.old.boxed_client.value client.new.boxed_client.value
         result (λ here.
-        Named (address_of remote.now) bad_family client.old.hold.value client.new.hold.value
+        Named (address_of remote.now) bad_family client.old.boxed_client.value client.new.boxed_client.value
         result (λ server.
-        OnClient client.old.hold.value client.new.hold.value result (λ old new.
-        Tells (memory_answer result) (λ answer.
-        OnKept (IsClosedTold here server answer) old new)))) }
+        OnClient client.old.boxed_client.value client.new.boxed_client.value result (λ old new.
+        Reports (memory_answer result) (λ answer.
+        OnStored (IsClosedReported here server answer) old new)))) }
 {
     let Some(here) = local.to_socket() else {
         return status::BAD_FAMILY;

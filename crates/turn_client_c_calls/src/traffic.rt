@@ -1,14 +1,14 @@
-//! The calls by which bytes come and go.
+//! The calls by which bytes are received and sent.
 
 ghost use Rattle.std.specs.Prelude.{◌≡◌, ◌+◌, [], length, nat_lt, not, None};
 ghost use Rattle.turn_client_c_types.specs.Addresses.{address_of, transport_of};
 ghost use Rattle.turn_client_c_calls.specs.Calls.{Named, OnClient, Unless};
 ghost use Rattle.turn_client_c_calls.specs.Codes.{bad_family, bad_setting, small_buffer};
-ghost use Rattle.turn_client_c_calls.specs.Traffic.{IsDrawnTold, IsFed, IsPulledTold, IsReadTold, IsCarried, IsSendTold, draw_status, draw_told, draw_written, joined_by, message_room, payload_told, recv_joined, recv_status, recv_told, send_extra, written};
+ghost use Rattle.turn_client_c_calls.specs.Traffic.{IsTransmittedReported, IsFed, IsPulledReported, IsReadReported, IsCarried, IsSendReported, draw_status, draw_reported, draw_written, joined_by, message_room, payload_reported, recv_joined, recv_status, recv_reported, send_extra, written};
 
 use crate::handle::TurnHandle;
 use crate::status;
-use crate::whole::Whole;
+use crate::whole::HandleState;
 use std::alloc::Global;
 use std::net::SocketAddr;
 use stun_types_base::data::Data;
@@ -18,7 +18,7 @@ use stun_types_base::transmit::Transmit;
 use stun_types_base::transport::TransportType;
 use stun_types_wire::registry::MAX_MESSAGE_LENGTH;
 use turn_client_c_types::address::{TurnAddress, transport_of};
-use turn_client_c_types::told::{TurnPayload, TurnTransmit};
+use turn_client_c_types::reported::{TurnPayload, TurnTransmit};
 use turn_client_proto::api::TurnClientApi;
 use turn_client_proto::client::TurnClient;
 use turn_client_proto_api::answer::TurnRecvRet;
@@ -26,52 +26,53 @@ use turn_client_proto_api::data::{DataRangeOrOwned, TurnPeerData};
 use turn_client_proto_api::error::SendError;
 use turn_types_frame::build::{DelayedTransmitBuild, TransmitBuild};
 
-/// How many bytes more than a payload the buffer has room for that carries it: a SEND indication's header, an
-/// address of IPv6, DATA's header and padding are 51.
+/// The room that the buffer for a message needs in addition to its payload, in bytes. A SEND
+/// indication's header, an IPv6 address, and DATA's header and padding take 51.
 const SEND_EXTRA: usize = 64;
 
-/// Writes bytes to the front of a buffer, where it has the room; answers whether it has.
-fn write_front(out: &mut [u8], bytes: &[u8]) -> bool
+/// Writes bytes to the start of a buffer if they fit, and returns whether they do.
+fn write_head(out: &mut [u8], bytes: &[u8]) -> bool
     ensures room { result ≡ not (nat_lt (length out.old) (length bytes.now)) }
     ensures bytes { out.new ≡ written bytes.now out.old }
 {
     if out.len() < bytes.len() {
         return false;
     }
-    let (front, _) = out.split_at_mut(bytes.len());
-    front.copy_from_slice(bytes);
+    let (head, _) = out.split_at_mut(bytes.len());
+    head.copy_from_slice(bytes);
     true
 }
 
-/// Tells data of a peer; bytes that don't stand in what came are kept to be read.
-fn tell_data(given: TurnPeerData<&[u8]>, joined: &mut Vec<u8>, payload: &mut TurnPayload)
-    ensures told { payload.new ≡ payload_told given.entry }
+/// Writes where the data of a peer is. Data that is not in the received bytes is stored in
+/// `joined`, to be read.
+fn report_data(given: TurnPeerData<&[u8]>, joined: &mut Vec<u8>, payload: &mut TurnPayload)
+    ensures reported { payload.new ≡ payload_reported given.entry }
     ensures joined { joined.old.items ≡ [] → joined.new.items ≡ joined_by given.entry }
 {
     let size = given.data().len();
     let (transport, peer) = (given.transport, given.peer);
     match given.into_data() {
         DataRangeOrOwned::Range { range, .. } => {
-            payload.tell(range.start, size, false, transport, &peer);
+            payload.report(range.start, size, false, transport, &peer);
         }
         DataRangeOrOwned::Owned(bytes) => {
             *joined = bytes;
-            payload.tell(0, size, true, transport, &peer);
+            payload.report(0, size, true, transport, &peer);
         }
     }
 }
 
-/// Tells what became of bytes that came.
-fn tell(answer: TurnRecvRet<&[u8]>, joined: &mut Vec<u8>, payload: &mut TurnPayload) -> i32
+/// Writes the result of `recv`, and returns its status.
+fn report(answer: TurnRecvRet<&[u8]>, joined: &mut Vec<u8>, payload: &mut TurnPayload) -> i32
     ensures status { result ≡ recv_status answer.entry }
-    ensures told { payload.new ≡ recv_told payload.old answer.entry }
+    ensures reported { payload.new ≡ recv_reported payload.old answer.entry }
     ensures joined { joined.old.items ≡ [] → joined.new.items ≡ recv_joined answer.entry }
 {
     match answer {
         TurnRecvRet::Handled => status::OK,
         TurnRecvRet::Ignored(_) => status::IGNORED,
         TurnRecvRet::PeerData(given) => {
-            tell_data(given, joined, payload);
+            report_data(given, joined, payload);
             status::PAYLOAD
         }
         TurnRecvRet::PeerIcmp {
@@ -81,17 +82,17 @@ fn tell(answer: TurnRecvRet<&[u8]>, joined: &mut Vec<u8>, payload: &mut TurnPayl
             icmp_code,
             icmp_data,
         } => {
-            payload.tell_report(transport, &peer, icmp_type, icmp_code, icmp_data);
+            payload.report_report(transport, &peer, icmp_type, icmp_code, icmp_data);
             status::ICMP
         }
         TurnRecvRet::NoMemory(_) => status::NO_MEMORY,
     }
 }
 
-/// Hands a client what came from an address to another at a moment. Where joined bytes wait, nothing is taken.
-#[tactic(auto, using(crate::proofs::Telling::waits_unread))]
+/// Passes received bytes to a client. Does nothing while joined bytes are unread.
+#[tactic(auto, using(crate::proofs::Reporting::waits_unread))]
 fn feed(
-    whole: &mut Whole,
+    whole: &mut HandleState,
     from: SocketAddr,
     to: SocketAddr,
     bytes: &[u8],
@@ -105,10 +106,11 @@ fn feed(
     }
     let came = Transmit::new(bytes, whole.client.transport(), from, to);
     let answer = whole.client.recv(came, now);
-    tell(answer, &mut whole.joined, payload)
+    report(answer, &mut whole.joined, payload)
 }
 
-/// Hands in what came from an address to another at a moment: a datagram, or a piece of a stream.
+/// Handles received bytes, with the addresses from and to which they were sent: a datagram, or a
+/// chunk of a stream.
 pub fn turn_client_feed(
     alloc: Global,
     client: &mut TurnHandle,
@@ -118,11 +120,11 @@ pub fn turn_client_feed(
     now: u64,
     payload: &mut TurnPayload,
 ) -> i32
-    ensures { Named (address_of from.now) bad_family client.old.hold.value client.new.hold.value
+    ensures { Named (address_of from.now) bad_family client.old.boxed_client.value client.new.boxed_client.value
         result (λ sender.
-        Named (address_of to.now) bad_family client.old.hold.value client.new.hold.value
+        Named (address_of to.now) bad_family client.old.boxed_client.value client.new.boxed_client.value
         result (λ here.
-        OnClient client.old.hold.value client.new.hold.value result
+        OnClient client.old.boxed_client.value client.new.boxed_client.value result
         (IsFed bytes.entry sender here now result payload.old payload.new))) }
 {
     let Some(sender) = from.to_socket() else {
@@ -134,16 +136,16 @@ pub fn turn_client_feed(
     let Some(mut whole) = client.take(alloc) else {
         return status::NO_CLIENT;
     };
-    let moment = Instant::from_nanos(now);
-    let status = feed(&mut whole, sender, here, bytes, moment, payload);
+    let time = Instant::from_nanos(now);
+    let status = feed(&mut whole, sender, here, bytes, time, payload);
     client.put(whole);
     status
 }
 
-/// Keeps the bytes of a payload that waited, to be read, and tells it.
-fn tell_waiting(given: TurnPeerData<Vec<u8>>, joined: &mut Vec<u8>, payload: &mut TurnPayload)
-    requires { given.place ≡ None }
-    ensures told { payload.new ≡ payload_told given }
+/// Stores the bytes of a payload of `poll_recv` in `joined`, to be read, and writes the payload.
+fn report_waiting(given: TurnPeerData<Vec<u8>>, joined: &mut Vec<u8>, payload: &mut TurnPayload)
+    requires { given.index ≡ None }
+    ensures reported { payload.new ≡ payload_reported given }
     ensures joined { joined.new.items ≡ given.payload }
 {
     let size = given.data().len();
@@ -151,24 +153,25 @@ fn tell_waiting(given: TurnPeerData<Vec<u8>>, joined: &mut Vec<u8>, payload: &mu
     match given.into_data() {
         DataRangeOrOwned::Owned(bytes) => {
             *joined = bytes;
-            payload.tell(0, size, true, transport, &peer);
+            payload.report(0, size, true, transport, &peer);
         }
-        // What waits stands in no bytes that came.
+        // The payloads of `poll_recv` own their bytes.
         DataRangeOrOwned::Range { .. } => unreachable!(),
     }
 }
 
-/// Tells the next data of a peer that waits in a client's stream. Where joined bytes wait, nothing is taken.
-#[tactic(auto, using(crate::proofs::Telling::waits_still, crate::proofs::Telling::waiting_owned))]
-fn pull(whole: &mut Whole, now: Instant, payload: &mut TurnPayload) -> i32
-    ensures { IsPulledTold now result payload.old payload.new whole.old whole.new }
+/// Writes the next buffered data of a peer of a client's stream. Does nothing while joined bytes
+/// are unread.
+#[tactic(auto, using(crate::proofs::Reporting::waits_still, crate::proofs::Reporting::waiting_owned))]
+fn pull(whole: &mut HandleState, now: Instant, payload: &mut TurnPayload) -> i32
+    ensures { IsPulledReported now result payload.old payload.new whole.old whole.new }
 {
     if !whole.joined.is_empty() {
         return status::UNREAD;
     }
     match whole.client.poll_recv(now) {
         Ok(Some(given)) => {
-            tell_waiting(given, &mut whole.joined, payload);
+            report_waiting(given, &mut whole.joined, payload);
             status::PAYLOAD
         }
         Ok(None) => status::NOTHING,
@@ -176,15 +179,15 @@ fn pull(whole: &mut Whole, now: Instant, payload: &mut TurnPayload) -> i32
     }
 }
 
-/// Tells the next data of a peer that waits in a stream.
+/// Writes the next buffered data of a peer of a stream.
 pub fn turn_client_pull(
     alloc: Global,
     client: &mut TurnHandle,
     now: u64,
     payload: &mut TurnPayload,
 ) -> i32
-    ensures { OnClient client.old.hold.value client.new.hold.value result
-        (IsPulledTold now result payload.old payload.new) }
+    ensures { OnClient client.old.boxed_client.value client.new.boxed_client.value result
+        (IsPulledReported now result payload.old payload.new) }
 {
     let Some(mut whole) = client.take(alloc) else {
         return status::NO_CLIENT;
@@ -194,17 +197,17 @@ pub fn turn_client_pull(
     status
 }
 
-/// Copies the joined bytes of the payload that was told last to the front of a buffer, and lets go of them.
+/// Copies the joined bytes of the last reported payload to the start of a buffer, and frees them.
 pub fn turn_client_read(alloc: Global, client: &mut TurnHandle, out: &mut [u8]) -> i32
-    ensures { OnClient client.old.hold.value client.new.hold.value result
-        (IsReadTold result out.old out.new) }
+    ensures { OnClient client.old.boxed_client.value client.new.boxed_client.value result
+        (IsReadReported result out.old out.new) }
 {
     let Some(mut whole) = client.take(alloc) else {
         return status::NO_CLIENT;
     };
     let status = if whole.joined.is_empty() {
         status::NOTHING
-    } else if write_front(out, whole.joined.as_slice()) {
+    } else if write_head(out, whole.joined.as_slice()) {
         whole.joined = Vec::new(alloc);
         status::OK
     } else {
@@ -214,21 +217,27 @@ pub fn turn_client_read(alloc: Global, client: &mut TurnHandle, out: &mut [u8]) 
     status
 }
 
-/// Tells what was drawn, and writes its bytes to the front of a buffer.
-fn tell_drawn(
+/// Writes the result of `poll_transmit`, and its bytes to the start of a buffer; returns its
+/// status.
+fn report_transmitted(
     answer: Result<Option<Transmit<Data<'static>>>, NoMemory>,
     out: &mut [u8],
     transmit: &mut TurnTransmit,
 ) -> i32
     ensures status { result ≡ draw_status (length out.old) answer.entry }
     ensures bytes { out.new ≡ draw_written out.old answer.entry }
-    ensures told { transmit.new ≡ draw_told transmit.old answer.entry }
+    ensures reported { transmit.new ≡ draw_reported transmit.old answer.entry }
 {
     match answer {
-        Ok(Some(drawn)) => {
-            let bytes = drawn.bytes.as_slice();
-            transmit.tell(bytes.len(), drawn.transport, &drawn.from, &drawn.to);
-            if write_front(out, bytes) {
+        Ok(Some(transmitted)) => {
+            let bytes = transmitted.bytes.as_slice();
+            transmit.report(
+                bytes.len(),
+                transmitted.transport,
+                &transmitted.from,
+                &transmitted.to,
+            );
+            if write_head(out, bytes) {
                 status::OK
             } else {
                 status::TOO_LARGE
@@ -239,15 +248,16 @@ fn tell_drawn(
     }
 }
 
-/// Draws a client's next message.
-fn draw(whole: &mut Whole, now: Instant, out: &mut [u8], transmit: &mut TurnTransmit) -> i32
-    ensures { IsDrawnTold now result out.old out.new transmit.old transmit.new whole.old whole.new }
+/// Writes a client's next message.
+fn draw(whole: &mut HandleState, now: Instant, out: &mut [u8], transmit: &mut TurnTransmit) -> i32
+    ensures { IsTransmittedReported now result out.old out.new transmit.old transmit.new whole.old
+        whole.new }
 {
     let answer = whole.client.poll_transmit(now);
-    tell_drawn(answer, out, transmit)
+    report_transmitted(answer, out, transmit)
 }
 
-/// Writes the next message to send at a moment to the front of a buffer that has room for any.
+/// Writes the next message to send at `now` to the start of a buffer that has room for any message.
 pub fn turn_client_draw(
     alloc: Global,
     client: &mut TurnHandle,
@@ -255,10 +265,10 @@ pub fn turn_client_draw(
     out: &mut [u8],
     transmit: &mut TurnTransmit,
 ) -> i32
-    ensures { Unless (nat_lt (length out.old) message_room) small_buffer client.old.hold.value
-        client.new.hold.value result
-        (OnClient client.old.hold.value client.new.hold.value result
-        (IsDrawnTold now result out.old out.new transmit.old transmit.new)) }
+    ensures { Unless (nat_lt (length out.old) message_room) small_buffer client.old.boxed_client.value
+        client.new.boxed_client.value result
+        (OnClient client.old.boxed_client.value client.new.boxed_client.value result
+        (IsTransmittedReported now result out.old out.new transmit.old transmit.new)) }
 {
     if out.len() < MAX_MESSAGE_LENGTH {
         return status::SMALL_BUFFER;
@@ -271,8 +281,9 @@ pub fn turn_client_draw(
     status
 }
 
-/// Has a client say what carries a payload to a peer, writes that to the front of a buffer, and tells its way.
-#[tactic(auto, using(crate::proofs::Telling::is_carried))]
+/// Writes what carries a payload to a peer to the start of a buffer, with its transport and its
+/// addresses.
+#[tactic(auto, using(crate::proofs::Reporting::is_carried))]
 fn carry<C: TurnClientApi>(
     client: &mut C,
     by: TransportType,
@@ -283,7 +294,7 @@ fn carry<C: TurnClientApi>(
     transmit: &mut TurnTransmit,
 ) -> i32
     ensures { IsCarried by to bytes.now now result out.old out.new transmit.old transmit.new
-        (C.kept client.old) (C.kept client.new) }
+        (C.stored client.old) (C.stored client.new) }
 {
     match client.send_to(by, to, bytes, now) {
         Ok(Some(carrier)) => {
@@ -294,12 +305,12 @@ fn carry<C: TurnClientApi>(
                 to,
             } = carrier;
             let size = carried.len();
-            transmit.tell(size, transport, &from, &to);
+            transmit.report(size, transport, &from, &to);
             if out.len() < size {
                 return status::SMALL_BUFFER;
             }
-            let (front, _) = out.split_at_mut(size);
-            carried.write_into(front);
+            let (head, _) = out.split_at_mut(size);
+            carried.write_into(head);
             status::OK
         }
         Ok(None) => status::NOTHING,
@@ -311,10 +322,10 @@ fn carry<C: TurnClientApi>(
     }
 }
 
-/// Has the client of a handle say what carries a payload to a peer. It is asked by its own transport, so that
-/// what is answered, which is large, isn't handed on.
+/// Calls `carry` for the handle's client, by its own transport. So the result of `send_to`, which
+/// is large, is not passed on.
 fn send(
-    whole: &mut Whole,
+    whole: &mut HandleState,
     by: TransportType,
     to: SocketAddr,
     bytes: &[u8],
@@ -322,7 +333,7 @@ fn send(
     out: &mut [u8],
     transmit: &mut TurnTransmit,
 ) -> i32
-    ensures { IsSendTold by to bytes.now now result out.old out.new transmit.old transmit.new
+    ensures { IsSendReported by to bytes.now now result out.old out.new transmit.old transmit.new
         whole.old whole.new }
 {
     match &mut whole.client {
@@ -331,7 +342,8 @@ fn send(
     }
 }
 
-/// Writes what carries a payload to a peer to the front of a buffer that has room for more.
+/// Writes what carries a payload to a peer to the start of a buffer that has room for more than the
+/// payload.
 pub fn turn_client_send(
     alloc: Global,
     client: &mut TurnHandle,
@@ -342,14 +354,14 @@ pub fn turn_client_send(
     out: &mut [u8],
     transmit: &mut TurnTransmit,
 ) -> i32
-    ensures { Named (transport_of transport) bad_setting client.old.hold.value client.new.hold.value
+    ensures { Named (transport_of transport) bad_setting client.old.boxed_client.value client.new.boxed_client.value
         result (λ by.
-        Named (address_of peer.now) bad_family client.old.hold.value client.new.hold.value
+        Named (address_of peer.now) bad_family client.old.boxed_client.value client.new.boxed_client.value
         result (λ to.
         Unless (nat_lt (length out.old) (length bytes.now + send_extra)) small_buffer
-        client.old.hold.value client.new.hold.value result
-        (OnClient client.old.hold.value client.new.hold.value result
-        (IsSendTold by to bytes.now now result out.old out.new transmit.old transmit.new)))) }
+        client.old.boxed_client.value client.new.boxed_client.value result
+        (OnClient client.old.boxed_client.value client.new.boxed_client.value result
+        (IsSendReported by to bytes.now now result out.old out.new transmit.old transmit.new)))) }
 {
     let Some(by) = transport_of(transport) else {
         return status::BAD_SETTING;
@@ -363,8 +375,8 @@ pub fn turn_client_send(
     let Some(mut whole) = client.take(alloc) else {
         return status::NO_CLIENT;
     };
-    let moment = Instant::from_nanos(now);
-    let status = send(&mut whole, by, to, bytes, moment, out, transmit);
+    let time = Instant::from_nanos(now);
+    let status = send(&mut whole, by, to, bytes, time, out, transmit);
     client.put(whole);
     status
 }

@@ -1,28 +1,28 @@
-//! The calls that let time pass, and tell what happened.
+//! The calls by which time passes, and events are taken.
 
 ghost use Rattle.turn_client_c_calls.specs.Calls.{OnClient};
-ghost use Rattle.turn_client_c_calls.specs.Waits.{IsEventTold, IsPollTold};
+ghost use Rattle.turn_client_c_calls.specs.Waits.{IsEventReported, IsPollReported};
 
 use crate::handle::TurnHandle;
 use crate::status;
 use std::alloc::Global;
 use stun_types_base::instant::Instant;
 use turn_client_c_types::event::TurnClientEvent;
-use turn_client_c_types::told::TurnWait;
+use turn_client_c_types::reported::TurnWait;
 use turn_client_proto::api::TurnClientApi;
 use turn_client_proto_api::answer::TurnPollRet;
 
-/// Does what is due at a moment, and tells until when there is nothing to do, or which connection to the
+/// Does what is due at `now`. Writes until when there is nothing to do, or which connection to the
 /// server is to be opened or closed.
-#[tactic(auto, using(crate::proofs::Telling::poll_told))]
+#[tactic(auto, using(crate::proofs::Reporting::poll_reported))]
 pub fn turn_client_poll(
     alloc: Global,
     client: &mut TurnHandle,
     now: u64,
     wait: &mut TurnWait,
 ) -> i32
-    ensures { OnClient client.old.hold.value client.new.hold.value result
-        (IsPollTold now result wait.old wait.new) }
+    ensures { OnClient client.old.boxed_client.value client.new.boxed_client.value result
+        (IsPollReported now result wait.old wait.new) }
 {
     let Some(mut whole) = client.take(alloc) else {
         return status::NO_CLIENT;
@@ -30,8 +30,8 @@ pub fn turn_client_poll(
     let answer = whole.client.poll(Instant::from_nanos(now));
     client.put(whole);
     match answer {
-        TurnPollRet::WaitUntil(moment) => {
-            wait.tell_until(moment);
+        TurnPollRet::WaitUntil(time) => {
+            wait.report_until(time);
             status::OK
         }
         TurnPollRet::AllocateTcpSocket {
@@ -39,14 +39,14 @@ pub fn turn_client_poll(
             socket,
             peer_addr,
         } => {
-            wait.tell_open(id, socket, peer_addr);
+            wait.report_open(id, socket, peer_addr);
             status::OPEN_SOCKET
         }
         TurnPollRet::TcpClose {
             local_addr,
             remote_addr,
         } => {
-            wait.tell_close(local_addr, remote_addr);
+            wait.report_close(local_addr, remote_addr);
             status::CLOSE_SOCKET
         }
         TurnPollRet::Closed => status::CLOSED,
@@ -54,11 +54,11 @@ pub fn turn_client_poll(
     }
 }
 
-/// Tells the event that has waited longest.
-#[tactic(auto, using(crate::proofs::Telling::event_told))]
+/// Writes the oldest queued event.
+#[tactic(auto, using(crate::proofs::Reporting::event_reported))]
 pub fn turn_client_event(alloc: Global, client: &mut TurnHandle, event: &mut TurnClientEvent) -> i32
-    ensures { OnClient client.old.hold.value client.new.hold.value result
-        (IsEventTold result event.old event.new) }
+    ensures { OnClient client.old.boxed_client.value client.new.boxed_client.value result
+        (IsEventReported result event.old event.new) }
 {
     let Some(mut whole) = client.take(alloc) else {
         return status::NO_CLIENT;
@@ -67,7 +67,7 @@ pub fn turn_client_event(alloc: Global, client: &mut TurnHandle, event: &mut Tur
     client.put(whole);
     match answer {
         Some(happened) => {
-            event.tell(happened);
+            event.report(happened);
             status::OK
         }
         None => status::NOTHING,

@@ -1,12 +1,12 @@
-//! What a handle holds.
+//! What a handle owns.
 
 use turn_client_proto::client::TurnClient;
 
-/// A client, and the bytes of the payload that was told last, where they were joined and are not read yet.
+/// A client, and the joined bytes of the last reported payload, while they are unread.
 #[derive(Drop)]
-pub struct Whole {
+pub struct HandleState {
     /// The client.
     pub(crate) client: TurnClient,
-    /// The bytes.
+    /// The joined bytes; empty if there are none to read.
     pub(crate) joined: Vec<u8>,
 }

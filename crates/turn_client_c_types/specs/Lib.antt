@@ -1,3 +1,3 @@
 pub mod Addresses
 pub mod Settings
-pub mod Told
+pub mod Reported

@@ -1,4 +1,4 @@
--- The settings of a client, as C tells them.
+-- The settings of a client, as C passes them.
 use Rattle.std.specs.Prelude.{ℕ, ◌*◌, ◌/◌, ◌%◌, ◌==◌, nat_lt, Bool, ◌||◌, List, [], ◌∷◌, filter, Option, Some, None, if◌then◌else◌}
 use Rattle.turn_types_attributes.specs.StunTypesIntegrity.Credentials.{NameAndPassword}
 use Rattle.stun_types_wire.specs.declared.algorithm.IntegrityAlgorithm.{IntegrityAlgorithm}
@@ -16,52 +16,53 @@ use Rattle.turn_client_proto_api.specs.Families.{with_family}
 use Rattle.turn_client_c_types.specs.Addresses.{transport_of}
 use Rattle.turn_client_c_types.specs.declared.settings.TurnSettings.{TurnSettings}
 
--- the transport of a number in IP; 0 is UDP
+-- The transport with this protocol number in IP; 0 is UDP.
 abbrev pub transport_set : ℕ → Option TransportType
 transport_set number = if number == 0 then Some Udp else transport_of number
 
--- over UDP to the server none to the peers but UDP
+-- Both transports. If the one to the server is UDP, the one to the peers has to be UDP.
 abbrev pub both_of : Option TransportType → Option TransportType → Option (TransportType × TransportType)
 both_of (Some Udp) (Some Udp) = Some (Udp, Udp)
 both_of (Some Tcp) (Some peers) = Some (Tcp, peers)
 both_of _ _ = None
 
--- the transports, where each number of the settings names something
+-- The transports to the server and to the peers. `None` if a number of the settings is not one of its
+-- choices.
 unfoldable pub transports_of : TurnSettings → Option (TransportType × TransportType)
 transports_of s = if nat_lt 3 s.families || (nat_lt 7 s.integrity || nat_lt 2 s.anonymous) then None
     else both_of (transport_set s.transport) (transport_set s.peers)
 
--- what is asked for by the bits of families: at first IPv4
+-- The requested families, by the bits of families; by default IPv4.
 abbrev pub families_of : ℕ → List AddressFamily → List AddressFamily
 families_of bits first = if bits == 2 then IPV6 ∷ [] else if bits == 3 then with_family first IPV6 else first
 
--- whether a number has a bit
+-- A number has this bit.
 abbrev pub has_bit : ℕ → ℕ → Bool
 has_bit number bit = number / bit % 2 == 1
 
--- the bit of an algorithm among algorithms
+-- The bit of an integrity algorithm.
 abbrev pub bit_of : IntegrityAlgorithm → ℕ
 bit_of Sha1 = 1
 bit_of Sha256 = 2
 bit_of Sha512 = 4
 
--- some algorithms, or others where there are none
+-- These algorithms, or the others if there are none.
 abbrev pub or_others : List IntegrityAlgorithm → List IntegrityAlgorithm → List IntegrityAlgorithm
 or_others [] others = others
 or_others (some ∷ rest) _ = some ∷ rest
 
--- what is supported by the bits of algorithms, the weaker first: at first HMAC-SHA1
+-- The supported algorithms, by the bits of algorithms, the weaker ones first; by default HMAC-SHA1.
 unfoldable pub algorithms_of : ℕ → List IntegrityAlgorithm → List IntegrityAlgorithm
 algorithms_of bits first = or_others (filter (λ algorithm. has_bit bits (bit_of algorithm)) all_algorithms) first
 
--- whether the name is hidden: at first where the server can
+-- Whether the name is hidden; by default it is if the server supports it.
 abbrev pub anonymous_of : ℕ → Feature → Feature
 anonymous_of number first = if number == 1 then Required else if number == 2 then Disabled else first
 
 abbrev pub millisecond : ℕ
 millisecond = 1_000_000
 
--- how long requests wait: as at first, where nothing is told
+-- How long requests wait; the default if `sends` is 0.
 abbrev pub waits_of : TurnSettings → Waits → Waits
 waits_of s first = if s.sends == 0 then first else record {
   initial = s.first_wait * millisecond;
@@ -70,7 +71,7 @@ waits_of s first = if s.sends == 0 then first else record {
   final = s.last_wait * millisecond;
 }
 
--- the settings of a client of a user, whose allocation is over a transport
+-- The settings of a client of this user, whose allocation is over this transport.
 abbrev pub config_of : TurnSettings → TransportType → NameAndPassword → Config
 config_of s peers user = record (default_config user) {
   transport = peers;

@@ -1,40 +1,40 @@
-//! Addresses and transports as C tells them.
+//! Addresses and transports, as C passes and gets them.
 
 ghost use Rattle.std.specs.Prelude.{◌≡◌, ◌++◌};
 ghost use Rattle.std.specs.Net.Addr.{ipv4_octets};
-ghost use Rattle.turn_client_c_types.specs.Addresses.{address_of, ipv4, no_address, number_of, socket_of, told_address, told_ip, transport_of, zeros};
+ghost use Rattle.turn_client_c_types.specs.Addresses.{address_of, ipv4, no_address, number_of, socket_of, reported_address, reported_ip, transport_of, zeros};
 
 use std::net::{IpAddr, Ipv4Addr, Ipv6Addr, SocketAddr, SocketAddrV4, SocketAddrV6};
 use stun_types_base::transport::TransportType;
 use turn_types::registry;
 
-/// The family of an address of IPv4.
+/// The number of the IPv4 family.
 pub const IPV4: u8 = 4;
 
-/// The family of an address of IPv6.
+/// The number of the IPv6 family.
 pub const IPV6: u8 = 6;
 
-/// The number of UDP in IP.
+/// The protocol number of UDP in IP.
 pub(crate) const UDP: u32 = registry::UDP as u32;
 
-/// The number of TCP in IP.
+/// The protocol number of TCP in IP.
 pub(crate) const TCP: u32 = registry::TCP as u32;
 
 /// An address and a port.
 #[repr(C)]
 #[derive(Clone, Copy)]
 pub struct TurnAddress {
-    /// The octets, in the order of the network; of IPv4 the first four count.
+    /// The octets, in network order. Of IPv4 only the first four count.
     pub ip: [u8; 16],
     /// The port.
     pub port: u16,
-    /// 4 or 6.
+    /// The family: 4 or 6.
     pub family: u8,
 }
 
 impl TurnAddress {
-    /// The address; none where the family is neither 4 nor 6. Of IPv6 it has no flow information and no
-    /// scope.
+    /// Returns the address, or `None` if the family is neither 4 nor 6. An IPv6 address has no flow
+    /// information and no scope.
     #[inline]
     #[tactic(auto, unfolding(crate::specs::Addresses::address_of))]
     pub fn to_socket(&self) -> Option<SocketAddr>
@@ -52,13 +52,13 @@ impl TurnAddress {
         }
     }
 
-    /// Tells C an address.
+    /// Writes an address.
     #[inline]
-    pub fn tell(&mut self, address: &SocketAddr)
-        ensures { self.new ≡ told_address address.now }
+    pub fn report(&mut self, address: &SocketAddr)
+        ensures { self.new ≡ reported_address address.now }
     {
         match address {
-            SocketAddr::V4(v4) => self.tell_v4(*v4.ip(), v4.port()),
+            SocketAddr::V4(v4) => self.report_v4(*v4.ip(), v4.port()),
             SocketAddr::V6(v6) => {
                 self.ip = v6.ip().octets();
                 self.port = v6.port();
@@ -67,12 +67,12 @@ impl TurnAddress {
         }
     }
 
-    /// Tells C an IP.
-    pub fn tell_ip(&mut self, ip: IpAddr)
-        ensures { self.new ≡ told_ip ip }
+    /// Writes an IP address, with port 0.
+    pub fn report_ip(&mut self, ip: IpAddr)
+        ensures { self.new ≡ reported_ip ip }
     {
         match ip {
-            IpAddr::V4(v4) => self.tell_v4(v4, 0),
+            IpAddr::V4(v4) => self.report_v4(v4, 0),
             IpAddr::V6(v6) => {
                 self.ip = v6.octets();
                 self.port = 0;
@@ -81,8 +81,8 @@ impl TurnAddress {
         }
     }
 
-    /// Tells C no address, but for a family: 0 is none.
-    pub fn tell_none(&mut self, family: u8)
+    /// Writes no address, with a family only; family 0 is none.
+    pub fn report_none(&mut self, family: u8)
         ensures { self.new ≡ no_address family }
     {
         self.ip = [0; 16];
@@ -90,9 +90,9 @@ impl TurnAddress {
         self.family = family;
     }
 
-    /// Tells C an address of IPv4 and a port.
+    /// Writes an IPv4 address and a port.
     #[inline]
-    fn tell_v4(&mut self, ip: Ipv4Addr, port: u16)
+    fn report_v4(&mut self, ip: Ipv4Addr, port: u16)
         ensures { self.new
             ≡ record { ip = ipv4_octets ip ++ zeros; port = port; family = ipv4 } }
     {
@@ -103,7 +103,7 @@ impl TurnAddress {
     }
 }
 
-/// The number of a transport in IP.
+/// Returns the protocol number of a transport in IP.
 pub fn number_of(transport: TransportType) -> u32
     ensures { result ≡ number_of transport }
 {
@@ -113,7 +113,7 @@ pub fn number_of(transport: TransportType) -> u32
     }
 }
 
-/// The transport of a number in IP, where it is UDP's or TCP's.
+/// Returns the transport with this protocol number in IP, or `None` if it is neither UDP nor TCP.
 #[tactic(auto, unfolding(crate::specs::Addresses::transport_of))]
 pub fn transport_of(number: u32) -> Option<TransportType>
     ensures { result ≡ transport_of number }
@@ -127,8 +127,8 @@ pub fn transport_of(number: u32) -> Option<TransportType>
     }
 }
 
-/// The own address of a socket, or that there is none, by family 0; none where the family is neither that
-/// nor 4 nor 6.
+/// Returns the own address of a socket, `Some(None)` for family 0, which means that there is no
+/// socket, or `None` if the family is none of 0, 4 and 6.
 #[tactic(auto, unfolding(crate::specs::Addresses::socket_of))]
 pub fn socket_of(address: &TurnAddress) -> Option<Option<SocketAddr>>
     ensures { result ≡ socket_of address.now }

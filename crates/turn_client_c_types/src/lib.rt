@@ -1,8 +1,8 @@
-//! What C tells a client and is told of one: addresses, settings, events, payloads, waits, as structs of
-//! `bindings/c/include/turn_client.h`.
+//! The structs of `bindings/c/include/turn_client.h`, by which C passes settings and addresses to a
+//! client and gets addresses, events, payloads and waits from it.
 #![tactic(auto)]
 
 pub mod address;
 pub mod event;
+pub mod reported;
 pub mod settings;
-pub mod told;

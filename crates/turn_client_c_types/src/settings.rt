@@ -1,4 +1,4 @@
-//! The settings of a client, as C tells them.
+//! The settings of a client, as C passes them.
 
 ghost use Rattle.std.specs.Prelude.{◌≡◌, ◌<◌, IfOk, IfSome};
 ghost use Rattle.stun_types_base.specs.declared.transport.TransportType.TheVariants.{Udp};
@@ -15,19 +15,19 @@ use stun_types_wire::algorithm::IntegrityAlgorithm;
 use turn_client_proto_api::config::TurnConfig;
 use turn_types_attributes::credentials::TurnCredentials;
 
-/// The bit of IPv6 among families.
+/// The bit of IPv6 in `families`.
 const FAMILY_IPV6: u32 = 2;
 
 /// The bits of both families.
 const BOTH_FAMILIES: u32 = 3;
 
-/// The bit of HMAC-SHA1 among algorithms.
+/// The bit of HMAC-SHA1 in `integrity`.
 const INTEGRITY_SHA1: u32 = 1;
 
-/// The bit of HMAC-SHA256 among algorithms.
+/// The bit of HMAC-SHA256 in `integrity`.
 const INTEGRITY_SHA256: u32 = 2;
 
-/// The bit of HMAC-SHA512 among algorithms.
+/// The bit of HMAC-SHA512 in `integrity`.
 const INTEGRITY_SHA512: u32 = 4;
 
 /// The bits of all algorithms.
@@ -39,7 +39,7 @@ const ANONYMOUS_REQUIRED: u32 = 1;
 /// The name is never hidden.
 const ANONYMOUS_DISABLED: u32 = 2;
 
-/// The settings of a client. A number that is zero leaves what a new client has.
+/// The settings of a client. A number that is zero leaves the default of a new client.
 #[repr(C)]
 #[derive(Clone, Copy)]
 pub struct TurnSettings {
@@ -47,36 +47,38 @@ pub struct TurnSettings {
     pub local: TurnAddress,
     /// The server's address.
     pub server: TurnAddress,
-    /// The transport to the server, by its number in IP; 0 is UDP.
+    /// The transport to the server, by its protocol number in IP; 0 is UDP.
     pub transport: u32,
-    /// The transport between the server and the peers; 0 is UDP. TCP only over TCP.
+    /// The transport between the server and the peers; 0 is UDP. TCP only if the one to the server
+    /// is TCP.
     pub peers: u32,
-    /// The families of the relayed addresses that are asked for, as bits: 1 is IPv4, 2 is IPv6.
+    /// The families of the requested relayed addresses, as bits: 1 is IPv4, 2 is IPv6.
     pub families: u32,
-    /// The integrity algorithms that are supported, as bits: 1 is HMAC-SHA1, 2 is HMAC-SHA256, 4 is
+    /// The supported integrity algorithms, as bits: 1 is HMAC-SHA1, 2 is HMAC-SHA256, 4 is
     /// HMAC-SHA512.
     pub integrity: u32,
-    /// Whether the name is hidden: 0 where the server can, 1 always, 2 never.
+    /// Whether the name is hidden: 0 if the server supports it, 1 always, 2 never.
     pub anonymous: u32,
-    /// How often a request is sent in all.
+    /// How often a request is sent in all. 0 leaves this and the three waits at their defaults.
     pub sends: u32,
-    /// The wait behind the first, in milliseconds; each next one is twice as long.
+    /// The wait after the first transmission, in milliseconds. Each further wait is twice as long.
     pub first_wait: u32,
-    /// The longest wait between two, in milliseconds.
+    /// The longest wait between two transmissions, in milliseconds.
     pub most_wait: u32,
-    /// The wait behind the last, in milliseconds.
+    /// The wait after the last transmission, in milliseconds.
     pub last_wait: u32,
 }
 
-/// The seed of a client's numbers.
+/// The seed of the generator of a client's transaction IDs.
 #[repr(C)]
 #[derive(Clone, Copy)]
 pub struct TurnSeed {
-    /// Its bytes.
+    /// The bytes.
     pub bytes: [u8; 32],
 }
 
-/// The transport of a number in IP, where it is UDP's or TCP's; 0 is UDP.
+/// Returns the transport with this protocol number in IP, where 0 is UDP, or `None` if it is
+/// neither UDP nor TCP.
 fn transport_set(number: u32) -> Option<TransportType>
     ensures { result ≡ transport_set number }
 {
@@ -87,7 +89,7 @@ fn transport_set(number: u32) -> Option<TransportType>
     }
 }
 
-/// Whether a number has a bit: that is a power of two.
+/// Returns whether a number has this bit, which is a power of two.
 fn has_bit(number: u32, bit: u32) -> bool
     requires { 0 < bit }
     ensures { result ≡ has_bit number bit }
@@ -96,8 +98,9 @@ fn has_bit(number: u32, bit: u32) -> bool
 }
 
 impl TurnSettings {
-    /// The transports to the server and between that and the peers, where each number of the settings names
-    /// something, and over UDP the peers' is UDP.
+    /// Returns the transport to the server and the one between the server and the peers. `None` if
+    /// a number of the settings is not one of its choices, or if the first is UDP and the second
+    /// TCP.
     #[tactic(auto, unfolding(crate::specs::Settings::transports_of))]
     pub fn transports(&self) -> Option<(TransportType, TransportType)>
         ensures value { result ≡ transports_of self.now }
@@ -119,7 +122,7 @@ impl TurnSettings {
         }
     }
 
-    /// The settings of a client of this user, whose allocation is over a transport.
+    /// Returns the settings of a client of this user, whose allocation is over this transport.
     pub fn config(
         &self,
         alloc: Global,
@@ -153,7 +156,8 @@ impl TurnSettings {
         }
     }
 
-    /// Sets the algorithms: the weakest whose bit is set, and those behind it.
+    /// Sets the algorithms: the weakest whose bit is set, then the stronger ones whose bits are
+    /// set.
     #[tactic(auto, unfolding(crate::specs::Settings::algorithms_of))]
     fn set_integrity(&self, config: &mut TurnConfig)
         ensures { config.new ≡ record config.old {
@@ -190,7 +194,7 @@ impl TurnSettings {
         }
     }
 
-    /// Sets the waits, where one is told.
+    /// Sets the waits, unless `sends` is 0.
     fn set_waits(&self, config: &mut TurnConfig)
         ensures { config.new ≡ record config.old { waits = waits_of self.now config.old.waits } }
     {

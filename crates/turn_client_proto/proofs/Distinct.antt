@@ -1,4 +1,4 @@
--- No two channels that a client shows have one number, where that is so of those that it keeps.
+-- No two channels that a client lists have the same number, if no two that it stores do.
 use Rattle.std.proofs.Common.{◌≡◌, ◌≤◌, ℕ, ◌+◌, Bool, List, [], ◌∷◌, ◌++◌, eqb, length, refl, arith, inl, inr}
 use Rattle.std.proofs.lemmas.Bool.{cases_Bool}
 use Rattle.std.specs.List.{filter}
@@ -6,21 +6,21 @@ use Rattle.std.specs.declared.net.socket_addr.SocketAddr.{SocketAddr}
 use Rattle.turn_client_proto_allocation.specs.declared.allocation.Allocation.{Allocation}
 use Rattle.turn_client_proto_allocation.specs.declared.channel.Channel.{Channel}
 use Rattle.turn_client_proto_peers.specs.Channel.Numbers.{AreDistinct, counted, is_numbered, uses}
-use Rattle.turn_client_proto_peers.specs.Channel.Shown.{channels_of, channels_shown, pairs_of}
+use Rattle.turn_client_proto_peers.specs.Channel.Visible.{channels_of, channels_listed, pairs_of}
 
--- how many elements of two lists pass
-passes_both : {X : Type 0} (p : X → Bool) (front behind : List X) → length (filter p (front ++ behind)) ≡ length (filter p front) + length (filter p behind)
-passes_both p [] behind = omega arith
-passes_both p (x ∷ front) behind =
-    let later = passes_both p front behind in
+-- The number of elements of two joined lists that satisfy a predicate is the sum of the two numbers.
+passes_both : {X : Type 0} (p : X → Bool) (head following : List X) → length (filter p (head ++ following)) ≡ length (filter p head) + length (filter p following)
+passes_both p [] following = omega arith
+passes_both p (x ∷ head) following =
+    let later = passes_both p head following in
     elim (cases_Bool (p x)) [ inl is ↦ rw is (omega (arith, later)) | inr not ↦ rw not (omega (arith, later)) ]
 
 module _ (number : ℕ) where
-  -- a pair has this number
+  -- A pair has this channel number.
   abbrev has_it : ℕ × SocketAddr → Bool
   has_it p = eqb p.0 number
 
-  -- as many as channels have this number
+  -- As many pairs have this number as channels do.
   as_many : (channels : List Channel) → length (filter has_it (pairs_of channels)) ≡ counted (is_numbered number) channels
   as_many [] = refl
   as_many (c ∷ channels) =
@@ -30,24 +30,24 @@ module _ (number : ℕ) where
   few_of : (a : Allocation) → length (filter has_it (pairs_of (channels_of a))) ≤ counted (is_numbered number) a.channels
   few_of a = elim (cases_Bool a.is_expired) [
     | inl over ↦ rw over (omega arith)
-    | inr stands ↦ let same = as_many a.channels in rw stands (omega (arith, same))
+    | inr occurs ↦ let same = as_many a.channels in rw occurs (omega (arith, same))
   ]
 
-  few_shown : (all : List Allocation) → length (filter has_it (channels_shown all)) ≤ uses number all
-  few_shown [] = omega arith
-  few_shown (a ∷ rest) =
-      let both = passes_both has_it (pairs_of (channels_of a)) (channels_shown rest) in
+  few_listed : (all : List Allocation) → length (filter has_it (channels_listed all)) ≤ uses number all
+  few_listed [] = omega arith
+  few_listed (a ∷ rest) =
+      let both = passes_both has_it (pairs_of (channels_of a)) (channels_listed rest) in
       let here = few_of a in
-      let later = few_shown rest in
+      let later = few_listed rest in
       omega (arith, both, here, later)
 
-  -- where channels have distinct numbers, one of this number is shown at most
-  pub shown_once : (all : List Allocation) → AreDistinct all → length (filter has_it (channels_shown all)) ≤ 1
-  shown_once all distinct =
-      let few = few_shown all in
+  -- If the channels have distinct numbers, at most one channel with this number is listed.
+  pub listed_once : (all : List Allocation) → AreDistinct all → length (filter has_it (channels_listed all)) ≤ 1
+  listed_once all distinct =
+      let few = few_listed all in
       let one = distinct number in
       omega (arith, few, one)
 
--- no channels have distinct numbers
+-- The empty list of allocations has distinct channel numbers.
 pub none_distinct : AreDistinct []
 none_distinct number = omega arith

@@ -1,3 +1,3 @@
 pub mod Distinct
--- What stands above this crate has these through it.
+-- Re-exported for the crates above this one.
 pub use Rattle.turn_client_proto_payload.proofs as PayloadPart

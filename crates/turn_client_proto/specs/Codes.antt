@@ -1,20 +1,21 @@
--- The code of a client, by which proofs tell its values apart.
+-- An injective code of a client's state, by which proofs distinguish its values.
 use Rattle.std.specs.Coded.{Coded, code_by, coded×, coded_bool, coded_list, coded_option, coded_ℕ}
 use Rattle.std.specs.Prelude.{◌≡◌, ℕ, Bool, List, Option, None, Some, refl}
 use Rattle.turn_types_frame.specs.Streams.{Stream}
 use Rattle.turn_client_proto_core.specs.contracts.protocol.Protocol as protocol
 use Rattle.turn_client_proto_core.specs.declared.protocol.Protocol.{Protocol}
 use Rattle.turn_client_proto_recv.specs.Control.{Control, Datagrams, Open, Closed}
-use Rattle.turn_client_proto_recv.specs.Kept.{Kept}
+use Rattle.turn_client_proto_recv.specs.ClientState.{ClientState}
 
 abbrev pub protocol_code : Coded Protocol
 protocol_code = protocol.the_row.coded
 
 abbrev pub stream_code : Coded Stream
 stream_code = code_by (List ℕ × Bool) (coded× (coded_list coded_ℕ) coded_bool)
-    (λ s. (s.kept, s.dead)) (λ c. record { kept = c.0; dead = c.1 }) (λ s. refl)
+    (λ s. (s.stored, s.dead)) (λ c. record { stored = c.0; dead = c.1 }) (λ s. refl)
 
--- how bytes come, as options: over UDP none; over TCP what is kept of the stream while it stands
+-- How bytes arrive, as nested options: `None` over UDP; over TCP the stream's buffered bytes, or `None` once
+-- the stream has ended.
 abbrev pub in_options : Control → Option (Option Stream)
 in_options Datagrams = None
 in_options (Open stream) = Some (Some stream)
@@ -33,6 +34,6 @@ same_control Closed = refl
 abbrev pub control_code : Coded Control
 control_code = code_by (Option (Option Stream)) (coded_option (coded_option stream_code)) in_options of_options same_control
 
-abbrev pub kept_code : Coded Kept
-kept_code = code_by (Protocol × Control) (coded× protocol_code control_code)
+abbrev pub stored_code : Coded ClientState
+stored_code = code_by (Protocol × Control) (coded× protocol_code control_code)
     (λ k. (k.core, k.control)) (λ c. record { core = c.0; control = c.1 }) (λ k. refl)

@@ -1,16 +1,17 @@
--- The definitions that the contracts of a client cite, each file under its own name; and those of the crates below.
+-- The definitions that the contracts of a client cite, each file under its own name, and those of the crates
+-- below.
 pub mod Clients
 pub mod Codes
 pub mod Getters
-pub mod SocketsTold
+pub mod SocketsReported
 pub use Rattle.turn_client_proto_recv.specs.Control
 pub use Rattle.turn_client_proto_recv.specs.Datagrams
 pub use Rattle.turn_client_proto_recv.specs.HandingIn
-pub use Rattle.turn_client_proto_recv.specs.Kept
-pub use Rattle.turn_client_proto_recv.specs.Pieces
+pub use Rattle.turn_client_proto_recv.specs.ClientState
+pub use Rattle.turn_client_proto_recv.specs.Chunks
 pub use Rattle.turn_client_proto_recv.specs.Pulls
 pub use Rattle.turn_client_proto_recv.specs.Receipts
-pub use Rattle.turn_client_proto_recv.specs.SocketPieces
+pub use Rattle.turn_client_proto_recv.specs.SocketChunks
 pub use Rattle.turn_client_proto_recv.specs.Waiting
 pub use Rattle.turn_client_proto_recv.specs.declared.handing.Taken
 pub use Rattle.turn_client_proto_core.specs.Beginning
@@ -20,7 +21,7 @@ pub use Rattle.turn_client_proto_connection.specs as Connection
 pub use Rattle.turn_client_proto_core.specs.Binding
 pub use Rattle.turn_client_proto_core.specs.Deleting
 pub use Rattle.turn_client_proto_timers.specs.Drawing
-pub use Rattle.turn_client_proto_recv.specs.Hearing
+pub use Rattle.turn_client_proto_recv.specs.Processing
 pub use Rattle.turn_client_proto_payload.specs.OfPeers
 pub use Rattle.turn_client_proto_payload.specs.Payloads
 pub use Rattle.turn_client_proto_payload.specs.Sending
@@ -42,7 +43,7 @@ pub use Rattle.turn_client_proto_core.specs.TurnRuns.Runs
 pub use Rattle.turn_client_proto_core.specs.TurnRuns.Steps
 pub use Rattle.turn_client_proto_core.specs.TurnRuns.Words
 pub use Rattle.turn_client_proto_payload.specs.declared.payload.Payload
--- What stands above this crate has these through it.
+-- Re-exported for the crates above this one.
 pub use Rattle.turn_client_proto_core.specs.StunProtoClient as StunProtoClient
 pub use Rattle.turn_client_proto_core.specs.TurnRuns as TurnRuns
 pub use Rattle.turn_client_proto_peers.specs as Peers

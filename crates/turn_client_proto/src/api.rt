@@ -1,4 +1,5 @@
-//! The settings of a client, the trait of its calls, and what they answer.
+//! The trait of a TURN client's calls, and the types of their parameters and results: settings,
+//! events, errors.
 
 ghost use Rattle.std.specs.Prelude.{◌≡◌, ◌≢◌, ◌<◌, ◌^◌, ◌++◌, [], length, true, IfNone, IfOk, OnErr, OnOk, option_to_list};
 ghost use Rattle.std.specs.Option.{option_map};
@@ -6,16 +7,16 @@ ghost use Rattle.turn_client_proto_recv.specs.Closing.{after_close, is_joined};
 ghost use Rattle.turn_client_proto_recv.specs.Connecting.{IsConnectAnswered};
 ghost use Rattle.turn_client_proto_core.specs.Binding.{IsBindAnswered};
 ghost use Rattle.turn_client_proto_core.specs.Deleting.{IsDeleteAnswered};
-ghost use Rattle.turn_client_proto_timers.specs.Drawing.{HasToSend, IsDrawn};
+ghost use Rattle.turn_client_proto_timers.specs.Drawing.{HasToSend, IsTransmitted};
 ghost use Rattle.turn_client_proto_api.specs.Sent.{sent_of};
 ghost use Rattle.turn_client_proto_core.specs.Ending.{HasFailed, ended};
 ghost use Rattle.turn_client_proto_core.specs.Permitting.{IsPermissionAnswered};
 ghost use Rattle.turn_client_proto_timers.specs.Polling.{IsPolled};
 ghost use Rattle.turn_client_proto_payload.specs.Sending.{IsSendAnswered, answered_as};
 ghost use Rattle.turn_client_proto.specs.Getters.{channels_of, connections_of, has_permission, permissions_of, relayed_of};
-ghost use Rattle.turn_client_proto_recv.specs.Kept.{Kept, Leaves};
+ghost use Rattle.turn_client_proto_recv.specs.ClientState.{ClientState, Leaves};
 ghost use Rattle.turn_client_proto_recv.specs.Receipts.{IsReceived, IsWaitingGiven, IsWaitingLost};
-ghost use Rattle.turn_client_proto.specs.SocketsTold.{IsSocketTold};
+ghost use Rattle.turn_client_proto.specs.SocketsReported.{IsSocketReported};
 
 pub use crate::getters::{
     ChannelsIter, ConnectionsIter, PermissionAddressesIter, RelayedAddressesIter,
@@ -39,93 +40,130 @@ pub use turn_client_proto_api::event::TurnEvent;
 pub use turn_client_proto_api::send::DelayedMessageOrChannelSend;
 use turn_types_frame::build::TransmitBuild;
 
-/// The greatest moment of a call of a client: 2^62 nanoseconds behind `Instant::ZERO`, some 146 years.
+/// The latest time that may be passed to a client's calls: 2^62 nanoseconds after `Instant::ZERO`,
+/// some 146 years.
 pub const CLIENT_END: u64 = 1 << 62;
 
-/// The calls of a TURN client, over any transport. They perform no input or output: a caller sends what
-/// `poll_transmit` answers, hands in what came by `recv`, waits as `poll` tells, and asks for what
-/// happened by `poll_event`.
+/// The calls of a TURN client (RFC 8656), over any transport.
 ///
-/// | kind | calls |
+/// The client performs no input or output. The caller sends what `poll_transmit` returns, passes
+/// received bytes to `recv`, waits as `poll` says, and takes events from `poll_event`. Every time
+/// that is passed to a call comes from one clock that never goes back, and is at most `CLIENT_END`.
+///
+/// # The calls
+///
+/// | purpose | calls |
 /// |---|---|
-/// | what comes and goes | `recv`, `poll_recv`, `poll_transmit`, `send_to` |
+/// | exchange bytes | `recv`, `poll_recv`, `poll_transmit`, `send_to` |
 /// | time and events | `poll`, `poll_event` |
-/// | asks the server for something | `create_permission`, `bind_channel`, `tcp_connect`, `delete` |
-/// | tells what the caller did | `allocated_tcp_socket`, `tcp_closed`, `protocol_error` |
-/// | shows what the client holds, changes nothing | `relayed_addresses`, `permissions`, `have_permission`, `channels`, `connections`, `transport`, `local_addr`, `remote_addr` |
+/// | request something from the server | `create_permission`, `bind_channel`, `tcp_connect`, `delete` |
+/// | report what the caller did | `allocated_tcp_socket`, `tcp_closed`, `protocol_error` |
+/// | read the client's state, without changing it | `relayed_addresses`, `permissions`, `have_permission`, `channels`, `connections`, `transport`, `local_addr`, `remote_addr` |
+///
+/// # What to call next
 ///
 /// | after | call |
 /// |---|---|
-/// | the client was made | `poll_transmit`, which gives its first request |
-/// | `recv` | over TCP `poll_recv` until it answers `None`; then as after a wait |
-/// | a call that asks for something or tells something | `poll`, for the wait may have become shorter |
-/// | a wait of `poll` is over | `poll_transmit` until it answers `None`, `poll`, then `poll_event` until it answers `None` |
-/// | `poll_transmit`, `send_to` | send what is answered, by the transport and between the addresses that it tells |
+/// | creating the client | `poll_transmit`, which returns the first request |
+/// | `recv` | over TCP, `poll_recv` until it returns `None`; then as when a wait is over |
+/// | a call that requests or reports something | `poll`, because the wait may have become shorter |
+/// | a wait of `poll` is over | `poll_transmit` until it returns `None`, `poll`, then `poll_event` until it returns `None` |
+/// | `poll_transmit`, `send_to` | send the bytes, over the transport and between the addresses that are returned with them |
 ///
-/// | answer of `poll` | what it asks of the caller |
+/// # What `poll` returns
+///
+/// | result | what the caller does |
 /// |---|---|
-/// | `WaitUntil`, a moment that has come | as after a wait |
-/// | `WaitUntil`, a later moment | to wait until then, or until something comes or is called |
-/// | `AllocateTcpSocket` | to open a connection to the server, to tell of it by `allocated_tcp_socket`, and to call `poll` again; it is asked once |
-/// | `TcpClose` | to close that socket, and to call `poll` again; it is told once |
-/// | `Closed` | to take the events that wait, and nothing more: the client has ended, or has no allocation left |
-/// | `NoMemory` | the same: the client has failed, and holds nothing |
+/// | `WaitUntil`, a time that has come | goes on as when a wait is over |
+/// | `WaitUntil`, a later time | waits until then, until bytes arrive, or until it makes another call |
+/// | `AllocateTcpSocket` | opens a connection to the server, reports it with `allocated_tcp_socket`, and calls `poll` again; each socket is requested once |
+/// | `TcpClose` | closes that socket, and calls `poll` again; each is reported once |
+/// | `Closed` | takes the queued events, and nothing more: the client has ended, or has no allocation left |
+/// | `NoMemory` | the same as for `Closed`: the client has failed, and holds nothing any more |
 ///
-/// Moments are those of one clock that never goes back, at most `CLIENT_END`.
+/// # Data of peers
 ///
-/// Bytes go to peers by `send_to`, which answers what carries them, and those of peers are told by
-/// `recv` as they come.
+/// `send_to` returns what carries bytes to a peer. `recv` returns the bytes that arrive from peers.
 ///
-/// Over TCP the bytes of the server come in a stream, in pieces that are cut anywhere. `recv` tells what the
-/// first frame gives that a piece makes whole, and `poll_recv` what the others do.
+/// Over TCP the server's bytes arrive as a stream, in chunks of any size. `recv` returns the result
+/// of the first frame that a chunk completes, and `poll_recv` the results of the others.
 ///
-/// A client over TCP asks for connections to peers (RFC 6062): `tcp_connect` asks for one, `poll` for its
-/// socket, `allocated_tcp_socket` takes that, and the client asks over it that the connection be bound. What
-/// comes over the socket is handed in by `recv`, as a piece that came to the socket's own address. The event
-/// `TcpConnected` tells that the connection is bound: from then on bytes are the peer's, as they are, and
-/// `send_to` carries bytes to it. Where nothing binds it within 39.5 seconds, `poll` gives it up.
+/// # Connections to peers (RFC 6062)
 ///
-/// What may surprise a driver. An allocation whose time is over goes without an event: look at
-/// `relayed_addresses`. A REFRESH that is granted less than 600 seconds leaves the end of the allocation as it
-/// was, and no other is sent: the allocation ends then. Requests go 50 ms apart when they are sent first, and
-/// without a pause when they are sent again. A client that `protocol_error` has ended still shows what it held.
+/// Over TCP a client can request connections to peers:
+///
+/// 1. `tcp_connect` requests a connection.
+/// 2. `poll` requests a socket for it by `AllocateTcpSocket`.
+/// 3. `allocated_tcp_socket` reports the socket, over which the client then requests that the
+///    connection be bound.
+/// 4. `recv` takes what arrives over the socket, as a chunk that arrived at the socket's own
+///    address.
+/// 5. The event `TcpConnected` reports that the connection is bound. From then on the bytes that
+///    arrive over the socket are the peer's, unchanged, and `send_to` sends bytes to the peer over
+///    it.
+///
+/// If the connection is not bound within 39.5 seconds, `poll` gives it up.
+///
+/// # What may surprise a caller
+///
+/// - An allocation that expires is removed without an event: look at `relayed_addresses`.
+/// - If a REFRESH is granted less than 600 seconds, the allocation keeps its earlier end, no
+///   further REFRESH is sent, and the allocation expires then.
+/// - New requests are sent at least 50 ms apart. Retransmissions are sent without that pause.
+/// - A client that `protocol_error` has ended still lists what it held.
 pub trait TurnClientApi: Debug + Send {
-    ghost kept: { Self → Kept };
+    ghost stored: { Self → ClientState };
 
-    /// The transport of the connection to the server.
+    /// Returns the transport of the connection to the server.
     fn transport(&self) -> TransportType
-        ensures { result ≡ (kept self.now).core.agent.transport };
+        ensures { result ≡ (stored self.now).core.agent.transport };
 
-    /// The client's own address.
+    /// Returns the client's own address.
     fn local_addr(&self) -> SocketAddr
-        ensures { result ≡ (kept self.now).core.agent.here };
+        ensures { result ≡ (stored self.now).core.agent.here };
 
-    /// The server's address.
+    /// Returns the server's address.
     fn remote_addr(&self) -> SocketAddr
-        ensures { result ≡ (kept self.now).core.server };
+        ensures { result ≡ (stored self.now).core.server };
 
-    /// The relayed addresses that the server has allocated, with the transports between the server and
-    /// the peers, in the order in which they were granted. Allocations that are marked as expired are
-    /// passed over. It takes no memory.
+    /// Returns the relayed addresses that the server has allocated, each with the transport between
+    /// the server and the peers, in the order in which they were granted. Allocations that are
+    /// marked as expired are left out. Needs no memory.
     fn relayed_addresses(&self) -> RelayedAddressesIter<'_>
-        ensures value { result ≡ relayed_of (kept self.now).core }
+        ensures value { result ≡ relayed_of (stored self.now).core }
         ensures few { length result < 2 ^ 64 };
 
-    /// Asks for the end of the allocations (RFC 8656, section 8.1). Each is marked as expired at once,
-    /// and has no permission and no channel any more. Refused with `NoAllocation` where the server has
-    /// allocated nothing, or the client has ended. Where memory is refused, `NoMemory`, and nothing
-    /// changes but the words that were drawn.
+    /// Requests the end of all allocations (RFC 8656, section 8.1). Each is marked as expired at
+    /// once, and then has no permissions and no channels.
+    ///
+    /// # Errors
+    ///
+    /// - `NoAllocation`: the server has allocated nothing, or the client has ended. Nothing has
+    ///   changed.
+    /// - `NoMemory`: an allocation failed. Nothing has changed, except that the generator of
+    ///   transaction IDs has advanced.
     fn delete(&mut self, now: Instant) -> Result<(), DeleteError>
         ensures { Leaves (λ old new. IsDeleteAnswered old now result new)
-            (kept self.old) (kept self.new) };
+            (stored self.old) (stored self.new) };
 
-    /// Asks for a permission for an address (RFC 8656, section 10.1), in the first allocation of a
-    /// transport whose relayed address is of the same family. It stands for 300 seconds once the server
-    /// has granted it, and the client renews it a minute before its end. Refused with `NoAllocation`
-    /// where there is no such allocation, or its time is over: then it is marked as expired; with
-    /// `AlreadyExists` where a permission for the address stands there, or was asked for; and with
-    /// `NoAllocation` where the client has ended. Where memory is refused, `NoMemory`, and nothing
-    /// changes but the words that were drawn.
+    /// Requests a permission for a peer's IP address (RFC 8656, section 10.1), in the first
+    /// allocation of this transport whose relayed address is of the same family.
+    ///
+    /// The permission is valid for 300 seconds once the server has granted it. The client renews it
+    /// a minute before it expires.
+    ///
+    /// # Errors
+    ///
+    /// In this order:
+    ///
+    /// 1. `NoAllocation`: there is no such allocation, or it has expired. An expired one is marked
+    ///    as expired.
+    /// 2. `AlreadyExists`: the allocation has a permission for the address, or one was requested.
+    /// 3. `NoAllocation`: the client has ended.
+    /// 4. `NoMemory`: an allocation failed.
+    ///
+    /// Otherwise nothing has changed, except that after `NoMemory` the generator of transaction IDs
+    /// has advanced.
     fn create_permission(
         &mut self,
         transport: TransportType,
@@ -133,40 +171,52 @@ pub trait TurnClientApi: Debug + Send {
         now: Instant,
     ) -> Result<(), CreatePermissionError>
         ensures { Leaves (λ old new. IsPermissionAnswered old transport peer_addr now result new)
-            (kept self.old) (kept self.new) };
+            (stored self.old) (stored self.new) };
 
-    /// Whether a permission for an address stands, in an allocation of this transport that is not marked
-    /// as expired. One that has lapsed counts until `poll` takes it away.
+    /// Returns whether there is a permission for this IP address in an allocation of this transport
+    /// that is not marked as expired. A permission that has expired counts until `poll` removes it.
     fn have_permission(&self, transport: TransportType, to: IpAddr) -> bool
-        ensures { result ≡ has_permission transport to (kept self.now).core };
+        ensures { result ≡ has_permission transport to (stored self.now).core };
 
-    /// The addresses whose permissions stand in the allocation of this transport and relayed address, in
-    /// the order in which they were granted; none where there is no such allocation, or it is marked as
-    /// expired. It takes no memory.
+    /// Returns the IP addresses that have a permission in the allocation of this transport and
+    /// relayed address, in the order in which they were granted. Returns none if there is no such
+    /// allocation, or it is marked as expired. Needs no memory.
     fn permissions(
         &self,
         transport: TransportType,
         relayed: SocketAddr,
     ) -> PermissionAddressesIter<'_>
-        ensures value { result ≡ permissions_of transport relayed (kept self.now).core }
+        ensures value { result ≡ permissions_of transport relayed (stored self.now).core }
         ensures few { length result < 2 ^ 64 };
 
-    /// Asks for a channel to a peer (RFC 8656, section 12.1), in the first allocation of a transport
-    /// whose relayed address is of the peer's family, under the least number from 0x4000 to 0x7FFF that
-    /// is free; and for a permission for the peer's address, where none stands there or was asked for.
-    /// A channel stands for 600 seconds once the server has granted it, and the client renews it a
-    /// minute before its end. When it has ended, neither its number nor its peer is bound anew for 300
-    /// seconds.
+    /// Requests a channel to a peer (RFC 8656, section 12.1), in the first allocation of this
+    /// transport whose relayed address is of the peer's family.
     ///
-    /// Refused with `NoAllocation` where there is no such allocation, or its time is over: then it is
-    /// marked as expired; with `AlreadyExists` where a channel to the peer stands there (one that was
-    /// asked for is no bar: the peer gets another number); with `ExpiredChannelExists` where one to the
-    /// peer ended there, until and at the moment that it tells; with `NoAllocation` where the client has
-    /// ended; and with `NoChannel` where no number is free. Where memory is refused, `NoMemory`, and
-    /// nothing changes but the words that were drawn.
+    /// - The channel gets the least free number from 0x4000 to 0x7FFF.
+    /// - A permission for the peer's address is requested too, unless there is one or one was
+    ///   requested.
+    /// - The channel is valid for 600 seconds once the server has granted it. The client renews it
+    ///   a minute before it expires.
+    /// - After it has expired, neither its number nor its peer is bound again for 300 seconds.
+    /// - The request names the peer's IP address and port only. The client stores the flow
+    ///   information and the scope of an IPv6 address, and does not send them to the server.
     ///
-    /// A request tells the peer's IP and port alone: flow information and scope of an IPv6 address are
-    /// kept by the client, and not told to the server.
+    /// # Errors
+    ///
+    /// In this order:
+    ///
+    /// 1. `NoAllocation`: there is no such allocation, or it has expired. An expired one is marked
+    ///    as expired.
+    /// 2. `AlreadyExists`: the allocation has a channel to the peer. A channel that was only
+    ///    requested does not count: then the peer gets another number.
+    /// 3. `ExpiredChannelExists`: a channel to the peer expired in the allocation. The peer is
+    ///    refused up to and including the time in the error.
+    /// 4. `NoAllocation`: the client has ended.
+    /// 5. `NoChannel`: no channel number is free.
+    /// 6. `NoMemory`: an allocation failed.
+    ///
+    /// Otherwise nothing has changed, except that after `NoMemory` the generator of transaction IDs
+    /// has advanced.
     fn bind_channel(
         &mut self,
         transport: TransportType,
@@ -174,43 +224,73 @@ pub trait TurnClientApi: Debug + Send {
         now: Instant,
     ) -> Result<(), BindChannelError>
         ensures { Leaves (λ old new. IsBindAnswered old transport peer_addr now result new)
-            (kept self.old) (kept self.new) };
+            (stored self.old) (stored self.new) };
 
-    /// The numbers and the peers of the channels that stand, in the order in which they were granted,
-    /// one allocation after another. Allocations that are marked as expired are passed over. It takes no
-    /// memory.
+    /// Returns the numbers and the peers of the channels that are bound, in the order in which they
+    /// were granted, one allocation after another. Allocations that are marked as expired are left
+    /// out. Needs no memory.
     fn channels(&self) -> ChannelsIter<'_>
-        ensures value { result ≡ channels_of (kept self.now).core }
+        ensures value { result ≡ channels_of (stored self.now).core }
         ensures few { length result < 2 ^ 64 };
 
-    /// Asks for a connection to a peer (RFC 6062, section 4.3), in the first allocation over TCP whose
-    /// relayed address is of the peer's family. Where the server connects, `poll` asks for a socket by
-    /// `AllocateTcpSocket`; where it doesn't, the event `TcpConnectFailed` tells so.
+    /// Requests a TCP connection to a peer (RFC 6062, section 4.3), in the first allocation over
+    /// TCP whose relayed address is of the peer's family.
     ///
-    /// Refused with `NoAllocation` where there is no such allocation, or its time is over: then it is
-    /// marked as expired; with `NoAllocation` where the client has ended; with `NoPermission` where no
-    /// permission for the peer's address stands in that allocation; and with `AlreadyExists` where it
-    /// has a connection to the peer, waits for the socket of one, or has asked for one. Where memory is
-    /// refused, `NoMemory`, and nothing changes but the words that were drawn.
+    /// If the server connects, `poll` requests a socket by `AllocateTcpSocket`. If it does not, the
+    /// event `TcpConnectFailed` reports that. The request names the peer's IP address and port
+    /// only, as that of `bind_channel` does.
     ///
-    /// A request tells the peer's IP and port alone, as that of `bind_channel` does.
+    /// # Errors
+    ///
+    /// In this order:
+    ///
+    /// 1. `NoAllocation`: there is no such allocation, or it has expired. An expired one is marked
+    ///    as expired.
+    /// 2. `NoAllocation`: the client has ended.
+    /// 3. `NoPermission`: the allocation has no permission for the peer's address.
+    /// 4. `AlreadyExists`: the allocation has a connection to the peer, waits for the socket of
+    ///    one, or has requested one.
+    /// 5. `NoMemory`: an allocation failed.
+    ///
+    /// Otherwise nothing has changed, except that after `NoMemory` the generator of transaction IDs
+    /// has advanced.
     fn tcp_connect(&mut self, peer_addr: SocketAddr, now: Instant) -> Result<(), TcpConnectError>
         ensures { Leaves (λ old new. IsConnectAnswered old peer_addr now result new)
-            (kept self.old) (kept self.new) };
+            (stored self.old) (stored self.new) };
 
-    /// Hands in the own address of the socket that was opened for a connection to a peer, or that none was
-    /// (RFC 6062, section 4.3), by the number with which `AllocateTcpSocket` asked for it; the five-tuple is
-    /// that of the client's own connection to the server, which that answer tells. Then the client asks over
-    /// the new socket that the connection be bound, which the server may answer within 39.5 seconds. Without
-    /// a socket the connection is forgotten. Where a peer began it, the server's CONNECTION_ATTEMPT is answered
-    /// first (section 4.4): by a success, or without a socket by 447, Connection Timeout or Failure.
+    /// Reports the socket that was opened for a connection to a peer, or that none was (RFC 6062,
+    /// section 4.3). Call it after `poll` has returned `AllocateTcpSocket`.
     ///
-    /// It is refused, by the first that holds, with `NoAllocation` where no connection of that number and to
-    /// that peer waits for its socket, the client has not allocated over TCP or has ended, or the five-tuple
-    /// isn't its own; with `AlreadyExists` where another data connection has that own address; with
-    /// `NoMemory`, without a socket only where an answer is to wait. Nothing changes then but the words that
-    /// were drawn where memory is refused for a socket. A socket with the own address of the client's
-    /// connection to the server is taken: then what comes to it is no longer that connection's.
+    /// # Parameters
+    ///
+    /// - `id`: the connection's ID, from `AllocateTcpSocket`.
+    /// - `five_tuple`: the client's own connection to the server, as `AllocateTcpSocket` has it.
+    /// - `peer_addr`: the peer, from `AllocateTcpSocket`.
+    /// - `local_addr`: the new socket's own address, or `None` if no socket was opened.
+    ///
+    /// # What follows
+    ///
+    /// - With a socket, the client requests over it that the connection be bound. The server may
+    ///   respond within 39.5 seconds.
+    /// - Without a socket, the connection is forgotten.
+    /// - If the peer began the connection, the client first responds to the server's
+    ///   CONNECTION_ATTEMPT (section 4.4): with a success, or without a socket with error 447,
+    ///   Connection Timeout or Failure.
+    /// - A socket with the own address of the client's connection to the server is accepted. What
+    ///   arrives there then no longer belongs to that connection.
+    ///
+    /// # Errors
+    ///
+    /// In this order:
+    ///
+    /// 1. `NoAllocation`: no connection with this ID and to this peer waits for its socket; or the
+    ///    client has not allocated over TCP or has ended, or `five_tuple` is not its own.
+    /// 2. `AlreadyExists`: another data connection has this own address.
+    /// 3. `NoMemory`: an allocation failed. Without a socket this happens only if a response to the
+    ///    server has to be queued.
+    ///
+    /// Nothing has changed, except that after `NoMemory` with a socket the generator of transaction
+    /// IDs has advanced.
     fn allocated_tcp_socket(
         &mut self,
         id: u32,
@@ -219,14 +299,21 @@ pub trait TurnClientApi: Debug + Send {
         local_addr: Option<SocketAddr>,
         now: Instant,
     ) -> Result<(), TcpAllocateError>
-        ensures { IsSocketTold (kept self.old) id five_tuple peer_addr local_addr now result
-            (kept self.new) };
+        ensures { IsSocketReported (stored self.old) id five_tuple peer_addr local_addr now result
+            (stored self.new) };
 
-    /// Tells that the socket of a data connection was closed, between an own address and the server. The
-    /// connection goes, bound or not, without an event, and `poll` tells once more to close it, before any
-    /// other. A socket of no connection changes nothing, and so does that of the client's own connection to
-    /// the server. Where memory is refused, `NoMemory`, and nothing changes: it is asked for where a
-    /// connection goes.
+    /// Reports that the socket of a data connection was closed, by its own address and the
+    /// server's.
+    ///
+    /// - The connection is removed, bound or not, without an event. `poll` then returns `TcpClose`
+    ///   for this socket, before any other.
+    /// - The socket of no connection changes nothing. Neither does that of the client's own
+    ///   connection to the server.
+    ///
+    /// # Errors
+    ///
+    /// - `NoMemory`: an allocation failed, which can happen only if a connection is to be removed.
+    ///   Nothing has changed.
     fn tcp_closed(
         &mut self,
         local_addr: SocketAddr,
@@ -234,30 +321,41 @@ pub trait TurnClientApi: Debug + Send {
         now: Instant,
     ) -> Result<(), NoMemory>
         ensures ok { OnOk result (Leaves (λ old new. new ≡ after_close local_addr remote_addr old)
-            (kept self.old) (kept self.new)) }
-        ensures err { OnErr result (kept self.new ≡ kept self.old) }
+            (stored self.old) (stored self.new)) }
+        ensures err { OnErr result (stored self.new ≡ stored self.old) }
         ensures memory { OnErr result
-            (is_joined local_addr remote_addr (kept self.old).core ≡ true) };
+            (is_joined local_addr remote_addr (stored self.old).core ≡ true) };
 
-    /// The data connections that have a socket, each by its own address, its peer's, the number by which
-    /// the server knows it, and whether it is bound, in the order in which their sockets were told, one
-    /// allocation after another. Allocations that are marked as expired are passed over. It takes no memory.
+    /// Returns the data connections that have a socket, one allocation after another, in the order
+    /// in which their sockets were reported. Each has its own address, its peer's, the ID by which
+    /// the server knows it, and whether it is bound. Allocations that are marked as expired are
+    /// left out. Needs no memory.
     fn connections(&self) -> ConnectionsIter<'_>
-        ensures value { result ≡ connections_of (kept self.now).core }
+        ensures value { result ≡ connections_of (stored self.now).core }
         ensures few { length result < 2 ^ 64 };
 
-    /// What carries bytes to a peer, by the allocations of this transport: the answer is `Some`, and
-    /// its bytes are written when it is sent, by `build` or `write_into`. Over UDP it is a frame of the
-    /// first channel to the peer (RFC 8656, section 12.5), where that channel's time is not over, and
-    /// else a SEND indication (section 11.1), for which a number is drawn; over TCP the bytes as they
-    /// are, on the first connection that is bound to the peer (RFC 6062, section 4.5).
+    /// Returns what carries bytes to a peer, over the allocations of this transport. A successful
+    /// result is `Some`. Its bytes are not written yet: the caller writes them by `build` or
+    /// `write_into` when it sends them.
     ///
-    /// Refused with `NoPermission` where no permission for the peer's address stands in an allocation
-    /// of the transport that is not marked as expired, as `have_permission` tells; over TCP with
-    /// `NoTcpSocket` where no connection is bound to the peer; and over UDP with `TooLarge` where there
-    /// are more than `MAX_PAYLOAD` bytes, 65,504. Then nothing changes. It asks for no memory:
-    /// `NoMemory` is answered only where each of the 2^96 numbers of messages is taken. Whether the
-    /// client has ended is not looked at.
+    /// - Over UDP: a frame of the first channel to the peer (RFC 8656, section 12.5), if that
+    ///   channel has not expired. Otherwise a SEND indication (section 11.1), for which a
+    ///   transaction ID is generated.
+    /// - Over TCP: the bytes unchanged, on the first connection that is bound to the peer (RFC
+    ///   6062, section 4.5).
+    ///
+    /// It does not check whether the client has ended.
+    ///
+    /// # Errors
+    ///
+    /// In this order:
+    ///
+    /// 1. `NoPermission`: `have_permission` is false, that is, no allocation of the transport that
+    ///    is not marked as expired has a permission for the peer's address. Nothing has changed.
+    /// 2. Over TCP, `NoTcpSocket`: no connection is bound to the peer. Nothing has changed.
+    /// 3. Over UDP, `TooLarge`: there are more than `MAX_PAYLOAD` bytes, 65,504. Nothing has
+    ///    changed.
+    /// 4. `NoMemory`: all 2^96 transaction IDs are taken. This call allocates no memory.
     fn send_to<T: AsSlice<u8> + Debug + Drop>(
         &mut self,
         transport: TransportType,
@@ -267,136 +365,219 @@ pub trait TurnClientApi: Debug + Send {
     ) -> Result<Option<TransmitBuild<DelayedMessageOrChannelSend<T>>>, SendError>
         ensures { Leaves (λ old new.
             IsSendAnswered old transport to (T.items «data») now (answered_as T.items result) new)
-            (kept self.old) (kept self.new) };
+            (stored self.old) (stored self.new) };
 
-    /// The data of a peer that has come over TCP and waits. First come bytes that wait of the peer of a
-    /// bound connection, of the first that has some, in the order of `connections`: they stood behind the
-    /// response that bound it. Then the frames of the stream that wait are taken up in order, until one
-    /// carries data; `None`, where none is whole any more, or the client has failed. What is neither a message
-    /// nor a channel frame is passed over, and so is a report in ICMP. A client over UDP has no stream.
+    /// Returns the next buffered data of a peer that arrived over TCP, or `None`. Over UDP there is
+    /// no stream, and it returns `None`.
     ///
-    /// Where memory is refused, `NoMemory`, and the client has failed: it is asked for where a message
-    /// makes the client grow, and for the data of a frame that is answered; never where bytes of a connection
-    /// wait.
+    /// 1. Bytes of a bound connection's peer that arrived with the response that bound it. They are
+    ///    taken from the first connection that has some, in the order of `connections`.
+    /// 2. The data of the stream's frames. Complete frames are handled in order until one carries
+    ///    data. What is neither a message nor a channel frame is skipped, and so is an ICMP report.
+    /// 3. `None`, if no complete frame is left, or the client has failed.
+    ///
+    /// # Errors
+    ///
+    /// - `NoMemory`: an allocation failed, and the client has failed. Memory is needed for a
+    ///   message that makes the client store something, and for the data of a frame that is
+    ///   returned; never for the buffered bytes of a connection.
     fn poll_recv(&mut self, now: Instant) -> Result<Option<TurnPeerData<Vec<u8>>>, NoMemory>
         ensures ok { IfOk result (λ given.
-            IsWaitingGiven (kept self.old) now given (kept self.new)) }
-        ensures err { OnErr result (IsWaitingLost (kept self.old) now (kept self.new)) };
+            IsWaitingGiven (stored self.old) now given (stored self.new)) }
+        ensures err { OnErr result (IsWaitingLost (stored self.old) now (stored self.new)) };
 
-    /// Hands in what came at a moment: over UDP a datagram, over TCP a piece of the stream, or of what comes
-    /// over the socket of a connection. What didn't come from the server, by the client's transport, to the
-    /// client's own address or that of such a socket, is given back as `Ignored`, and so is a datagram that
-    /// is neither a message nor a channel frame, or not for the client. A message that is `Ignored` adds
-    /// nothing to what the client holds. But a challenge that nobody asked for may be kept, so that the next
-    /// request is signed for its realm and by its nonce, and names the user as it asks (RFC 8489, section
-    /// 9.2.5): in clear, where USERHASH was sent before.
+    /// Handles received bytes: over UDP a datagram; over TCP a chunk of the stream, or of what
+    /// arrived over the socket of a connection to a peer.
     ///
-    /// A channel frame gives its data as `PeerData`, in every state of the client, if and only if a
-    /// channel of its number stands; what stands behind the data is not looked at (RFC 8656, section
-    /// 12.6). A DATA indication gives the value of its last DATA, or without one the report of its last
-    /// ICMP as `PeerIcmp` (sections 11.4 and 11.6), if and only if the server has allocated and the
-    /// client has not ended; the indication shows no other attribute that has to be understood, its last
-    /// XOR-PEER-ADDRESS is well formed, and a permission for that address stands. Of several allocations
-    /// the first decides, whether it is marked as expired or not. The data is told by where it stands in
-    /// the bytes that came: nothing is copied, and nothing changes.
+    /// # What is ignored
     ///
-    /// Over TCP the first frame that is whole then is taken up, and what it gives is answered: where the
-    /// piece begins with the frame, data by where it stands in the piece, and else in a vector of its own.
-    /// A piece that makes none whole is `Handled`, and so is one whose first frame is neither a message
-    /// nor a channel frame, as soon as that is seen. Where the first frame gives nothing of a peer, what
-    /// `poll_recv` answers then is the answer, and without any whether the first frame was for the client.
-    /// A piece of no bytes is the end of the stream, and `Handled`; behind it, and by a client that has
-    /// failed, all is `Ignored`. Where the two top bits of a frame are 10 or 11, or a byte of a message's
-    /// cookie is wrong, the stream gives nothing more, and pieces of it are `Handled`.
+    /// The bytes are returned as `Ignored` in these cases:
     ///
-    /// Over the socket of a connection that is not bound the frames are taken up that are whole then, one
-    /// behind another, as long as it is to be bound (RFC 6062, section 4.3). By the success response to the
-    /// newest CONNECTION_BIND, which validates, it is bound, and `TcpConnected` tells so. A challenge that can
-    /// be answered is: it is asked once more that the connection be bound, within 39.5 seconds. By any other
-    /// message of CONNECTION_BIND the connection fails: it goes, `TcpConnectFailed` tells so, and `poll` to
-    /// close the socket. Other frames are passed over. The piece is `Handled`, unless the first frame is of a
-    /// channel: then it is `Ignored`. What stands behind the response that binds it is no frame, but bytes of
-    /// the peer, which `poll_recv` gives.
+    /// - They did not come from the server, over the client's transport, to the client's own
+    ///   address or that of a connection's socket.
+    /// - A datagram is neither a message nor a channel frame.
+    /// - A datagram is not for the client.
     ///
-    /// Once it is bound, a piece is `PeerData`, as it is, with what waited before it. A piece of no bytes is
-    /// the end of the socket, as `tcp_closed`, and `Handled`; behind it all is `Ignored`. A socket that has
-    /// the client's own address takes the place of the stream, and its messages are the stream's; its
-    /// connection is never bound.
+    /// A message that is `Ignored` adds nothing to the client's allocations, permissions, channels
+    /// and connections. But an unsolicited challenge may be stored. The next request is then signed
+    /// for its realm and with its nonce, and carries the user's name as the challenge requests it
+    /// (RFC 8489, section 9.2.5): in clear, even if USERHASH was sent before.
     ///
-    /// A CONNECTION_ATTEMPT, by which the server tells that a peer began a connection, is for the client where
-    /// it validates as a response does, and the server has allocated (RFC 6062, section 4.4). An answer of its
-    /// own number waits then: 400, where it names no connection or no peer, or no allocation over the client's
-    /// own transport is of the peer's family; 446, Connection Already Exists, where that allocation has a
-    /// connection to the peer, or waits for the socket of one. Else `poll` asks for a socket by
-    /// `AllocateTcpSocket`, and `allocated_tcp_socket` has the answer. `poll_transmit` gives answers, without
-    /// the pause between two messages.
+    /// # Data of peers
     ///
-    /// Where memory is refused, `NoMemory`, with what came: the client has failed. It is asked for
-    /// where there is something to keep or to tell of a message: of a challenge that can be answered,
-    /// whatever request it answers; of a response that is accepted, or that ends the client; and of a
-    /// CONNECTION_ATTEMPT. So a datagram of another host, bytes that are no message, an
-    /// indication, and any message that comes to a client that has sent nothing or has ended are never
-    /// answered so. Over TCP it is asked for besides where bytes are kept, for data in a vector of its own,
-    /// and to tell that a socket is to be closed.
+    /// Data is returned by its position in the received bytes: nothing is copied, and nothing
+    /// changes. (For TCP see below.)
+    ///
+    /// - A channel frame gives its data as `PeerData`, in every state of the client, if and only if
+    ///   a channel of its number is bound. What follows the data is not examined (RFC 8656, section
+    ///   12.6).
+    /// - A DATA indication gives the value of its last DATA as `PeerData`; without a DATA it gives
+    ///   the report of its last ICMP as `PeerIcmp` (sections 11.4 and 11.6). It does so if and only
+    ///   if the server has allocated and the client has not ended; no visible attribute other than
+    ///   XOR-PEER-ADDRESS, DATA and ICMP is of a type that has to be understood; the last
+    ///   XOR-PEER-ADDRESS is well formed; and there is a permission for that address.
+    ///
+    /// If there are several allocations, the first that has the channel or the permission decides,
+    /// whether it is marked as expired or not.
+    ///
+    /// # The stream over TCP
+    ///
+    /// The first frame that the chunk completes is handled, and its result is returned. If the
+    /// chunk begins with the frame, data is returned by its position in the chunk, otherwise in a
+    /// vector of its own.
+    ///
+    /// - A chunk that completes no frame is `Handled`.
+    /// - A chunk whose first frame is neither a message nor a channel frame is `Handled`, as soon
+    ///   as that can be seen.
+    /// - If the first frame gives nothing of a peer, the result is the data of the next complete
+    ///   frame of the stream that carries some, as `poll_recv` returns it. If there is none, the
+    ///   result says whether the first frame was for the client.
+    /// - A chunk of no bytes ends the stream, and is `Handled`. After that the stream's bytes are
+    ///   `Ignored`. A client that has failed ignores all bytes.
+    /// - If the two top bits of a frame are 10 or 11, or a byte of a message's cookie is wrong, the
+    ///   stream gives nothing more, and its chunks are `Handled`.
+    ///
+    /// # The socket of a connection that is not bound (RFC 6062, section 4.3)
+    ///
+    /// The complete frames are handled, one after another, as long as the connection is to be
+    /// bound:
+    ///
+    /// - The success response to the newest CONNECTION_BIND, if it validates, binds the connection,
+    ///   and `TcpConnected` reports it. What follows this response is no frame but bytes of the
+    ///   peer, which `poll_recv` returns.
+    /// - A challenge that can be answered makes the client request the binding again, within 39.5
+    ///   seconds.
+    /// - Any other message of CONNECTION_BIND makes the connection fail: it is removed,
+    ///   `TcpConnectFailed` reports it, and `poll` asks the caller to close the socket.
+    /// - Other frames are skipped.
+    ///
+    /// The chunk is `Handled`; but it is `Ignored` if its first frame is a channel frame.
+    ///
+    /// # The socket of a connection that is bound
+    ///
+    /// - A chunk is `PeerData`, unchanged, preceded by the bytes that were buffered before it.
+    /// - A chunk of no bytes ends the socket, as `tcp_closed` does, and is `Handled`. After that
+    ///   the socket's bytes are `Ignored`.
+    /// - A socket with the client's own address takes the place of the stream. Its messages are
+    ///   those of the stream, and its connection is never bound.
+    ///
+    /// # Connections that a peer begins (RFC 6062, section 4.4)
+    ///
+    /// With a CONNECTION_ATTEMPT the server reports that a peer began a connection. The message is
+    /// for the client if it validates as a response does and the server has allocated. Then one of
+    /// these follows:
+    ///
+    /// 1. A response 400 with the message's transaction ID is queued, if the message names no
+    ///    connection or no peer, or no allocation over the client's own transport is of the peer's
+    ///    family.
+    /// 2. A response 446, Connection Already Exists, is queued, if that allocation has a connection
+    ///    to the peer, or waits for the socket of one.
+    /// 3. Otherwise `poll` requests a socket by `AllocateTcpSocket`, and `allocated_tcp_socket`
+    ///    queues the response.
+    ///
+    /// `poll_transmit` returns these responses without the pause between two messages.
+    ///
+    /// # Out of memory
+    ///
+    /// `NoMemory` returns the bytes; the client has failed. Memory is needed only to store or
+    /// report something of a message:
+    ///
+    /// - a challenge that can be answered, whatever request it responds to;
+    /// - a response that is accepted, or that ends the client;
+    /// - a CONNECTION_ATTEMPT;
+    /// - over TCP also bytes that have to be buffered, data in a vector of its own, and the request
+    ///   to close a socket.
+    ///
+    /// So `NoMemory` is never returned for a datagram of another host, for bytes that are no
+    /// message, for an indication, or for any message to a client that has sent nothing or has
+    /// ended.
     fn recv<T: AsSlice<u8> + Debug + Drop>(
         &mut self,
         transmit: Transmit<T>,
         now: Instant,
     ) -> TurnRecvRet<T>
-        ensures { IsReceived T.items (kept self.old) transmit now result (kept self.new) };
+        ensures { IsReceived T.items (stored self.old) transmit now result (stored self.new) };
 
-    /// What is to be done at a moment. Where an event waits, the answer is to wait for that very moment:
-    /// `poll_event` gives it; and so it is where an answer to a request of the server's waits, which
-    /// `poll_transmit` gives. Nothing else is done then.
+    /// Does what is due at `now`, and returns what the caller is to do next.
     ///
-    /// Else a request that has ended without a response is given up. Where then a connection waits for a
-    /// socket that was not asked for, the answer is `AllocateTcpSocket`, and nothing else is done (RFC 6062,
-    /// section 4.3). Else allocations, permissions and channels whose time is over go, and connections that
-    /// were not bound in time; of the channels of one allocation, one at each call, and so of connections that
-    /// a peer began and whose request ended. What goes is told by an event, but for an allocation.
+    /// The steps, in order, up to the first that has a result:
     ///
-    /// The answer is `TcpClose` where then a socket is to be closed that the caller was not told of: the
-    /// first, and each once. Else it is `Closed` where the client has ended or has no allocation left, and
-    /// else `WaitUntil` with the moment until which nothing is to be done: at most 9999 seconds from now, and
-    /// now where a request has ended. A client that has ended answers `Closed` alone, whatever sockets are to
-    /// be closed.
+    /// 1. `WaitUntil(now)`, if an event is queued (take it by `poll_event`), or a response to a
+    ///    request of the server's is queued (take it by `poll_transmit`). Nothing else is done.
+    /// 2. A request that has ended without a response is given up.
+    /// 3. `AllocateTcpSocket`, if a connection waits for a socket that was not requested yet (RFC
+    ///    6062, section 4.3). Nothing else is done.
+    /// 4. What has expired is removed, as described below.
+    /// 5. `TcpClose`, if a socket is to be closed that was not reported yet: the first one. Each is
+    ///    reported once.
+    /// 6. `Closed`, if the client has ended or has no allocation left.
+    /// 7. `WaitUntil` with the time until which nothing is to be done: at most 9999 seconds from
+    ///    `now`; `now` if a request has ended.
     ///
-    /// Where memory is refused, `NoMemory`, and the client has failed: it is asked for where no event waits,
-    /// no socket is asked for, and something is to be told.
+    /// For a client that has ended, steps 3 to 5 are left out: it returns `Closed`, whatever
+    /// sockets are to be closed.
+    ///
+    /// # What is removed
+    ///
+    /// - allocations and permissions that have expired;
+    /// - channels that have expired: of each allocation one at each call;
+    /// - connections that were not bound in time;
+    /// - connections that a peer began and whose request has ended: of each allocation one at each
+    ///   call.
+    ///
+    /// Each removal is reported by an event, except that of an allocation.
+    ///
+    /// # Out of memory
+    ///
+    /// `NoMemory`: an allocation failed, and the client has failed. Memory is needed only if no
+    /// event is queued, no socket is requested, and an event has to be queued.
     fn poll(&mut self, now: Instant) -> TurnPollRet
-        ensures { Leaves (λ old new. IsPolled old now result new) (kept self.old)
-            (kept self.new) };
+        ensures { Leaves (λ old new. IsPolled old now result new) (stored self.old)
+            (stored self.new) };
 
-    /// What is to be sent at a moment, where there is something. A request that is due again comes first;
-    /// then, 50 ms after the last message at the earliest, what waits longest, and before that moment the
-    /// answer to a request of the server's that waits longest; then the first ALLOCATE, or what renews
-    /// something whose time has come: a REFRESH for an allocation, a CHANNEL_BIND for a channel, or a
-    /// CREATE_PERMISSION for a permission, for the first allocation for which there is one, in this order.
-    /// Call it again until it answers `None`.
+    /// Returns what is to be sent at `now`, or `None`. Call it again until it returns `None`.
     ///
-    /// Where memory is refused, `NoMemory`, and the client has failed: it is asked for where a request is due
-    /// again, and where one is made. A message that waits takes none, and neither does a call that answers
-    /// `None`.
+    /// The order is:
+    ///
+    /// 1. A request whose retransmission is due.
+    /// 2. If the last message was sent less than 50 ms ago: the oldest queued response to a request
+    ///    of the server's, and otherwise nothing.
+    /// 3. The oldest queued message.
+    /// 4. The first ALLOCATE.
+    /// 5. A renewal that is due, of the first allocation that has one: a REFRESH for the
+    ///    allocation, a CHANNEL_BIND for a channel, or a CREATE_PERMISSION for a permission, in
+    ///    this order.
+    ///
+    /// # Errors
+    ///
+    /// - `NoMemory`: an allocation failed, and the client has failed. Memory is needed for a
+    ///   retransmission and for a new request; never for a queued message, or if the result is
+    ///   `None`.
     fn poll_transmit(&mut self, now: Instant) -> Result<Option<Transmit<Data<'static>>>, NoMemory>
         ensures ok { Leaves (λ old new. IfOk result (λ answer.
-            IsDrawn old now (option_map sent_of answer) new)) (kept self.old) (kept self.new) }
-        ensures err { OnErr result (Leaves HasFailed (kept self.old) (kept self.new)) }
-        ensures memory { OnErr result (HasToSend (kept self.old).core now) };
+            IsTransmitted old now (option_map sent_of answer) new)) (stored self.old) (stored
+            self.new) }
+        ensures err { OnErr result (Leaves HasFailed (stored self.old) (stored self.new)) }
+        ensures memory { OnErr result (HasToSend (stored self.old).core now) };
 
-    /// The event that has waited longest. It takes no memory.
+    /// Returns the oldest queued event, and removes it from the queue. Needs no memory.
     fn poll_event(&mut self) -> Option<TurnEvent>
-        ensures event { (kept self.old).core.events
-            ≡ option_to_list result ++ (kept self.new).core.events }
-        ensures none { IfNone result ((kept self.old).core.events ≡ []) }
+        ensures event { (stored self.old).core.events
+            ≡ option_to_list result ++ (stored self.new).core.events }
+        ensures none { IfNone result ((stored self.old).core.events ≡ []) }
         ensures others { Leaves (λ old new. new ≡ record old { events = new.events })
-            (kept self.old) (kept self.new) };
+            (stored self.old) (stored self.new) };
 
-    /// A layer above has met an error, and the client is no longer of use: it ends, and of each family
-    /// it is told that no address is allocated. Where memory is refused, `NoMemory`, and nothing
-    /// changes: it is asked for where there is a family to tell of, as there is in every client.
+    /// Ends the client, because a layer above has met an error and has no use for it any more. For
+    /// each requested address family an event `AllocationCreateFailed` is queued.
+    ///
+    /// # Errors
+    ///
+    /// - `NoMemory`: an allocation failed, and nothing has changed. Memory is needed to queue these
+    ///   events, as every client has a family.
     fn protocol_error(&mut self) -> Result<(), NoMemory>
         ensures ok { OnOk result (Leaves (λ old new. new ≡ ended old)
-            (kept self.old) (kept self.new)) }
-        ensures err { OnErr result (kept self.new ≡ kept self.old) }
-        ensures memory { OnErr result ((kept self.old).core.families ≢ []) };
+            (stored self.old) (stored self.new)) }
+        ensures err { OnErr result (stored self.new ≡ stored self.old) }
+        ensures memory { OnErr result ((stored self.old).core.families ≢ []) };
 }

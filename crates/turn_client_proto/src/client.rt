@@ -1,6 +1,6 @@
-//! A client over whichever transport.
+//! A TURN client over UDP or TCP, as one type.
 
-ghost use Rattle.turn_client_proto.specs.Clients.{kept_of};
+ghost use Rattle.turn_client_proto.specs.Clients.{stored_of};
 
 use crate::api::TurnClientApi;
 use crate::getters::{
@@ -26,7 +26,7 @@ use turn_client_proto_api::event::TurnEvent;
 use turn_client_proto_api::send::DelayedMessageOrChannelSend;
 use turn_types_frame::build::TransmitBuild;
 
-/// A TURN client over whichever transport. Its calls are those of the client inside.
+/// A TURN client over UDP or TCP. Its calls are those of the client inside.
 #[derive(Debug, Drop)]
 pub enum TurnClient {
     /// A client over UDP.
@@ -58,9 +58,9 @@ impl From<TurnClientTcp> for TurnClient {
 }
 
 impl TurnClientApi for TurnClient {
-    ghost use Rattle.turn_client_proto.specs.Clients.{kept_of};
+    ghost use Rattle.turn_client_proto.specs.Clients.{stored_of};
 
-    ghost kept = { kept_of };
+    ghost stored = { stored_of };
 
     fn transport(&self) -> TransportType {
         match self {

@@ -1,10 +1,10 @@
-//! What a client's getters give, one after another. Each knows how many are left.
+//! The iterators that a client's getters return. Each knows how many elements are left.
 
 ghost use Rattle.std.specs.Prelude.{◌≡◌, ◌<◌, ◌^◌, length};
-ghost use Rattle.turn_client_proto_allocation.specs.Listed.{relayed_shown};
-ghost use Rattle.turn_client_proto_peers.specs.Channel.Shown.{channels_shown};
-ghost use Rattle.turn_client_proto_connection.specs.Shown.{connections_shown};
-ghost use Rattle.turn_client_proto_peers.specs.Permission.Shown.{addresses_of};
+ghost use Rattle.turn_client_proto_allocation.specs.Listed.{relayed_listed};
+ghost use Rattle.turn_client_proto_peers.specs.Channel.Visible.{channels_listed};
+ghost use Rattle.turn_client_proto_connection.specs.Visible.{connections_listed};
+ghost use Rattle.turn_client_proto_peers.specs.Permission.Visible.{addresses_of};
 
 use std::marker::Model;
 use std::net::{IpAddr, SocketAddr};
@@ -14,12 +14,12 @@ use turn_client_proto_allocation::channel::Channel;
 use turn_client_proto_allocation::connection::Connection;
 use turn_client_proto_allocation::listed::Allocations;
 use turn_client_proto_allocation::permission::Permission;
-use turn_client_proto_connection::shown::{connections_count, connections_of};
-use turn_client_proto_peers::channel::shown::{channels_count, channels_of};
+use turn_client_proto_connection::visible::{connections_count, connections_of};
+use turn_client_proto_peers::channel::visible::{channels_count, channels_of};
 
-/// The relayed addresses of a client with their transports, in the order in which they were granted.
-/// Those of allocations that are marked as expired are passed over. Contracts see the list of what is
-/// left.
+/// Iterates over a client's relayed addresses with their transports, in the order in which they
+/// were granted. Allocations that are marked as expired are left out. In contracts it is the list
+/// of what is left.
 #[derive(Debug, Drop)]
 pub struct RelayedAddressesIter<'a> {
     left: &'a [Allocation],
@@ -29,17 +29,17 @@ impl<'a> Model for RelayedAddressesIter<'a> {
     ghost use Rattle.std.specs.Prelude.{List};
     ghost use Rattle.std.specs.declared.net.socket_addr.SocketAddr.{SocketAddr};
     ghost use Rattle.stun_types_base.specs.declared.transport.TransportType.{TransportType};
-    ghost use Rattle.turn_client_proto_allocation.specs.Listed.{relayed_shown};
+    ghost use Rattle.turn_client_proto_allocation.specs.Listed.{relayed_listed};
 
     ghost Value = { List (TransportType × SocketAddr) };
 
-    ghost view = { λ it. relayed_shown it.left.now };
+    ghost view = { λ it. relayed_listed it.left.now };
 }
 
 impl<'a> RelayedAddressesIter<'a> {
-    /// The relayed addresses of these allocations.
+    /// Iterates over the relayed addresses of these allocations.
     pub fn new(allocations: &'a [Allocation]) -> RelayedAddressesIter<'a>
-        ensures value { result ≡ relayed_shown allocations.now }
+        ensures value { result ≡ relayed_listed allocations.now }
         ensures few { length result < 2 ^ 64 }
     {
         RelayedAddressesIter { left: allocations }
@@ -86,8 +86,8 @@ impl<'a> ExactSizeIterator for RelayedAddressesIter<'a> {
     }
 }
 
-/// The addresses of permissions, in the order in which they were granted. Contracts see the list of what
-/// is left.
+/// Iterates over the IP addresses of permissions, in the order in which they were granted. In
+/// contracts it is the list of what is left.
 #[derive(Debug, Drop)]
 pub struct PermissionAddressesIter<'a> {
     left: &'a [Permission],
@@ -96,7 +96,7 @@ pub struct PermissionAddressesIter<'a> {
 impl<'a> Model for PermissionAddressesIter<'a> {
     ghost use Rattle.std.specs.Prelude.{List};
     ghost use Rattle.std.specs.declared.net.ip_addr.IpAddr.{IpAddr};
-    ghost use Rattle.turn_client_proto_peers.specs.Permission.Shown.{addresses_of};
+    ghost use Rattle.turn_client_proto_peers.specs.Permission.Visible.{addresses_of};
 
     ghost Value = { List IpAddr };
 
@@ -104,7 +104,7 @@ impl<'a> Model for PermissionAddressesIter<'a> {
 }
 
 impl<'a> PermissionAddressesIter<'a> {
-    /// The addresses of these permissions.
+    /// Iterates over the IP addresses of these permissions.
     pub fn new(permissions: &'a [Permission]) -> PermissionAddressesIter<'a>
         ensures value { result ≡ addresses_of permissions.now }
         ensures few { length result < 2 ^ 64 }
@@ -139,9 +139,9 @@ impl<'a> ExactSizeIterator for PermissionAddressesIter<'a> {
     }
 }
 
-/// The channels of a client, each by its number and its peer, in the order in which they were granted,
-/// one allocation after another. Those of allocations that are marked as expired are passed over.
-/// Contracts see the list of what is left.
+/// Iterates over a client's channels, each with its number and its peer, in the order in which they
+/// were granted, one allocation after another. Allocations that are marked as expired are left out.
+/// In contracts it is the list of what is left.
 #[derive(Debug, Drop)]
 pub struct ChannelsIter<'a> {
     here: &'a [Channel],
@@ -152,19 +152,20 @@ pub struct ChannelsIter<'a> {
 impl<'a> Model for ChannelsIter<'a> {
     ghost use Rattle.std.specs.Prelude.{ℕ, List, ◌++◌, ◌≡◌, length};
     ghost use Rattle.std.specs.declared.net.socket_addr.SocketAddr.{SocketAddr};
-    ghost use Rattle.turn_client_proto_peers.specs.Channel.Shown.{channels_shown, pairs_of};
+    ghost use Rattle.turn_client_proto_peers.specs.Channel.Visible.{channels_listed, pairs_of};
 
     ghost Value = { List (ℕ × SocketAddr) };
 
-    ghost view = { λ it. pairs_of it.here.now ++ channels_shown it.left.now };
+    ghost view = { λ it. pairs_of it.here.now ++ channels_listed it.left.now };
 
-    ghost invariant = { λ it. it.count ≡ length (pairs_of it.here.now ++ channels_shown it.left.now) };
+    ghost invariant = { λ it. it.count ≡ length (pairs_of it.here.now ++ channels_listed
+        it.left.now) };
 }
 
 impl<'a> ChannelsIter<'a> {
-    /// The channels of these allocations.
+    /// Iterates over the channels of these allocations.
     pub fn new(allocations: &'a Allocations) -> ChannelsIter<'a>
-        ensures value { result ≡ channels_shown allocations.now }
+        ensures value { result ≡ channels_listed allocations.now }
         ensures few { length result < 2 ^ 64 }
     {
         ChannelsIter {
@@ -210,10 +211,10 @@ impl<'a> ExactSizeIterator for ChannelsIter<'a> {
     }
 }
 
-/// The data connections of a client, each by its own address, its peer's, the number by which the server
-/// knows it, and whether it is bound, in the order in which their sockets were told, one allocation after
-/// another. Those of allocations that are marked as expired are passed over. Contracts see the list of
-/// what is left.
+/// Iterates over a client's data connections, one allocation after another, in the order in which
+/// their sockets were reported. Each has its own address, its peer's, the ID by which the server
+/// knows it, and whether it is bound. Allocations that are marked as expired are left out. In
+/// contracts it is the list of what is left.
 #[derive(Debug, Drop)]
 pub struct ConnectionsIter<'a> {
     here: &'a [Connection],
@@ -224,19 +225,20 @@ pub struct ConnectionsIter<'a> {
 impl<'a> Model for ConnectionsIter<'a> {
     ghost use Rattle.std.specs.Prelude.{ℕ, Bool, List, ◌++◌, ◌≡◌, length};
     ghost use Rattle.std.specs.declared.net.socket_addr.SocketAddr.{SocketAddr};
-    ghost use Rattle.turn_client_proto_connection.specs.Shown.{connections_shown, rows_of};
+    ghost use Rattle.turn_client_proto_connection.specs.Visible.{connections_listed, rows_of};
 
     ghost Value = { List (SocketAddr × SocketAddr × ℕ × Bool) };
 
-    ghost view = { λ it. rows_of it.here.now ++ connections_shown it.left.now };
+    ghost view = { λ it. rows_of it.here.now ++ connections_listed it.left.now };
 
-    ghost invariant = { λ it. it.count ≡ length (rows_of it.here.now ++ connections_shown it.left.now) };
+    ghost invariant = { λ it. it.count ≡ length (rows_of it.here.now ++ connections_listed
+        it.left.now) };
 }
 
 impl<'a> ConnectionsIter<'a> {
-    /// The connections of these allocations.
+    /// Iterates over the connections of these allocations.
     pub fn new(allocations: &'a Allocations) -> ConnectionsIter<'a>
-        ensures value { result ≡ connections_shown allocations.now }
+        ensures value { result ≡ connections_listed allocations.now }
         ensures few { length result < 2 ^ 64 }
     {
         ConnectionsIter {

@@ -1,10 +1,13 @@
-//! A TURN client (RFC 8656) that performs no input or output: it takes calls, bytes and moments, and
-//! gives messages to send, events and payloads.
+//! A TURN client (RFC 8656) that performs no input or output: it takes calls, received bytes and
+//! times, and returns messages to send, events and payloads.
 //!
-//! [`api`] has the settings, the trait of a client's calls, and what they answer; [`udp`] the client
-//! over UDP, [`tcp`] the one over TCP; [`client`] the client over whichever transport, as one type;
-//! [`prelude`] the traits that a caller wants in scope; [`laws`] what the contracts mean for a layer
-//! above. [`types`] and [`stun`] are the crates below.
+//! - [`api`]: the settings, the trait of a client's calls, and their results.
+//! - [`udp`]: the client over UDP.
+//! - [`tcp`]: the client over TCP.
+//! - [`client`]: the client over either transport, as one type.
+//! - [`prelude`]: the traits that a caller needs in scope.
+//! - [`laws`]: what the contracts mean for a layer above.
+//! - [`types`] and [`stun`]: the crates below.
 #![tactic(auto)]
 
 pub mod api;

@@ -1,4 +1,4 @@
-//! The traits that a caller wants in scope.
+//! The traits that a caller needs in scope.
 
 pub use crate::api::TurnClientApi;
 pub use turn_types_frame::build::DelayedTransmitBuild;

@@ -3,10 +3,10 @@ pub mod Earliest
 pub mod Prefixes
 pub mod Undoing
 pub mod Walks
-pub mod Fronts
+pub mod Heads
 pub mod Lent
-pub mod Told
+pub mod Reported
 pub mod SetAgain
--- What stands above this crate has these through it.
+-- The crates above this one use these proofs through this file.
 pub use Rattle.turn_types_frame.proofs as TurnTypesFrame
 pub use Rattle.stun_proto_transaction.proofs as StunProtoTransaction

@@ -1,12 +1,12 @@
--- What is added behind a list leaves its front.
+-- Appending to a list leaves its first elements as they were.
 use Rattle.std.proofs.Common.{◌≡◌, List, ◌++◌, take, length}
 use Rattle.std.proofs.Math.Seq.{take-append_seam, take-length}
 
-pub front_kept : {X : Type 0} (front behind : List X) → take (length front) (front ++ behind) ≡ front
-front_kept front behind = take-append_seam front behind
+pub head_stored : {X : Type 0} (prefix following : List X) → take (length prefix) (prefix ++ following) ≡ prefix
+head_stored prefix following = take-append_seam prefix following
 
-pub whole_kept : {X : Type 0} (all : List X) → take (length all) all ≡ all
-whole_kept all = take-length all
+pub whole_stored : {X : Type 0} (all : List X) → take (length all) all ≡ all
+whole_stored all = take-length all
 
--- what stood first still does
-pub ruleset kept = (front_kept, whole_kept)
+-- The first elements are still the first ones.
+pub ruleset stored = (head_stored, whole_stored)

@@ -1,4 +1,4 @@
--- What was added last is taken back.
+-- Taking back what was appended last.
 use Rattle.std.proofs.Common.{◌≡◌, List, [], ◌∷◌, ap, ◌∙◌}
 use Rattle.std.specs.Prelude.{map}
 use Rattle.turn_client_proto_allocation.specs.Refreshing.{refreshing}
@@ -8,7 +8,7 @@ use Rattle.turn_client_proto_allocation.specs.declared.refresh.PendingRefresh.{P
 joined : (a b : Allocation) (one two : List Allocation) → a ≡ b → one ≡ two → a ∷ one ≡ b ∷ two
 joined a b one two same rest = ap (λ (x : Allocation). x ∷ one) same ∙ ap (λ (l : List Allocation). b ∷ l) rest
 
--- the first allocation forgets what was added, and so do the others
+-- The first allocation forgets what was appended, and so do the others.
 pub forgotten : (first first' : Allocation) (others others' before : List Allocation) (refresh : PendingRefresh)
     → ((a : Allocation) (r : PendingRefresh) → first ≡ refreshing r a → first' ≡ a)
     → ((l : List Allocation) (r : PendingRefresh) → others ≡ map (refreshing r) l → others' ≡ l)

@@ -1,106 +1,108 @@
 -- Channels, and lists of them (RFC 8656, section 12).
 use Rattle.std.specs.Prelude.{ℕ, ◌*◌, ◌-◌, nat_le, nat_lt, max, Bool, not, ◌&&◌, List, [], ◌∷◌, ◌++◌, filter, Option, if◌then◌else◌}
-use Rattle.stun_types_base.specs.Moments.{moment_after}
+use Rattle.stun_types_base.specs.Times.{time_after}
 use Rattle.turn_client_proto_allocation.specs.Awaited.{asks_for_channel, is_among, renews_channel}
 use Rattle.turn_client_proto_allocation.specs.Changes.{change_first}
 use Rattle.turn_client_proto_allocation.specs.Permissions.{are_none}
 use Rattle.turn_client_proto_allocation.specs.Refreshing.{renewed_before, second}
 use Rattle.turn_client_proto_allocation.specs.declared.channel.Channel.{Channel}
-use Rattle.turn_client_proto_allocation.specs.declared.channel.LapsedChannel.{LapsedChannel}
+use Rattle.turn_client_proto_allocation.specs.declared.channel.ExpiredChannel.{ExpiredChannel}
 use Rattle.turn_client_proto_allocation.specs.declared.channel.PendingChannel.{PendingChannel}
 
--- a channel stands so long, unless it is renewed
+-- How long a channel is valid unless it is renewed.
 abbrev pub channel_lifetime : ℕ
 channel_lifetime = 600 * second
 
--- so long a channel that has lapsed is protected: neither its number nor its peer is bound anew
+-- How long an expired channel is protected: neither its number nor its peer is bound anew.
 abbrev pub protection : ℕ
 protection = 300 * second
 
--- ---- one that stands
+-- ---- one that is valid
 
--- the moment from which on a channel is to be renewed
+-- The time from which a channel is to be renewed.
 abbrev pub channel_renewal : Channel → ℕ
 channel_renewal c = c.expiry - renewed_before
 
--- a channel is to be renewed at this moment
+-- The channel is to be renewed at this time.
 abbrev pub wants_renewal : ℕ → Channel → Bool
 wants_renewal now c = nat_le now c.expiry && (are_none c.renewals && nat_le (channel_renewal c) now)
 
-abbrev pub has_lapsed : ℕ → Channel → Bool
-has_lapsed now c = nat_le c.expiry now
+abbrev pub has_expired : ℕ → Channel → Bool
+has_expired now c = nat_le c.expiry now
 
--- when a channel has something to do: it lapses; or it is renewed in its time, at the earliest when a request is
--- ready to go out
+-- The next time at which a channel has to be polled: when it expires, or when it is to be renewed, but not
+-- before a request can be sent (`ready`).
 unfoldable pub next_of_channel : Option ℕ → (ready now : ℕ) → Channel → ℕ
 next_of_channel ended ready now c =
-    if has_lapsed now c then now
+    if has_expired now c then now
     else (if is_among ended c.renewals then ready
     else (if are_none c.renewals then max (channel_renewal c) ready else c.expiry))
 
--- a channel whose renewal ended without a response may be renewed again
+-- The channel after the transaction `ended` timed out: if it was to renew the channel, the channel may be
+-- renewed again.
 unfoldable pub polled_channel : Option ℕ → Channel → Channel
 polled_channel ended c = if is_among ended c.renewals then record c { renewals = [] } else c
 
--- a channel after the request of a number was granted, which was to renew it
-unfoldable pub renewed_channel : (number expiry : ℕ) → Channel → Channel
-renewed_channel number expiry c =
-    if renews_channel number c then record c { expiry = expiry; renewals = [] } else c
+-- The channel after a success response to this request: if the request was to renew it, it now expires at
+-- `expiry`.
+unfoldable pub renewed_channel : (transaction_id expiry : ℕ) → Channel → Channel
+renewed_channel transaction_id expiry c =
+    if renews_channel transaction_id c then record c { expiry = expiry; renewals = [] } else c
 
--- a channel that the request of a number is to renew, too
+-- The channel when the request with this transaction ID is to renew it, too.
 abbrev pub awaiting : ℕ → Channel → Channel
-awaiting number c = record c { renewals = c.renewals ++ number ∷ [] }
+awaiting transaction_id c = record c { renewals = c.renewals ++ transaction_id ∷ [] }
 
--- ---- those that stand
+-- ---- those that are valid
 
--- those that no request of this number is to renew
+-- The channels that the request with this transaction ID is not to renew.
 abbrev pub not_renewed_by : ℕ → List Channel → List Channel
-not_renewed_by number channels = filter (λ c. not (renews_channel number c)) channels
+not_renewed_by transaction_id channels = filter (λ c. not (renews_channel transaction_id c)) channels
 
--- the first one that the request of a number is to renew is to be renewed by another one, too
-abbrev pub renewed_again : (old number : ℕ) → List Channel → List Channel
-renewed_again old number channels = change_first (renews_channel old) (awaiting number) channels
+-- The channels when the request `transaction_id` is to renew the first one that the request `old` is to renew.
+abbrev pub renewed_again : (old transaction_id : ℕ) → List Channel → List Channel
+renewed_again old transaction_id channels = change_first (renews_channel old) (awaiting transaction_id) channels
 
--- the first one that is to be renewed at a moment is to be so by the request of a number
-abbrev pub renewed_first : (now number : ℕ) → List Channel → List Channel
-renewed_first now number channels = change_first (wants_renewal now) (awaiting number) channels
+-- The channels when the request `transaction_id` is to renew the first one that is to be renewed at `now`.
+abbrev pub renewed_first : (now transaction_id : ℕ) → List Channel → List Channel
+renewed_first now transaction_id channels = change_first (wants_renewal now) (awaiting transaction_id) channels
 
--- ---- those that were asked for
+-- ---- those that were requested
 
--- the transaction that ended is that of a request which asks for it
+-- The transaction that timed out is that of a request for the pending channel.
 abbrev pub is_over : Option ℕ → PendingChannel → Bool
 is_over ended c = is_among ended c.numbers
 
--- a channel that the request of a number asks for, too
+-- The pending channel when the request with this transaction ID requests it, too.
 abbrev pub with_number : ℕ → PendingChannel → PendingChannel
-with_number number c = record c { numbers = c.numbers ++ number ∷ [] }
+with_number transaction_id c = record c { numbers = c.numbers ++ transaction_id ∷ [] }
 
--- those of which no request has ended
+-- The pending channels of which no request timed out.
 abbrev pub not_over : Option ℕ → List PendingChannel → List PendingChannel
 not_over ended pending = filter (λ c. not (is_over ended c)) pending
 
--- those that no request of this number asks for
-abbrev pub not_asked_by : ℕ → List PendingChannel → List PendingChannel
-not_asked_by number pending = filter (λ c. not (asks_for_channel number c)) pending
+-- The pending channels that the request with this transaction ID does not request.
+abbrev pub not_pending_request : ℕ → List PendingChannel → List PendingChannel
+not_pending_request transaction_id pending = filter (λ c. not (asks_for_channel transaction_id c)) pending
 
--- the first one that the request of a number asks for is asked for by another one, too
-abbrev pub asked_again : (old number : ℕ) → List PendingChannel → List PendingChannel
-asked_again old number pending = change_first (asks_for_channel old) (with_number number) pending
+-- The pending channels when the request `transaction_id` requests the first one that the request `old` requests.
+abbrev pub requested_again : (old transaction_id : ℕ) → List PendingChannel → List PendingChannel
+requested_again old transaction_id pending = change_first (asks_for_channel old) (with_number transaction_id) pending
 
--- ---- those that have lapsed
+-- ---- those that have expired
 
--- a channel that lapses, by refusal or as time goes on
-abbrev pub lapsed_of : Channel → LapsedChannel
-lapsed_of c = record { number = c.number; peer = c.peer; expiry = c.expiry }
+-- What is remembered of a channel that expires or whose renewal is rejected.
+abbrev pub expired_of : Channel → ExpiredChannel
+expired_of c = record { number = c.number; peer = c.peer; expiry = c.expiry }
 
--- until when a channel that has lapsed is protected
-abbrev pub protected_until : LapsedChannel → ℕ
-protected_until c = moment_after c.expiry protection
+-- The time until which an expired channel is protected.
+abbrev pub protected_until : ExpiredChannel → ℕ
+protected_until c = time_after c.expiry protection
 
--- its protection is over
-abbrev pub is_forgotten : ℕ → LapsedChannel → Bool
+-- The protection of the expired channel is over.
+abbrev pub is_forgotten : ℕ → ExpiredChannel → Bool
 is_forgotten now c = nat_lt (protected_until c) now
 
--- those that are protected still
-abbrev pub not_forgotten : ℕ → List LapsedChannel → List LapsedChannel
-not_forgotten now lapsed = filter (λ c. not (is_forgotten now c)) lapsed
+-- The expired channels that are still protected.
+abbrev pub not_forgotten : ℕ → List ExpiredChannel → List ExpiredChannel
+not_forgotten now expired = filter (λ c. not (is_forgotten now c)) expired

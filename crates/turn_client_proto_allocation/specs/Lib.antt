@@ -7,9 +7,9 @@ pub mod Polling
 pub mod Refreshing
 pub mod Permits
 pub mod Same
-pub mod Requested
+pub mod PendingRequests
 pub mod Channels
--- What stands above this crate has these through it.
+-- The crates above this one use these definitions through this file.
 pub use Rattle.stun_types_wire.specs as StunTypesWire
 pub use Rattle.turn_types_frame.specs as TurnTypesFrame
 pub use Rattle.stun_proto_transaction.specs as StunProtoTransaction

@@ -6,14 +6,15 @@ use Rattle.stun_types_base.specs.declared.transport.TransportType.{TransportType
 use Rattle.turn_client_proto_allocation.specs.Awaited.{is_awaited}
 use Rattle.turn_client_proto_allocation.specs.declared.allocation.Allocation.{Allocation}
 
--- one of them awaits the response to a request of this number, or has not answered it
+-- The transaction ID is that of a request of one of the allocations that the server has not answered, or of a
+-- request of the server that the client has not answered.
 abbrev pub is_any_awaited : ℕ → List Allocation → Bool
-is_any_awaited number allocations = list_any (is_awaited number) allocations
+is_any_awaited transaction_id allocations = list_any (is_awaited transaction_id) allocations
 
--- an allocation that is shown: it is not marked as expired
-abbrev pub is_shown : Allocation → Bool
-is_shown a = not a.is_expired
+-- The getters list the allocation: it is not marked as expired.
+abbrev pub is_listed : Allocation → Bool
+is_listed a = not a.is_expired
 
--- the relayed addresses that are shown, with their transports
-abbrev pub relayed_shown : List Allocation → List (TransportType × SocketAddr)
-relayed_shown allocations = map (λ (a : Allocation). (a.transport, a.address)) (filter is_shown allocations)
+-- The relayed addresses that the getters list, with their transports.
+abbrev pub relayed_listed : List Allocation → List (TransportType × SocketAddr)
+relayed_listed allocations = map (λ (a : Allocation). (a.transport, a.address)) (filter is_listed allocations)

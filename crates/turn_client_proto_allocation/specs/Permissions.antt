@@ -6,89 +6,91 @@ use Rattle.turn_client_proto_allocation.specs.Refreshing.{renewed_before, second
 use Rattle.turn_client_proto_allocation.specs.declared.permission.PendingPermission.{PendingPermission}
 use Rattle.turn_client_proto_allocation.specs.declared.permission.Permission.{Permission}
 
--- a permission stands so long, unless it is renewed
+-- How long a permission is valid unless it is renewed.
 abbrev pub permission_lifetime : ℕ
 permission_lifetime = 300 * second
 
--- ---- one that stands
+-- ---- one that is valid
 
--- no number is there
+-- The list is empty.
 abbrev pub are_none : List ℕ → Bool
 are_none [] = true
 are_none (n ∷ rest) = false
 
--- the moment from which on a permission is to be renewed
+-- The time from which a permission is to be renewed.
 abbrev pub permission_renewal : Permission → ℕ
 permission_renewal p = p.expiry - renewed_before
 
--- a permission is to be renewed at this moment
+-- The permission is to be renewed at this time.
 abbrev pub wants_renewal : ℕ → Permission → Bool
 wants_renewal now p = nat_le now p.expiry && (are_none p.renewals && nat_le (permission_renewal p) now)
 
-abbrev pub has_lapsed : ℕ → Permission → Bool
-has_lapsed now p = nat_le p.expiry now
+abbrev pub has_expired : ℕ → Permission → Bool
+has_expired now p = nat_le p.expiry now
 
--- when a permission has something to do: it lapses; or it is renewed in its time, at the earliest when a request is
--- ready to go out
+-- The next time at which a permission has to be polled: when it expires, or when it is to be renewed, but not
+-- before a request can be sent (`ready`).
 unfoldable pub next_of_permission : Option ℕ → (ready now : ℕ) → Permission → ℕ
 next_of_permission ended ready now p =
-    if has_lapsed now p then now
+    if has_expired now p then now
     else (if is_among ended p.renewals then ready
     else (if are_none p.renewals then max (permission_renewal p) ready else p.expiry))
 
--- a permission whose renewal ended without a response may be renewed again
+-- The permission after the transaction `ended` timed out: if it was to renew the permission, the permission
+-- may be renewed again.
 unfoldable pub polled_permission : Option ℕ → Permission → Permission
 polled_permission ended p = if is_among ended p.renewals then record p { renewals = [] } else p
 
--- a permission after the request of a number was granted, which was to renew it
-unfoldable pub renewed_permission : (number expiry : ℕ) → Permission → Permission
-renewed_permission number expiry p =
-    if renews_permission number p then record p { expiry = expiry; renewals = [] } else p
+-- The permission after a success response to this request: if the request was to renew it, it now expires at
+-- `expiry`.
+unfoldable pub renewed_permission : (transaction_id expiry : ℕ) → Permission → Permission
+renewed_permission transaction_id expiry p =
+    if renews_permission transaction_id p then record p { expiry = expiry; renewals = [] } else p
 
--- a permission that the request of a number is to renew, too
+-- The permission when the request with this transaction ID is to renew it, too.
 abbrev pub awaiting : ℕ → Permission → Permission
-awaiting number p = record p { renewals = p.renewals ++ number ∷ [] }
+awaiting transaction_id p = record p { renewals = p.renewals ++ transaction_id ∷ [] }
 
--- ---- those that stand
+-- ---- those that are valid
 
--- those that have not lapsed
+-- The permissions that have not expired.
 abbrev pub standing : ℕ → List Permission → List Permission
-standing now permissions = filter (λ p. not (has_lapsed now p)) permissions
+standing now permissions = filter (λ p. not (has_expired now p)) permissions
 
--- those that are left as time goes on
+-- The permissions after a poll: the expired ones are removed, and renewals that timed out are forgotten.
 abbrev pub polled_permissions : Option ℕ → ℕ → List Permission → List Permission
 polled_permissions ended now permissions = map (polled_permission ended) (standing now permissions)
 
--- those that no request of this number is to renew
+-- The permissions that the request with this transaction ID is not to renew.
 abbrev pub not_renewed_by : ℕ → List Permission → List Permission
-not_renewed_by number permissions = filter (λ p. not (renews_permission number p)) permissions
+not_renewed_by transaction_id permissions = filter (λ p. not (renews_permission transaction_id p)) permissions
 
--- the first one that the request of a number is to renew is to be renewed by another one, too
-abbrev pub renewed_again : (old number : ℕ) → List Permission → List Permission
-renewed_again old number permissions = change_first (renews_permission old) (awaiting number) permissions
+-- The permissions when the request `transaction_id` is to renew the first one that the request `old` is to renew.
+abbrev pub renewed_again : (old transaction_id : ℕ) → List Permission → List Permission
+renewed_again old transaction_id permissions = change_first (renews_permission old) (awaiting transaction_id) permissions
 
--- the first one that is to be renewed at a moment is to be so by the request of a number
-abbrev pub renewed_first : (now number : ℕ) → List Permission → List Permission
-renewed_first now number permissions = change_first (wants_renewal now) (awaiting number) permissions
+-- The permissions when the request `transaction_id` is to renew the first one that is to be renewed at `now`.
+abbrev pub renewed_first : (now transaction_id : ℕ) → List Permission → List Permission
+renewed_first now transaction_id permissions = change_first (wants_renewal now) (awaiting transaction_id) permissions
 
--- ---- those that were asked for
+-- ---- those that were requested
 
--- the transaction that ended is that of a request which asks for it
+-- The transaction that timed out is that of a request for the pending permission.
 abbrev pub is_over : Option ℕ → PendingPermission → Bool
 is_over ended p = is_among ended p.numbers
 
--- a permission that the request of a number asks for, too
+-- The pending permission when the request with this transaction ID requests it, too.
 abbrev pub with_number : ℕ → PendingPermission → PendingPermission
-with_number number p = record p { numbers = p.numbers ++ number ∷ [] }
+with_number transaction_id p = record p { numbers = p.numbers ++ transaction_id ∷ [] }
 
--- those of which no request has ended
+-- The pending permissions of which no request timed out.
 abbrev pub not_over : Option ℕ → List PendingPermission → List PendingPermission
 not_over ended pending = filter (λ p. not (is_over ended p)) pending
 
--- those that no request of this number asks for
-abbrev pub not_asked_by : ℕ → List PendingPermission → List PendingPermission
-not_asked_by number pending = filter (λ p. not (asks_for_permission number p)) pending
+-- The pending permissions that the request with this transaction ID does not request.
+abbrev pub not_pending_request : ℕ → List PendingPermission → List PendingPermission
+not_pending_request transaction_id pending = filter (λ p. not (asks_for_permission transaction_id p)) pending
 
--- the first one that the request of a number asks for is asked for by another one, too
-abbrev pub asked_again : (old number : ℕ) → List PendingPermission → List PendingPermission
-asked_again old number pending = change_first (asks_for_permission old) (with_number number) pending
+-- The pending permissions when the request `transaction_id` requests the first one that the request `old` requests.
+abbrev pub requested_again : (old transaction_id : ℕ) → List PendingPermission → List PendingPermission
+requested_again old transaction_id pending = change_first (asks_for_permission old) (with_number transaction_id) pending

@@ -9,6 +9,6 @@ use Rattle.turn_client_proto_allocation.specs.Same.{is_same_ip}
 abbrev pub is_for : IpAddr → Permission → Bool
 is_for ip p = is_same_ip p.ip ip
 
--- a permission for an address stands
+-- The allocation has an active permission for the address.
 abbrev pub permits : IpAddr → Allocation → Bool
 permits ip a = list_any (is_for ip) a.permissions

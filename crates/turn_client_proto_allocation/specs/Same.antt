@@ -1,4 +1,4 @@
--- Whether addresses, or transports, are the same.
+-- Equality of addresses and transports.
 use Rattle.std.specs.Prelude.{Bool, true, false}
 use Rattle.std.specs.contracts.net.ip_addr.IpAddrPartialEq.TheImpl as ip
 use Rattle.std.specs.contracts.net.socket_addr.SocketAddrPartialEq.TheImpl as address
@@ -7,11 +7,11 @@ use Rattle.std.specs.declared.net.socket_addr.SocketAddr.{SocketAddr}
 use Rattle.stun_types_base.specs.declared.transport.TransportType.{TransportType}
 use Rattle.stun_types_base.specs.declared.transport.TransportType.TheVariants.{Udp, Tcp}
 
--- two addresses are the same, as std compares them
+-- The two addresses are equal, as `std` compares them.
 abbrev pub is_same_ip : IpAddr → IpAddr → Bool
 is_same_ip = (ip.eq-value).it
 
--- two socket addresses are the same, as std compares them
+-- The two socket addresses are equal, as `std` compares them.
 abbrev pub is_same_address : SocketAddr → SocketAddr → Bool
 is_same_address = (address.eq-value).it
 

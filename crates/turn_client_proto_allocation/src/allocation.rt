@@ -6,14 +6,14 @@ ghost use Rattle.turn_client_proto_allocation.specs.Awaited.{is_awaited};
 ghost use Rattle.turn_client_proto_allocation.specs.declared.allocation.Allocation.{Allocation};
 ghost use Rattle.turn_client_proto_allocation.specs.declared.refresh.PendingRefresh.{PendingRefresh};
 ghost use Rattle.turn_client_proto_allocation.specs.Polling.{has_ended, next_of, polled, stays};
-ghost use Rattle.turn_client_proto_allocation.specs.Refreshing.{ahead, ended, ends_by, granted, lifetime_asked, refreshing, renewal, renewed, stands_for, wants_refresh};
+ghost use Rattle.turn_client_proto_allocation.specs.Refreshing.{ahead, ended, ends_by, granted, lifetime_requested, refreshing, renewal, renewed, is_active_for, wants_refresh};
 
-use crate::channel::{Channel, LapsedChannel, PendingChannel};
+use crate::channel::{Channel, ExpiredChannel, PendingChannel};
 use crate::connection::{
     Connecting, Connection, Waiting, is_any_attempt, is_any_binding, is_any_connecting,
 };
 use crate::permission::{PendingPermission, Permission};
-use crate::refresh::{PendingRefresh, is_any_refresh, lifetime_asked};
+use crate::refresh::{PendingRefresh, is_any_refresh, lifetime_requested};
 use crate::{channel, permission};
 use std::alloc::Global;
 use std::net::SocketAddr;
@@ -24,55 +24,57 @@ use stun_types_base::memory::NoMemory;
 use stun_types_base::transport::TransportType;
 use stun_types_wire::transaction::TransactionId;
 
-/// So long before its end an allocation is renewed, in nanoseconds.
+/// How long before its expiry an allocation is refreshed, in nanoseconds: 60 s.
 const RENEWED_BEFORE: u64 = 60_000_000_000;
 
 /// Half a second, in nanoseconds.
 const HALF_SECOND: u64 = 500_000_000;
 
-/// An allocation that was granted no longer than this, in seconds, is renewed after half of its
-/// time.
+/// The longest first lifetime, in seconds, that counts as short: such an allocation is refreshed
+/// when half of its first lifetime is left.
 const SHORT_LIFETIME: u32 = 120;
 
-/// A REFRESH that is answered with less than this, in seconds, renews nothing.
+/// The least LIFETIME in a REFRESH response, in seconds, that extends an allocation. A response
+/// with less changes nothing.
 const LEAST_LIFETIME: u32 = 600;
 
-/// A relayed address at the server, and what stands on it or was asked for.
+/// A relayed address at the server, with its permissions, channels and connections, and the
+/// requests that concern it and are not answered.
 #[derive(Debug, Drop)]
 pub struct Allocation {
     /// The transport between the server and the peers.
     pub transport: TransportType,
     /// The relayed address.
     pub address: SocketAddr,
-    /// The lifetime that was granted first, in seconds.
+    /// The lifetime that the ALLOCATE response granted, in seconds.
     pub first_lifetime: u32,
-    /// The moment at which it ends.
+    /// The time at which the allocation expires.
     pub expiry: Instant,
-    /// Whether a call found that it has ended, or its end was asked for.
+    /// Whether a call found the allocation to be expired, or its deletion was requested.
     pub is_expired: bool,
-    /// The permissions that stand.
+    /// The active permissions.
     pub permissions: ListOf<Permission>,
-    /// The channels that stand.
+    /// The active channels.
     pub channels: ListOf<Channel>,
-    /// The permissions that were asked for.
+    /// The permissions that are requested and not yet granted.
     pub pending_permissions: ListOf<PendingPermission>,
-    /// The channels that were asked for.
+    /// The channels that are requested and not yet granted.
     pub pending_channels: ListOf<PendingChannel>,
     /// The REFRESH requests that are not answered.
     pub pending_refreshes: ListOf<PendingRefresh>,
-    /// The channels that have lapsed.
-    pub lapsed_channels: ListOf<LapsedChannel>,
-    /// The CONNECTs that are not answered.
+    /// The channels that have expired.
+    pub expired_channels: ListOf<ExpiredChannel>,
+    /// The CONNECT requests that are not answered.
     pub connecting: ListOf<Connecting>,
-    /// The connections for which the caller is to open a socket.
+    /// The connections to peers that wait for the caller to open a socket.
     pub waiting: ListOf<Waiting>,
-    /// The data connections.
+    /// The data connections to the server.
     pub connections: ListOf<Connection>,
 }
 
 impl Allocation {
-    /// An allocation that is granted at a moment, for a lifetime in seconds. Nothing stands on it.
-    /// It holds no memory yet.
+    /// Returns an allocation granted at `now` for `lifetime` seconds, with no permissions,
+    /// channels, connections or outstanding requests. It allocates no memory yet.
     pub fn granted(
         alloc: Global,
         transport: TransportType,
@@ -93,31 +95,33 @@ impl Allocation {
             pending_permissions: ListOf::new(alloc),
             pending_channels: ListOf::new(alloc),
             pending_refreshes: ListOf::new(alloc),
-            lapsed_channels: ListOf::new(alloc),
+            expired_channels: ListOf::new(alloc),
             connecting: ListOf::new(alloc),
             waiting: ListOf::new(alloc),
             connections: ListOf::new(alloc),
         }
     }
 
-    /// Whether something of it awaits the response to a request of this number, or has not answered
-    /// it.
+    /// Returns whether the transaction ID is that of a request of this allocation that the server
+    /// has not answered, or of a request of the server that the client has not answered.
     #[tactic(auto, unfolding(crate::specs::Awaited::is_awaited))]
-    pub fn is_awaited(&self, number: TransactionId) -> bool
-        ensures { result ≡ is_awaited number self.now }
+    pub fn is_awaited(&self, transaction_id: TransactionId) -> bool
+        ensures { result ≡ is_awaited transaction_id self.now }
     {
-        permission::renews_any(self.permissions.as_slice(), number)
-            || channel::renews_any(self.channels.as_slice(), number)
-            || permission::asks_for_any(self.pending_permissions.as_slice(), number)
-            || channel::asks_for_any(self.pending_channels.as_slice(), number)
-            || is_any_refresh(self.pending_refreshes.as_slice(), number)
-            || is_any_connecting(self.connecting.as_slice(), number)
-            || is_any_attempt(self.waiting.as_slice(), number)
-            || is_any_binding(self.connections.as_slice(), number)
+        permission::renews_any(self.permissions.as_slice(), transaction_id)
+            || channel::renews_any(self.channels.as_slice(), transaction_id)
+            || permission::asks_for_any(self.pending_permissions.as_slice(), transaction_id)
+            || channel::asks_for_any(self.pending_channels.as_slice(), transaction_id)
+            || is_any_refresh(self.pending_refreshes.as_slice(), transaction_id)
+            || is_any_connecting(self.connecting.as_slice(), transaction_id)
+            || is_any_attempt(self.waiting.as_slice(), transaction_id)
+            || is_any_binding(self.connections.as_slice(), transaction_id)
     }
 
-    /// The moment from which on it is to be renewed: a minute before its end, or half of its first
-    /// lifetime before, where that was two minutes or less (RFC 8656, section 8.1).
+    /// Returns the time from which the allocation is to be refreshed (RFC 8656, section 8.1).
+    ///
+    /// This is 60 s before its expiry. If the first lifetime was 120 s or less, it is half of the
+    /// first lifetime before its expiry.
     #[tactic(auto, unfolding(crate::specs::Refreshing::renewal))]
     pub fn renewal(&self) -> Instant
         ensures { result ≡ renewal self.now }
@@ -126,8 +130,9 @@ impl Allocation {
         Instant::from_nanos(self.expiry.as_nanos().saturating_sub(ahead))
     }
 
-    /// Whether it is to be renewed at a moment: it stands, no REFRESH is awaited, and its time has
-    /// come.
+    /// Returns whether the allocation is to be refreshed at `now`: it is not marked as expired,
+    /// `now` is not after its expiry, no REFRESH is outstanding, and the time from which it is to
+    /// be refreshed has come.
     #[tactic(auto, unfolding(crate::specs::Refreshing::wants_refresh))]
     pub fn wants_refresh(&self, now: Instant) -> bool
         ensures { result ≡ wants_refresh now self.now }
@@ -138,43 +143,53 @@ impl Allocation {
             && self.renewal() <= now
     }
 
-    /// Whether its end was asked for by the request of this number.
+    /// Returns whether the outstanding REFRESH with this transaction ID requests the deletion of
+    /// the allocation, that is, lifetime 0.
     #[tactic(auto, unfolding(crate::specs::Refreshing::ends_by))]
-    pub fn ends_by(&self, number: TransactionId) -> bool
-        ensures { result ≡ ends_by number self.now }
+    pub fn ends_by(&self, transaction_id: TransactionId) -> bool
+        ensures { result ≡ ends_by transaction_id self.now }
     {
-        match self.lifetime_asked(number) {
+        match self.lifetime_requested(transaction_id) {
             Some(lifetime) => lifetime == 0,
             None => false,
         }
     }
 
-    /// The lifetime that the REFRESH of this number asks for, in seconds, where one of that number
-    /// is awaited.
-    pub fn lifetime_asked(&self, number: TransactionId) -> Option<u32>
-        ensures { result ≡ lifetime_asked number self.now.pending_refreshes }
+    /// Returns the lifetime, in seconds, that the outstanding REFRESH with this transaction ID
+    /// requests, or `None` if no such REFRESH is outstanding.
+    pub fn lifetime_requested(&self, transaction_id: TransactionId) -> Option<u32>
+        ensures { result ≡ lifetime_requested transaction_id self.now.pending_refreshes }
     {
-        lifetime_asked(self.pending_refreshes.as_slice(), number)
+        lifetime_requested(self.pending_refreshes.as_slice(), transaction_id)
     }
 
-    /// A success response to the REFRESH of this number came, and tells this lifetime, in seconds.
-    /// Where such a request is awaited, and it asked for more than 0, the allocation stands that
-    /// long from now on and no REFRESH is awaited; but where the lifetime is missing or under 600,
-    /// nothing changes (RFC 8656, section 8.3).
+    /// Handles a success response to the REFRESH with this transaction ID, with its LIFETIME in
+    /// seconds (RFC 8656, section 8.3).
+    ///
+    /// - No such REFRESH is outstanding: nothing changes.
+    /// - It requested lifetime 0: no REFRESH is outstanding any more.
+    /// - It requested more: the allocation expires `lifetime` seconds after `now`, and no REFRESH
+    ///   is outstanding any more. If `lifetime` is missing or under 600, nothing changes.
     #[tactic(auto, unfolding(crate::specs::Refreshing::renewed))]
-    pub(crate) fn renew(&mut self, number: TransactionId, lifetime: Option<u32>, now: Instant)
-        ensures { self.new ≡ renewed number now lifetime self.old }
+    pub(crate) fn renew(
+        &mut self,
+        transaction_id: TransactionId,
+        lifetime: Option<u32>,
+        now: Instant,
+    )
+        ensures { self.new ≡ renewed transaction_id now lifetime self.old }
     {
-        match self.lifetime_asked(number) {
+        match self.lifetime_requested(transaction_id) {
             None => {}
             Some(0) => self.pending_refreshes.clear(),
             Some(_) => self.stand_for(lifetime, now),
         }
     }
 
-    /// It stands so many seconds from now, where these are enough.
+    /// Sets the expiry to `lifetime` seconds after `now` and forgets the outstanding REFRESH
+    /// requests. Does nothing if `lifetime` is missing or under 600.
     fn stand_for(&mut self, lifetime: Option<u32>, now: Instant)
-        ensures { self.new ≡ stands_for now lifetime self.old }
+        ensures { self.new ≡ is_active_for now lifetime self.old }
     {
         if let Some(lifetime) = lifetime {
             if lifetime >= LEAST_LIFETIME {
@@ -184,18 +199,24 @@ impl Allocation {
         }
     }
 
-    /// Keeps that a REFRESH of this number was sent, which asks for a lifetime in seconds. Where
-    /// memory is refused, nothing changes.
-    pub fn await_refresh(&mut self, number: TransactionId, lifetime: u32) -> Result<(), NoMemory>
+    /// Remembers that a REFRESH with this transaction ID was sent that requests `lifetime` seconds.
+    /// If memory runs out, returns `NoMemory` and nothing changes.
+    pub fn await_refresh(
+        &mut self,
+        transaction_id: TransactionId,
+        lifetime: u32,
+    ) -> Result<(), NoMemory>
         ensures ok { OnOk result (self.new
-            ≡ refreshing (record { number = number; lifetime = lifetime }) self.old) }
+            ≡ refreshing (record { number = transaction_id; lifetime = lifetime }) self.old) }
         ensures err { OnErr result (self.new ≡ self.old) }
     {
-        self.pending_refreshes
-            .push(PendingRefresh { number, lifetime })
+        self.pending_refreshes.push(PendingRefresh {
+            number: transaction_id,
+            lifetime,
+        })
     }
 
-    /// Forgets the REFRESH that was sent last.
+    /// Forgets the REFRESH that was remembered last.
     pub(crate) fn forget_refresh(&mut self)
         ensures { (a : Allocation) (refresh : PendingRefresh) → self.old ≡ refreshing refresh a
             → self.new ≡ a }
@@ -203,7 +224,8 @@ impl Allocation {
         self.pending_refreshes.pop();
     }
 
-    /// It ends at a moment, and nothing stands on it any more: the permissions and the channels go.
+    /// Marks the allocation as expired, sets its expiry to `now` and removes its permissions and
+    /// channels.
     pub(crate) fn end(&mut self, now: Instant)
         ensures { self.new ≡ ended now self.old }
     {
@@ -213,8 +235,11 @@ impl Allocation {
         self.is_expired = true;
     }
 
-    /// Whether it is kept at a moment, where the transaction of this number has ended: its time
-    /// isn't over; or its end was found before, and a REFRESH may still be answered.
+    /// Returns whether the allocation is to be retained at `now`, when the transaction `ended`, if
+    /// any, has timed out.
+    ///
+    /// It is retained if it has not expired. It is also retained if it was marked as expired before
+    /// and a REFRESH is outstanding that has not timed out.
     #[tactic(auto, unfolding(crate::specs::Polling::stays))]
     pub(crate) fn stays(&self, ended: &Option<TransactionId>, now: Instant) -> bool
         ensures { result ≡ stays ended.now now self.now }
@@ -223,7 +248,7 @@ impl Allocation {
             || (self.is_expired && (!self.pending_refreshes.is_empty() && !self.has_ended(ended)))
     }
 
-    /// Whether the transaction that ended is that of a REFRESH which is awaited.
+    /// Returns whether the transaction that timed out is that of an outstanding REFRESH.
     fn has_ended(&self, ended: &Option<TransactionId>) -> bool
         ensures { result ≡ has_ended ended.now self.now.pending_refreshes }
     {
@@ -233,8 +258,7 @@ impl Allocation {
         }
     }
 
-    /// Where the transaction that ended is that of a REFRESH which is awaited, none is awaited any
-    /// more.
+    /// Forgets all outstanding REFRESH requests if the transaction that timed out is one of theirs.
     #[tactic(auto, unfolding(crate::specs::Polling::polled))]
     pub(crate) fn poll(&mut self, ended: &Option<TransactionId>)
         ensures { self.new ≡ polled ended.now self.old }
@@ -244,7 +268,8 @@ impl Allocation {
         }
     }
 
-    /// The moment at which it has something to do, where a request is ready to go out at another.
+    /// Returns the next time at which the allocation has to be polled, or `None` if there is none.
+    /// `ready` is the earliest time at which a request can be sent.
     #[tactic(auto, unfolding(crate::specs::Polling::next_of))]
     pub(crate) fn next(
         &self,
@@ -266,8 +291,8 @@ impl Allocation {
     }
 }
 
-/// How long before its end an allocation is renewed, in nanoseconds, by its first lifetime in
-/// seconds.
+/// Returns how long before its expiry an allocation with this first lifetime, in seconds, is
+/// refreshed, in nanoseconds.
 fn ahead(lifetime: u32) -> u64
     ensures { result ≡ ahead lifetime }
 {

@@ -12,7 +12,7 @@ use stun_types_base::instant::Instant;
 use stun_types_base::list::ListOf;
 use stun_types_wire::transaction::TransactionId;
 
-/// The number of a channel, 0x4000 to 0x7FFF (RFC 8656, section 12). Contracts see the number.
+/// A channel number, 0x4000 to 0x7FFF (RFC 8656, section 12). Contracts see the number.
 #[derive(Clone, Copy, Debug, PartialEq, Eq)]
 pub struct ChannelId {
     id: u16,
@@ -33,7 +33,7 @@ impl Model for ChannelId {
 }
 
 impl ChannelId {
-    /// The channel of a number in the range.
+    /// Returns the channel number `id`, which has to be in the range.
     pub fn new(id: u16) -> ChannelId
         requires least { least_channel ≤ id }
         requires most { id ≤ greatest_channel }
@@ -42,7 +42,7 @@ impl ChannelId {
         ChannelId { id }
     }
 
-    /// The number.
+    /// Returns the number.
     pub fn number(self) -> u16
         ensures number { result ≡ self }
         ensures least { least_channel ≤ result }
@@ -52,56 +52,56 @@ impl ChannelId {
     }
 }
 
-/// A channel that stands.
+/// An active channel.
 #[derive(Debug, Drop)]
 pub struct Channel {
-    /// The number of the channel.
+    /// The channel number.
     pub number: ChannelId,
     /// The peer's address.
     pub peer: SocketAddr,
-    /// The moment at which it lapses.
+    /// The time at which it expires.
     pub expiry: Instant,
-    /// The numbers of the requests that are to renew it.
+    /// The transaction IDs of the requests that are to renew it.
     pub renewals: ListOf<TransactionId>,
 }
 
-/// A channel that was asked for.
+/// A channel that is requested and not yet granted.
 #[derive(Debug, Drop)]
 pub struct PendingChannel {
-    /// The number of the channel.
+    /// The channel number.
     pub channel: ChannelId,
     /// The peer's address.
     pub peer: SocketAddr,
-    /// The numbers of the requests that ask for it.
+    /// The transaction IDs of the requests for it.
     pub numbers: ListOf<TransactionId>,
 }
 
-/// A channel that has lapsed. For a while neither its number nor its peer is taken for another
+/// A channel that has expired. For a while neither its number nor its peer is used for another
 /// channel (RFC 8656, section 12).
 #[derive(Clone, Copy, Debug)]
-pub struct LapsedChannel {
-    /// The number of the channel.
+pub struct ExpiredChannel {
+    /// The channel number.
     pub number: ChannelId,
     /// The peer's address.
     pub peer: SocketAddr,
-    /// The moment at which it lapsed.
+    /// The time at which it expired.
     pub expiry: Instant,
 }
 
-/// Whether a request of this number is to renew one of the channels.
-pub(crate) fn renews_any(channels: &[Channel], number: TransactionId) -> bool
-    ensures { result ≡ list_any (renews_channel number) channels.now }
+/// Returns whether the request with this transaction ID is to renew one of the channels.
+pub(crate) fn renews_any(channels: &[Channel], transaction_id: TransactionId) -> bool
+    ensures { result ≡ list_any (renews_channel transaction_id) channels.now }
 {
     channels
         .iter()
-        .any(|c| has_number(c.renewals.as_slice(), number))
+        .any(|c| has_number(c.renewals.as_slice(), transaction_id))
 }
 
-/// Whether a request of this number asks for one of the channels.
-pub(crate) fn asks_for_any(channels: &[PendingChannel], number: TransactionId) -> bool
-    ensures { result ≡ list_any (asks_for_channel number) channels.now }
+/// Returns whether the request with this transaction ID requests one of the channels.
+pub(crate) fn asks_for_any(channels: &[PendingChannel], transaction_id: TransactionId) -> bool
+    ensures { result ≡ list_any (asks_for_channel transaction_id) channels.now }
 {
     channels
         .iter()
-        .any(|c| has_number(c.numbers.as_slice(), number))
+        .any(|c| has_number(c.numbers.as_slice(), transaction_id))
 }

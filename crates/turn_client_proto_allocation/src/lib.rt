@@ -1,6 +1,5 @@
-//! What a client keeps of its allocations, and of all that stands on them: permissions, channels,
-//! connections, and the requests that are under way for each ([`requested`] finds the one that a response
-//! answers).
+//! The state of a client's allocations, with their permissions, channels and connections, and the
+//! outstanding requests for each. [`requested`] finds the request that a response answers.
 #![tactic(auto)]
 
 pub mod allocation;
@@ -9,8 +8,8 @@ pub mod channel_of;
 pub mod connection;
 pub mod listed;
 pub mod numbers;
+pub mod pending;
 pub mod permission;
 pub mod permissions;
 pub mod permitted;
 pub mod refresh;
-pub mod requested;

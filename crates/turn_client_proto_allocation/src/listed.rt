@@ -6,7 +6,7 @@ ghost use Rattle.std.specs.List.{list_any};
 ghost use Rattle.stun_proto_transaction.specs.Least.{IsLeastOf};
 ghost use Rattle.turn_client_proto_allocation.specs.Lending.{LendsAllocations};
 ghost use Rattle.turn_client_proto_allocation.specs.Listed.{is_any_awaited};
-ghost use Rattle.turn_client_proto_allocation.specs.Polling.{earlier, kept, nexts, polled};
+ghost use Rattle.turn_client_proto_allocation.specs.Polling.{earlier, stored, nexts, polled};
 ghost use Rattle.turn_client_proto_allocation.specs.declared.allocation.Allocation.{Allocation};
 ghost use Rattle.turn_client_proto_allocation.specs.declared.refresh.PendingRefresh.{PendingRefresh};
 ghost use Rattle.turn_client_proto_allocation.specs.Refreshing.{ended, ends_by, refreshing, renewed};
@@ -19,11 +19,11 @@ use stun_types_base::instant::Instant;
 use stun_types_base::memory::NoMemory;
 use stun_types_wire::transaction::TransactionId;
 
-/// The most allocations that are kept.
+/// The maximum number of allocations in the list.
 const MOST: usize = (1 << 32) - 1;
 
-/// The allocations of a client, in the order in which they were granted, fewer than 2^32. Contracts see the
-/// list of them.
+/// The allocations of a client, in the order in which they were granted, fewer than 2^32. Contracts
+/// see them as a list.
 #[derive(Debug, Drop)]
 pub struct Allocations {
     items: Vec<Allocation>,
@@ -41,7 +41,7 @@ impl Model for Allocations {
 }
 
 impl Allocations {
-    /// None, which holds no memory yet.
+    /// Returns an empty list, which allocates no memory yet.
     pub fn new(alloc: Global) -> Self
         ensures { result ≡ [] }
     {
@@ -50,21 +50,21 @@ impl Allocations {
         }
     }
 
-    /// The allocations.
+    /// Returns the allocations.
     pub fn as_slice(&self) -> &[Allocation]
         ensures { result.now ≡ self.now }
     {
         self.items.as_slice()
     }
 
-    /// How many there are, which 32 bits hold.
+    /// Returns the count of the allocations, which fits 32 bits.
     pub fn count(&self) -> u32
         ensures { result ≡ length self.now }
     {
         self.items.len() as u32
     }
 
-    /// The allocations, to be changed.
+    /// Borrows the allocations mutably.
     pub fn as_mut_slice(&mut self) -> &mut [Allocation]
         ensures* writes_back { sem 𝓛 (LendsAllocations self.entry result) }
         ensures value { result.now ≡ self.old }
@@ -72,7 +72,8 @@ impl Allocations {
         self.items.as_mut_slice()
     }
 
-    /// Adds an allocation at the end. Where memory is refused, or 2^32 - 1 are there, nothing changes.
+    /// Appends an allocation. If memory runs out or the list has 2^32 - 1 elements, returns
+    /// `NoMemory` and nothing changes.
     pub fn push(&mut self, allocation: Allocation) -> Result<(), NoMemory>
         ensures ok { OnOk result (self.new ≡ self.old ++ allocation ∷ []) }
         ensures err { OnErr result (self.new ≡ self.old) }
@@ -84,21 +85,23 @@ impl Allocations {
         Ok(())
     }
 
-    /// Drops all of them.
+    /// Removes all of them.
     pub fn clear(&mut self)
         ensures { self.new ≡ [] }
     {
         self.items.clear();
     }
 
-    /// Whether one of them awaits the response to a request of this number, or has not answered it.
-    pub fn is_any_awaited(&self, number: TransactionId) -> bool
-        ensures { result ≡ is_any_awaited number self.now }
+    /// Returns whether the transaction ID is that of a request of one of the allocations that the
+    /// server has not answered, or of a request of the server that the client has not answered.
+    pub fn is_any_awaited(&self, transaction_id: TransactionId) -> bool
+        ensures { result ≡ is_any_awaited transaction_id self.now }
     {
-        self.items.iter().any(|a| a.is_awaited(number))
+        self.items.iter().any(|a| a.is_awaited(transaction_id))
     }
 
-    /// Each of them awaits a REFRESH. Where memory is refused, nothing changes.
+    /// Remembers in each allocation that this REFRESH was sent. If memory runs out, returns
+    /// `NoMemory` and nothing changes.
     pub fn await_refresh(&mut self, refresh: &PendingRefresh) -> Result<(), NoMemory>
         ensures ok { OnOk result (self.new ≡ map (refreshing refresh.now) self.old) }
         ensures err { OnErr result (self.new ≡ self.old) }
@@ -106,7 +109,7 @@ impl Allocations {
         await_each(self.items.as_mut_slice(), refresh)
     }
 
-    /// Each of them forgets the REFRESH that was sent last.
+    /// Forgets in each allocation the REFRESH that was remembered last.
     pub fn forget_refresh(&mut self)
         ensures { (before : List Allocation) (refresh : PendingRefresh)
             → self.old ≡ map (refreshing refresh) before → self.new ≡ before }
@@ -114,7 +117,8 @@ impl Allocations {
         forget_each(self.items.as_mut_slice());
     }
 
-    /// Each of them ends at a moment, and nothing stands on it any more.
+    /// Marks each allocation as expired, sets its expiry to `now` and removes its permissions and
+    /// channels.
     pub fn end(&mut self, now: Instant)
         ensures { self.new ≡ map (ended now) self.old }
     {
@@ -123,26 +127,30 @@ impl Allocations {
         }
     }
 
-    /// Whether the end of one of them was asked for by the request of this number.
-    pub fn ends_any(&self, number: TransactionId) -> bool
-        ensures { result ≡ list_any (ends_by number) self.now }
+    /// Returns whether the REFRESH with this transaction ID requests the deletion of one of the
+    /// allocations.
+    pub fn ends_any(&self, transaction_id: TransactionId) -> bool
+        ensures { result ≡ list_any (ends_by transaction_id) self.now }
     {
-        self.items.iter().any(|a| a.ends_by(number))
+        self.items.iter().any(|a| a.ends_by(transaction_id))
     }
 
-    /// A success response to the REFRESH of this number came, and tells this lifetime, in seconds
-    /// (RFC 8656, section 8.3).
-    pub fn renew(&mut self, number: TransactionId, lifetime: Option<u32>, now: Instant)
-        ensures { self.new ≡ map (renewed number now lifetime) self.old }
+    /// Handles a success response to the REFRESH with this transaction ID, with its LIFETIME in
+    /// seconds, in each allocation (RFC 8656, section 8.3).
+    pub fn renew(&mut self, transaction_id: TransactionId, lifetime: Option<u32>, now: Instant)
+        ensures { self.new ≡ map (renewed transaction_id now lifetime) self.old }
     {
         for allocation in self.items.iter_mut() {
-            allocation.renew(number, lifetime, now);
+            allocation.renew(transaction_id, lifetime, now);
         }
     }
 
-    /// Time has come to a moment, and the transaction of this number has ended: those whose time is
-    /// over go, and of the others a REFRESH that ended is forgotten. The answer is the earliest of
-    /// a wait and of the moments at which one of them has something to do.
+    /// Removes the allocations that have expired at `now` and returns the next wake-up time.
+    ///
+    /// In those that remain, the outstanding REFRESH requests are forgotten if the transaction
+    /// `ended` is one of theirs. The wake-up time is the earliest of `wait` and of the times at
+    /// which a remaining allocation has to be polled. `ready` is the earliest time at which a
+    /// request can be sent.
     pub fn poll(
         &mut self,
         ended: &Option<TransactionId>,
@@ -150,9 +158,9 @@ impl Allocations {
         now: Instant,
         wait: Instant,
     ) -> Instant
-        ensures left { self.new ≡ map (polled ended.now) (kept ended.now now self.old) }
+        ensures left { self.new ≡ map (polled ended.now) (stored ended.now now self.old) }
         ensures wait { IsLeastOf wait
-            (nexts ended.now ready now (kept ended.now now self.old)) result }
+            (nexts ended.now ready now (stored ended.now now self.old)) result }
     {
         self.items.retain(|a| a.stays(ended, now));
         let next = earliest(self.items.as_slice(), ended, ready, now, wait);
@@ -163,7 +171,8 @@ impl Allocations {
     }
 }
 
-/// Each allocation awaits a REFRESH. Where memory is refused, nothing changes.
+/// Remembers in each allocation that this REFRESH was sent. If memory runs out, returns `NoMemory`
+/// and nothing changes.
 fn await_each(allocations: &mut [Allocation], refresh: &PendingRefresh) -> Result<(), NoMemory>
     ensures ok { OnOk result (allocations.new ≡ map (refreshing refresh.now) allocations.old) }
     ensures err { OnErr result (allocations.new ≡ allocations.old) }
@@ -181,7 +190,7 @@ fn await_each(allocations: &mut [Allocation], refresh: &PendingRefresh) -> Resul
     }
 }
 
-/// Each allocation forgets the REFRESH that was sent last.
+/// Forgets in each allocation the REFRESH that was remembered last.
 fn forget_each(allocations: &mut [Allocation])
     ensures { (before : List Allocation) (refresh : PendingRefresh)
         → allocations.old ≡ map (refreshing refresh) before → allocations.new ≡ before }
@@ -193,7 +202,8 @@ fn forget_each(allocations: &mut [Allocation])
     forget_each(others);
 }
 
-/// The earliest of a wait and of the moments at which one of the allocations has something to do.
+/// Returns the earliest of `wait` and of the times at which one of the allocations has to be
+/// polled.
 fn earliest(
     allocations: &[Allocation],
     ended: &Option<TransactionId>,
@@ -210,12 +220,12 @@ fn earliest(
     next
 }
 
-/// The earlier of a wait and a moment, where there is one.
-fn earlier(wait: Instant, moment: Option<Instant>) -> Instant
-    ensures { result ≡ earlier wait moment }
+/// Returns the earlier of `wait` and the time, or `wait` if there is no time.
+fn earlier(wait: Instant, time: Option<Instant>) -> Instant
+    ensures { result ≡ earlier wait time }
 {
-    match moment {
-        Some(moment) => wait.min(moment),
+    match time {
+        Some(time) => wait.min(time),
         None => wait,
     }
 }

@@ -1,18 +1,18 @@
-//! Lists of the numbers of requests.
+//! Lists of transaction IDs.
 
 ghost use Rattle.std.specs.Prelude.{◌≡◌};
 ghost use Rattle.turn_client_proto_allocation.specs.Awaited.{has_number, is_among};
 
 use stun_types_wire::transaction::TransactionId;
 
-/// Whether a number is among these.
-pub fn has_number(numbers: &[TransactionId], number: TransactionId) -> bool
-    ensures { result ≡ has_number number numbers.now }
+/// Returns whether the transaction ID is in the list.
+pub fn has_number(numbers: &[TransactionId], transaction_id: TransactionId) -> bool
+    ensures { result ≡ has_number transaction_id numbers.now }
 {
-    numbers.iter().any(|n| *n == number)
+    numbers.iter().any(|n| *n == transaction_id)
 }
 
-/// Whether the number of what ended, where something did, is among these.
+/// Returns whether a transaction has timed out and its ID is in the list.
 pub fn is_among(ended: &Option<TransactionId>, numbers: &[TransactionId]) -> bool
     ensures { result ≡ is_among ended.now numbers.now }
 {

@@ -1,24 +1,26 @@
-//! The permissions of an allocation, all of a list's (RFC 8656, sections 9 and 10).
+//! Operations on the permissions of one allocation (RFC 8656, sections 9 and 10).
 
 ghost use Rattle.std.specs.Prelude.{◌≡◌, OnOk, OnErr, map, position};
 ghost use Rattle.turn_client_proto_allocation.specs.Awaited.{asks_for_permission, renews_permission};
-ghost use Rattle.turn_client_proto_allocation.specs.Permissions.{asked_again, polled_permission, renewed_again, renewed_first, renewed_permission, wants_renewal};
+ghost use Rattle.turn_client_proto_allocation.specs.Permissions.{requested_again, polled_permission, renewed_again, renewed_first, renewed_permission, wants_renewal};
 
 use crate::permission::{PendingPermission, Permission};
 use stun_types_base::instant::Instant;
 use stun_types_base::memory::NoMemory;
 use stun_types_wire::transaction::TransactionId;
 
-/// The request of this number was granted: those that it was to renew stand until this moment.
-pub fn renew(permissions: &mut [Permission], number: TransactionId, expiry: Instant)
-    ensures { permissions.new ≡ map (renewed_permission number expiry) permissions.old }
+/// Handles the success response to the request with this transaction ID: the permissions that it
+/// was to renew now expire at `expiry`.
+pub fn renew(permissions: &mut [Permission], transaction_id: TransactionId, expiry: Instant)
+    ensures { permissions.new ≡ map (renewed_permission transaction_id expiry) permissions.old }
 {
     for permission in permissions.iter_mut() {
-        permission.renew(number, expiry);
+        permission.renew(transaction_id, expiry);
     }
 }
 
-/// The transaction of this number has ended: those that it was to renew may be renewed again.
+/// Forgets the requests that are to renew a permission, in each permission for which the
+/// transaction that timed out is one of theirs. Such a permission may be renewed again.
 pub fn poll(permissions: &mut [Permission], ended: &Option<TransactionId>)
     ensures { permissions.new ≡ map (polled_permission ended.now) permissions.old }
 {
@@ -27,74 +29,78 @@ pub fn poll(permissions: &mut [Permission], ended: &Option<TransactionId>)
     }
 }
 
-/// The place of the first permission that the request of this number is to renew.
-fn place_renewed(permissions: &[Permission], number: TransactionId) -> Option<usize>
-    ensures { result ≡ position (renews_permission number) permissions.now }
+/// Returns the index of the first permission that the request with this transaction ID is to renew.
+fn index_renewed(permissions: &[Permission], transaction_id: TransactionId) -> Option<usize>
+    ensures { result ≡ position (renews_permission transaction_id) permissions.now }
 {
-    permissions.iter().position(|p| p.is_renewed_by(number))
+    permissions
+        .iter()
+        .position(|p| p.is_renewed_by(transaction_id))
 }
 
-/// The place of the first permission that is to be renewed at a moment.
-fn place_wanting(permissions: &[Permission], now: Instant) -> Option<usize>
+/// Returns the index of the first permission that is to be renewed at `now`.
+fn index_wanting(permissions: &[Permission], now: Instant) -> Option<usize>
     ensures { result ≡ position (wants_renewal now) permissions.now }
 {
     permissions.iter().position(|p| p.wants_renewal(now))
 }
 
-/// The place of the first permission that the request of this number asks for.
-fn place_asked(pending: &[PendingPermission], number: TransactionId) -> Option<usize>
-    ensures { result ≡ position (asks_for_permission number) pending.now }
+/// Returns the index of the first permission that the request with this transaction ID requests.
+fn index_requested(pending: &[PendingPermission], transaction_id: TransactionId) -> Option<usize>
+    ensures { result ≡ position (asks_for_permission transaction_id) pending.now }
 {
-    pending.iter().position(|p| p.is_asked_by(number))
+    pending
+        .iter()
+        .position(|p| p.is_requested_by(transaction_id))
 }
 
-/// The first one that the request of this number is to renew is to be renewed by another one, too.
-/// Where memory is refused, nothing changes.
-#[tactic(auto, using(crate::proofs::Changes::first_by_place))]
+/// Adds the transaction ID `number` to the first permission that the request with the ID `old` is
+/// to renew. If memory runs out, returns `NoMemory` and nothing changes.
+#[tactic(auto, using(crate::proofs::Changes::first_by_index))]
 pub fn renew_again(
     permissions: &mut [Permission],
     old: TransactionId,
-    number: TransactionId,
+    transaction_id: TransactionId,
 ) -> Result<(), NoMemory>
-    ensures ok { OnOk result (permissions.new ≡ renewed_again old number permissions.old) }
+    ensures ok { OnOk result (permissions.new ≡ renewed_again old transaction_id permissions.old) }
     ensures err { OnErr result (permissions.new ≡ permissions.old) }
 {
-    let Some(place) = place_renewed(permissions, old) else {
+    let Some(index) = index_renewed(permissions, old) else {
         return Ok(());
     };
-    permissions[place].renewals.push(number)
+    permissions[index].renewals.push(transaction_id)
 }
 
-/// The first one that is to be renewed at a moment is to be so by the request of this number. Where
-/// memory is refused, nothing changes.
-#[tactic(auto, using(crate::proofs::Changes::first_by_place))]
+/// Remembers that the request with this transaction ID is to renew the first permission that is to
+/// be renewed at `now`. If memory runs out, returns `NoMemory` and nothing changes.
+#[tactic(auto, using(crate::proofs::Changes::first_by_index))]
 pub fn renew_first(
     permissions: &mut [Permission],
     now: Instant,
-    number: TransactionId,
+    transaction_id: TransactionId,
 ) -> Result<(), NoMemory>
-    ensures ok { OnOk result (permissions.new ≡ renewed_first now number permissions.old) }
+    ensures ok { OnOk result (permissions.new ≡ renewed_first now transaction_id permissions.old) }
     ensures err { OnErr result (permissions.new ≡ permissions.old) }
 {
-    let Some(place) = place_wanting(permissions, now) else {
+    let Some(index) = index_wanting(permissions, now) else {
         return Ok(());
     };
-    permissions[place].renewals.push(number)
+    permissions[index].renewals.push(transaction_id)
 }
 
-/// The first one that the request of this number asks for is asked for by another one, too. Where
-/// memory is refused, nothing changes.
-#[tactic(auto, using(crate::proofs::Changes::first_by_place))]
+/// Adds the transaction ID `number` to the first pending permission that the request with the ID
+/// `old` requests. If memory runs out, returns `NoMemory` and nothing changes.
+#[tactic(auto, using(crate::proofs::Changes::first_by_index))]
 pub fn ask_again(
     pending: &mut [PendingPermission],
     old: TransactionId,
-    number: TransactionId,
+    transaction_id: TransactionId,
 ) -> Result<(), NoMemory>
-    ensures ok { OnOk result (pending.new ≡ asked_again old number pending.old) }
+    ensures ok { OnOk result (pending.new ≡ requested_again old transaction_id pending.old) }
     ensures err { OnErr result (pending.new ≡ pending.old) }
 {
-    let Some(place) = place_asked(pending, old) else {
+    let Some(index) = index_requested(pending, old) else {
         return Ok(());
     };
-    pending[place].numbers.push(number)
+    pending[index].numbers.push(transaction_id)
 }

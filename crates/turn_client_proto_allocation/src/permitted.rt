@@ -6,7 +6,7 @@ ghost use Rattle.turn_client_proto_allocation.specs.Permits.{permits};
 use crate::allocation::Allocation;
 use std::net::IpAddr;
 
-/// Whether a permission for an address stands.
+/// Returns whether the allocation has an active permission for the address.
 pub fn permits(a: &Allocation, ip: IpAddr) -> bool
     ensures { result ≡ permits ip a.now }
 {

@@ -3,30 +3,33 @@
 ghost use Rattle.std.specs.Prelude.{◌≡◌, find};
 ghost use Rattle.std.specs.List.{list_any};
 ghost use Rattle.turn_client_proto_allocation.specs.Awaited.{is_refresh};
-ghost use Rattle.turn_client_proto_allocation.specs.Refreshing.{lifetime_asked};
+ghost use Rattle.turn_client_proto_allocation.specs.Refreshing.{lifetime_requested};
 
 use stun_types_wire::transaction::TransactionId;
 
-/// A REFRESH that is not answered.
+/// A REFRESH request that is not answered.
 #[derive(Clone, Copy, Debug)]
 pub struct PendingRefresh {
-    /// The number of the request.
+    /// The transaction ID of the request.
     pub number: TransactionId,
-    /// The lifetime that it asks for, in seconds; 0 ends the allocation.
+    /// The lifetime that it requests, in seconds; 0 deletes the allocation.
     pub lifetime: u32,
 }
 
-/// Whether one of the requests has this number.
-pub(crate) fn is_any_refresh(refreshes: &[PendingRefresh], number: TransactionId) -> bool
-    ensures { result ≡ list_any (is_refresh number) refreshes.now }
+/// Returns whether one of the requests has this transaction ID.
+pub(crate) fn is_any_refresh(refreshes: &[PendingRefresh], transaction_id: TransactionId) -> bool
+    ensures { result ≡ list_any (is_refresh transaction_id) refreshes.now }
 {
-    refreshes.iter().any(|r| r.number == number)
+    refreshes.iter().any(|r| r.number == transaction_id)
 }
 
-/// The lifetime that the request of this number asks for, in seconds: of several the first.
-pub(crate) fn lifetime_asked(refreshes: &[PendingRefresh], number: TransactionId) -> Option<u32>
-    ensures { result ≡ lifetime_asked number refreshes.now }
+/// Returns the lifetime, in seconds, that the first request with this transaction ID requests.
+pub(crate) fn lifetime_requested(
+    refreshes: &[PendingRefresh],
+    transaction_id: TransactionId,
+) -> Option<u32>
+    ensures { result ≡ lifetime_requested transaction_id refreshes.now }
 {
-    let found = refreshes.iter().find(|r| r.number == number)?;
+    let found = refreshes.iter().find(|r| r.number == transaction_id)?;
     Some(found.lifetime)
 }

@@ -6,7 +6,7 @@ use Rattle.turn_client_proto_api.specs.FamilyOrders.{families_in}
 use Rattle.turn_client_proto_api.specs.declared.families.FamilyOrder.{FamilyOrder}
 use Rattle.turn_client_proto_api.specs.declared.families.FamilyOrder.TheVariants.{OnlyV4, OnlyV6, V4First, V6First}
 
--- no family is there twice
+-- The families of an order are distinct.
 pub families_in-IsDistinct : (order : FamilyOrder) → IsDistinct is_same_family (families_in order)
 unfolding IsDistinct
 families_in-IsDistinct OnlyV4 = (tt, tt)

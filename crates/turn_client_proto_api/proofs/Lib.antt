@@ -1,5 +1,5 @@
 pub mod FamilyLemmas
--- What stands above this crate has these through it.
+-- Re-exported for the crates above this one.
 pub use Rattle.turn_types_frame.proofs as TurnTypesFrame
 pub use Rattle.stun_proto_agent.proofs.Transaction as StunProtoTransaction
 pub use Rattle.stun_proto_agent.proofs as StunProtoAgent

@@ -1,5 +1,4 @@
--- What contracts see of the settings of a TURN client (RFC 8656, sections 7.1, 18.6, 18.8 and
--- 18.11).
+-- The settings of a TURN client as contracts see them (RFC 8656, sections 7.1, 18.6, 18.8 and 18.11).
 use Rattle.std.specs.Prelude.{List, [], ◌∷◌}
 use Rattle.turn_types_attributes.specs.StunTypesIntegrity.Credentials.{NameAndPassword}
 use Rattle.stun_types_wire.specs.declared.algorithm.IntegrityAlgorithm.{IntegrityAlgorithm}
@@ -13,9 +12,9 @@ use Rattle.stun_proto_auth.specs.declared.feature.Feature.TheVariants.{Auto}
 use Rattle.stun_proto_agent.specs.Transaction.Schedule.{Waits}
 use Rattle.stun_proto_agent.specs.State.{default_waits}
 
--- the settings: name and password; the transport of the allocation that is asked for, and the families of its
--- addresses, in order; the integrity algorithms, in order; whether the name is hidden; and how long is waited for
--- the response to a request
+-- The settings: the user's name and password; the transport of the requested allocation, and the families of
+-- its addresses, in order; the supported integrity algorithms, in order; whether the name is hidden; and how
+-- long a request waits for its response.
 pub record Config : Type 0 where
   pub credentials : NameAndPassword
   pub transport : TransportType
@@ -24,8 +23,8 @@ pub record Config : Type 0 where
   pub anonymous_username : Feature
   pub waits : Waits
 
--- the settings of a new client: an allocation over UDP, of one IPv4 address; Sha1; the name is hidden where the
--- server can; the waits of a new agent
+-- The settings of a new client: an allocation over UDP, of one IPv4 address; `Sha1`; the name is hidden if
+-- the server supports it; the waits of a new agent.
 abbrev pub default_config : NameAndPassword → Config
 default_config credentials = record {
   credentials = credentials;

@@ -7,7 +7,7 @@ pub mod SetWaitsView
 pub mod SameWaits
 pub mod SameConfigs
 pub mod Sent
--- What stands above this crate has these through it.
+-- Re-exported for the crates above this one.
 pub use Rattle.stun_types_wire.specs as StunTypesWire
 pub use Rattle.turn_types_frame.specs as TurnTypesFrame
 pub use Rattle.stun_proto_agent.specs.Transaction as StunProtoTransaction

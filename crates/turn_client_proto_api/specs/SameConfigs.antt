@@ -1,4 +1,4 @@
--- When two settings are the same.
+-- Equality of settings.
 use Rattle.std.specs.Prelude.{Bool, nat_eq}
 use Rattle.std.specs.Ordering.{on, eq_of_both}
 use Rattle.std.specs.Cmp.{IsEquivalence, on_equiv, and_equiv}
@@ -15,7 +15,7 @@ use Rattle.turn_client_proto_api.specs.contracts.families.RequestedFamiliesEq.Th
 use Rattle.turn_client_proto_api.specs.Config.{Config}
 use Rattle.turn_client_proto_api.specs.SameWaits.{same_waits, same_waits_equiv}
 
--- name and password are the same
+-- Name and password are equal.
 abbrev pub same_account : NameAndPassword → NameAndPassword → Bool
 same_account = eq_of_both (on (λ (c : NameAndPassword). c.username) (pointwise nat_eq))
     (on (λ (c : NameAndPassword). c.password) (pointwise nat_eq))
@@ -24,7 +24,7 @@ same_account_equiv : IsEquivalence same_account
 same_account_equiv = and_equiv (on_equiv (λ (c : NameAndPassword). c.username) nat_list_eq_equiv)
     (on_equiv (λ (c : NameAndPassword). c.password) nat_list_eq_equiv)
 
--- each part is the same, as the part's own `==` says
+-- All fields are equal, each by its own `==`.
 abbrev pub same_config : Config → Config → Bool
 same_config = eq_of_both (on (λ (c : Config). c.credentials) same_account)
     (eq_of_both (on (λ (c : Config). c.transport) (transport.eq-value).it)

@@ -5,7 +5,7 @@ use Rattle.turn_types_frame.specs.Indications.{indication_text}
 use Rattle.turn_client_proto_api.specs.declared.send.DelayedMessageOrChannelSend.{DelayedMessageOrChannelSend}
 use Rattle.turn_client_proto_api.specs.declared.send.DelayedMessageOrChannelSend.TheVariants.{Channel, Message, Data, OwnedData}
 
--- the bytes that are sent: a channel frame, an indication, or the bytes themselves
+-- The bytes that are sent: a channel frame, an indication, or the payload itself.
 abbrev pub send_text : {T : Type 0} → (T → List ℕ) → DelayedMessageOrChannelSend T → List ℕ
 send_text items (Channel frame) = channeled_text frame
 send_text items (Message message) = indication_text message

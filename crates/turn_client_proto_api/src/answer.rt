@@ -1,4 +1,4 @@
-//! What a client answers when it is polled, and to bytes that came.
+//! What a client's `poll` and `recv` return.
 
 use crate::data::TurnPeerData;
 use std::convert::AsSlice;
@@ -7,31 +7,31 @@ use stun_types_base::instant::Instant;
 use stun_types_base::transmit::Transmit;
 use stun_types_base::transport::TransportType;
 
-/// A socket: its transport, its own address and the other side's.
+/// A socket: its transport, its own address and the remote one.
 #[derive(Clone, Copy, Debug, PartialEq, Eq)]
 pub struct Socket5Tuple {
     /// The transport.
     pub transport: TransportType,
     /// The own address.
     pub from: SocketAddr,
-    /// The address of the other side.
+    /// The remote address.
     pub to: SocketAddr,
 }
 
-/// What `poll` answers.
+/// What `poll` returns.
 #[derive(Clone, Copy, Debug, PartialEq, Eq)]
 pub enum TurnPollRet {
-    /// Nothing is due before this moment. Another call may bring it forward.
+    /// Nothing is due before this time. Another call may make something due earlier.
     WaitUntil(Instant),
-    /// The caller is to open a connection to the server, and to tell of it by `allocated_tcp_socket`
-    /// (RFC 6062, sections 4.3 and 4.4).
+    /// The caller is to open a connection to the server, and to report it with
+    /// `allocated_tcp_socket` (RFC 6062, sections 4.3 and 4.4).
     AllocateTcpSocket {
-        /// The number by which the server knows the connection to the peer.
+        /// The ID by which the server knows the connection to the peer.
         id: u32,
-        /// The transport and the addresses of the connection to open. The port of the own address is
-        /// the caller's choice.
+        /// The transport and the addresses of the connection to open. The caller chooses the port
+        /// of the own address.
         socket: Socket5Tuple,
-        /// The peer, to which the server connected, or which connected to the server.
+        /// The peer. Either the server connected to it, or it connected to the server.
         peer_addr: SocketAddr,
     },
     /// The caller is to close this connection to the server (RFC 6062, section 4.6).
@@ -41,18 +41,18 @@ pub enum TurnPollRet {
         /// The server's address.
         remote_addr: SocketAddr,
     },
-    /// The client has ended: nothing is due any more.
+    /// The client has ended: nothing more is due.
     Closed,
     /// An allocation failed: the client has ended.
     NoMemory,
 }
 
-/// What `recv` answers to bytes that came.
+/// What `recv` returns.
 #[derive(Debug, Drop)]
 pub enum TurnRecvRet<T: AsSlice<u8>> {
-    /// The bytes were for the client, and it took them.
+    /// The bytes were for the client, and it has handled them.
     Handled,
-    /// The bytes are not for the client. They are given back.
+    /// The bytes are not for the client. They are returned.
     Ignored(Transmit<T>),
     /// The bytes carry a payload of a peer (RFC 8656, sections 11.4 and 12.6).
     PeerData(TurnPeerData<T>),
@@ -69,6 +69,6 @@ pub enum TurnRecvRet<T: AsSlice<u8>> {
         /// The data of the ICMP message.
         icmp_data: u32,
     },
-    /// An allocation failed: the client has ended. The bytes are given back.
+    /// An allocation failed: the client has ended. The bytes are returned.
     NoMemory(Transmit<T>),
 }

@@ -25,10 +25,15 @@ use stun_types_base::transport::TransportType;
 use stun_types_wire::algorithm::IntegrityAlgorithm;
 use turn_types_attributes::credentials::TurnCredentials;
 
-/// The settings of a TURN client: the credentials of its user, the allocation that it asks for (RFC
-/// 8656, section 7.1), what it supports and asks for when it signs (RFC 8489, section 9.2), and how
-/// long it waits for responses. The lists of families and of algorithms are never empty and name
-/// nothing twice. Contracts see the record `Config` of `specs/Config.antt`.
+/// The settings of a TURN client:
+///
+/// - the credentials of its user;
+/// - the allocation that it requests (RFC 8656, section 7.1);
+/// - what it supports and requests when it signs (RFC 8489, section 9.2);
+/// - how long it waits for responses.
+///
+/// The lists of families and of algorithms are never empty and have no duplicates. In contracts it
+/// is the record `Config` of `specs/Config.antt`.
 #[derive(Debug, Drop)]
 pub struct TurnConfig {
     credentials: TurnCredentials,
@@ -56,8 +61,9 @@ impl Model for TurnConfig {
 }
 
 impl TurnConfig {
-    /// The settings of a client with these credentials, which it takes: an allocation over UDP of one
-    /// IPv4 address; Sha1 alone; the name is hidden where the server can; the waits of a new agent.
+    /// Creates the settings of a client with these credentials, which it takes. They request an
+    /// allocation over UDP of one IPv4 address, with `Sha1` as the only algorithm. The name is
+    /// hidden if the server supports it. The waits are those of a new agent.
     pub fn new(credentials: TurnCredentials) -> TurnConfig
         ensures { result ≡ default_config credentials }
     {
@@ -71,7 +77,8 @@ impl TurnConfig {
         }
     }
 
-    /// The same settings once more. Where memory is refused, `NoMemory`; these stay as they are.
+    /// Copies the settings. Fails with `NoMemory` if an allocation fails; these settings stay as
+    /// they are.
     pub fn clone(&self, alloc: Global) -> Result<TurnConfig, NoMemory>
         ensures { IfOk result (λ copy. copy ≡ self.now) }
     {
@@ -90,8 +97,8 @@ impl TurnConfig {
         })
     }
 
-    /// The transport between the server and the peers, which REQUESTED-TRANSPORT names (RFC 8656,
-    /// section 18.8; RFC 6062, section 4.1).
+    /// Returns the transport between the server and the peers, which REQUESTED-TRANSPORT names (RFC
+    /// 8656, section 18.8; RFC 6062, section 4.1).
     pub fn allocation_transport(&self) -> TransportType
         ensures { result ≡ self.now.transport }
     {
@@ -105,8 +112,8 @@ impl TurnConfig {
         self.allocation_transport = transport;
     }
 
-    /// The families of the addresses that are asked for, in the order in which they were added: at
-    /// least one, and none twice.
+    /// Returns the families of the requested addresses, in the order in which they were added: at
+    /// least one, and no duplicates.
     pub fn address_families(&self) -> &[AddressFamily]
         ensures value { result.now ≡ self.now.families }
         ensures never_empty { result.now ≢ [] }
@@ -115,44 +122,44 @@ impl TurnConfig {
         self.families.as_slice()
     }
 
-    /// Asks for an address of another family too, which goes last; one that is there already changes
-    /// nothing (RFC 8656, sections 18.6 and 18.11).
+    /// Requests an address of another family too, the last in order. A family that is requested
+    /// already changes nothing (RFC 8656, sections 18.6 and 18.11).
     pub fn add_address_family(&mut self, family: AddressFamily)
         ensures { self.new ≡ record self.old { families = with_family self.old.families family } }
     {
         self.families = self.families.with(family);
     }
 
-    /// Asks for an address of this family alone.
+    /// Requests an address of this family only.
     pub fn set_address_family(&mut self, family: AddressFamily)
         ensures { self.new ≡ record self.old { families = family ∷ [] } }
     {
         self.families = RequestedFamilies::only(family);
     }
 
-    /// The families that are asked for, as a value of their own.
+    /// Returns a copy of the requested families.
     pub fn requested_families(&self) -> RequestedFamilies
         ensures { result ≡ self.now.families }
     {
         self.families
     }
 
-    /// Gives the credentials away.
+    /// Returns the credentials, and drops the other settings.
     pub fn into_credentials(self) -> TurnCredentials
         ensures { result ≡ self.credentials }
     {
         self.credentials
     }
 
-    /// The name and the password of the user.
+    /// Returns the user's name and password.
     pub fn credentials(&self) -> &TurnCredentials
         ensures { result.now ≡ self.now.credentials }
     {
         &self.credentials
     }
 
-    /// The integrity algorithms that are supported, in the order in which they were added: at least
-    /// one, and none twice.
+    /// Returns the supported integrity algorithms, in the order in which they were added: at least
+    /// one, and no duplicates.
     pub fn supported_integrity(&self) -> &[IntegrityAlgorithm]
         ensures value { result.now ≡ self.now.algorithms }
         ensures never_empty { result.now ≢ [] }
@@ -161,7 +168,8 @@ impl TurnConfig {
         self.supported.as_slice()
     }
 
-    /// Supports another algorithm, which goes last; one that is there already changes nothing.
+    /// Supports another algorithm, the last in order. One that is supported already changes
+    /// nothing.
     pub fn add_supported_integrity(&mut self, algorithm: IntegrityAlgorithm)
         ensures { self.new ≡ record self.old {
           algorithms = with_algorithm self.old.algorithms algorithm;
@@ -170,33 +178,37 @@ impl TurnConfig {
         self.supported = self.supported.with(algorithm);
     }
 
-    /// Supports this algorithm alone.
+    /// Supports this algorithm only.
     pub fn set_supported_integrity(&mut self, algorithm: IntegrityAlgorithm)
         ensures { self.new ≡ record self.old { algorithms = algorithm ∷ [] } }
     {
         self.supported = SupportedIntegrity::only(algorithm);
     }
 
-    /// Whether the name is hidden behind a hash (RFC 8489, section 9.2.5).
+    /// Returns whether the name is replaced by a hash, USERHASH (RFC 8489, section 9.2.5).
     pub fn anonymous_username(&self) -> Feature
         ensures { result ≡ self.now.anonymous_username }
     {
         self.anonymous_username
     }
 
-    /// Sets whether the name is hidden behind a hash: where the server can, or always, so that the
-    /// challenge of a server that can't is refused, or never.
+    /// Sets whether the name is replaced by a hash: if the server supports it; always, so that the
+    /// challenge of a server that does not support it is refused; or never.
     pub fn set_anonymous_username(&mut self, anonymous_username: Feature)
         ensures { self.new ≡ record self.old { anonymous_username = anonymous_username } }
     {
         self.anonymous_username = anonymous_username;
     }
 
-    /// Sets how long each request waits for its response (RFC 8489, section 6.2.1). The first wait,
-    /// `initial`, is behind the first transmission; each next one is twice as long, and none is
-    /// longer than `max`. A request is sent `retransmits` times in all, where 0 counts as once.
-    /// `final_retransmit_timeout` is waited behind the last, and may be longer than `max`. Over TCP a
-    /// request is sent once, and the end is the same.
+    /// Sets how long each request waits for its response (RFC 8489, section 6.2.1).
+    ///
+    /// - `initial`: the wait after the first transmission. Each further wait is twice as long.
+    /// - `max`: the longest of these waits.
+    /// - `retransmits`: how often a request is sent in all. 0 counts as 1.
+    /// - `final_retransmit_timeout`: the wait after the last transmission. It may be longer than
+    ///   `max`.
+    ///
+    /// Over TCP a request is sent once, and ends at the same time.
     pub fn set_request_retransmits(
         &mut self,
         initial: Duration,
@@ -221,8 +233,8 @@ impl TurnConfig {
         });
     }
 
-    /// An agent of this transport and address, to be completed, whose requests wait as the settings say.
-    /// It keeps the allocator, and holds no memory yet.
+    /// Returns a builder of an agent with this transport and own address, whose requests wait as
+    /// the settings say. It stores the allocator, and holds no memory yet.
     pub fn stun_agent_builder(
         &self,
         alloc: Global,
@@ -251,14 +263,14 @@ impl TurnConfig {
     }
 }
 
-/// Whether name and password are the same.
+/// Returns whether name and password are equal.
 fn is_same_account(one: &TurnCredentials, other: &TurnCredentials) -> bool
     ensures { result ≡ same_account one.now other.now }
 {
     one.username() == other.username() && one.password() == other.password()
 }
 
-/// Settings are equal where each of them is.
+/// Settings are equal if each of their fields is.
 impl PartialEq for TurnConfig {
     ghost use Rattle.std.specs.Cmp.{partial_equiv_from_equiv};
     ghost use Rattle.turn_client_proto_api.specs.SameConfigs.{same_config, same_config_equiv};

@@ -1,8 +1,8 @@
-//! The payload of a peer, where it stands: in the bytes that came, or in a vector of its own.
+//! The payload of a peer, as a range of the received bytes or in a vector of its own.
 
 ghost use Rattle.std.specs.Prelude.{◌≡◌, IfOk, None};
 ghost use Rattle.std.specs.Result.{IsOk};
-ghost use Rattle.turn_client_proto_api.specs.Payloads.{held_bytes, held_place, part_of};
+ghost use Rattle.turn_client_proto_api.specs.Payloads.{held_bytes, held_index, part_of};
 
 use std::alloc::Global;
 use std::convert::AsSlice;
@@ -13,14 +13,15 @@ use std::ops::Range;
 use stun_types_base::memory::NoMemory;
 use stun_types_base::transport::TransportType;
 
-/// A range of an owner's bytes, or bytes of its own. What a range names past the bytes is not there.
+/// A range of an owner's bytes, or bytes of its own. The part of a range past the end of the bytes
+/// is empty.
 #[derive(Debug, Drop)]
 pub enum DataRangeOrOwned<T: AsSlice<u8>> {
     /// A range of these bytes.
     Range {
         /// The bytes.
         bytes: T,
-        /// Which of them.
+        /// The range in these bytes.
         range: Range<usize>,
     },
     /// Bytes of its own.
@@ -28,7 +29,7 @@ pub enum DataRangeOrOwned<T: AsSlice<u8>> {
 }
 
 impl<T: AsSlice<u8> + Debug + Drop> DataRangeOrOwned<T> {
-    /// The bytes.
+    /// Returns the bytes.
     pub fn as_slice(&self) -> &[u8]
         ensures { result.now ≡ held_bytes T.items self.now }
     {
@@ -41,16 +42,17 @@ impl<T: AsSlice<u8> + Debug + Drop> DataRangeOrOwned<T> {
     }
 }
 
-/// The bytes from a place up to another, as far as there are any.
+/// Returns the bytes from one index up to another, as far as they exist.
 pub(crate) fn part(bytes: &[u8], start: usize, end: usize) -> &[u8]
     ensures { result.now ≡ part_of bytes.now start end }
 {
-    let (front, _) = bytes.split_at(end.min(bytes.len()));
-    let (_, wanted) = front.split_at(start.min(front.len()));
+    let (head, _) = bytes.split_at(end.min(bytes.len()));
+    let (_, wanted) = head.split_at(start.min(head.len()));
     wanted
 }
 
-/// The payload that a peer sent, with the peer's address. Contracts see the record `PeerPayload`.
+/// The payload that a peer sent, with the peer's address. In contracts it is the record
+/// `PeerPayload`.
 #[derive(Debug, Drop)]
 pub struct TurnPeerData<T: AsSlice<u8>> {
     pub(crate) held: DataRangeOrOwned<T>,
@@ -61,20 +63,20 @@ pub struct TurnPeerData<T: AsSlice<u8>> {
 }
 
 impl<T: AsSlice<u8>> Model for TurnPeerData<T> {
-    ghost use Rattle.turn_client_proto_api.specs.Payloads.{PeerPayload, held_bytes, held_place};
+    ghost use Rattle.turn_client_proto_api.specs.Payloads.{PeerPayload, held_bytes, held_index};
 
     ghost Value = { PeerPayload };
 
     ghost view = { λ d. record {
       payload = held_bytes T.items d.held;
-      place = held_place d.held;
+      index = held_index d.held;
       transport = d.transport;
       peer = d.peer;
     } };
 }
 
 impl<T: AsSlice<u8> + Debug + Drop> TurnPeerData<T> {
-    /// The payload that stands there, of this peer.
+    /// Creates the payload of a peer from these bytes.
     pub fn new(
         held: DataRangeOrOwned<T>,
         transport: TransportType,
@@ -82,7 +84,7 @@ impl<T: AsSlice<u8> + Debug + Drop> TurnPeerData<T> {
     ) -> TurnPeerData<T>
         ensures { result ≡ record {
           payload = held_bytes T.items held;
-          place = held_place held;
+          index = held_index held;
           transport = transport;
           peer = peer;
         } }
@@ -94,36 +96,36 @@ impl<T: AsSlice<u8> + Debug + Drop> TurnPeerData<T> {
         }
     }
 
-    /// The payload.
+    /// Returns the payload.
     pub fn data(&self) -> &[u8]
         ensures { result.now ≡ self.now.payload }
     {
         self.held.as_slice()
     }
 
-    /// The payload where it stands: in the bytes that came, or in a vector of its own.
+    /// Returns the payload as a range of the received bytes, or as a vector of its own.
     pub fn into_data(self) -> DataRangeOrOwned<T>
         ensures bytes { held_bytes T.items result ≡ self.payload }
-        ensures place { held_place result ≡ self.place }
+        ensures index { held_index result ≡ self.index }
     {
         self.held
     }
 
-    /// The payload, as `data`.
+    /// Returns the payload, as `data` does.
     pub fn as_slice(&self) -> &[u8]
         ensures { result.now ≡ self.now.payload }
     {
         self.held.as_slice()
     }
 
-    /// The same payload in a vector of its own: one that stands there already asks for no memory, and
-    /// one in other bytes is copied. Where memory is refused, `NoMemory`.
+    /// Returns the same payload in a vector of its own. A payload that is in one already needs no
+    /// memory; another one is copied. Fails with `NoMemory` if an allocation fails.
     pub fn into_owned<R: AsSlice<u8> + Debug + Drop>(
         self,
         alloc: Global,
     ) -> Result<TurnPeerData<R>, NoMemory>
-        ensures value { IfOk result (λ owned. owned ≡ record self { place = None }) }
-        ensures stays { self.place ≡ None → IsOk result }
+        ensures value { IfOk result (λ owned. owned ≡ record self { index = None }) }
+        ensures stays { self.index ≡ None → IsOk result }
     {
         let TurnPeerData {
             held,

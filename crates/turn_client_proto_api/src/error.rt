@@ -1,54 +1,54 @@
-//! Why a client refuses a call. Unless a call says otherwise, a refused one changes nothing.
+//! The errors of a client's calls. Unless a call says otherwise, a call that fails changes nothing.
 
 use stun_types_base::instant::Instant;
 use stun_types_base::memory::NoMemory;
 use thiserror::Error;
 
-/// Why no channel is bound (RFC 8656, section 12.1).
+/// Why no channel is requested (RFC 8656, section 12.1).
 #[derive(Clone, Copy, Debug, PartialEq, Eq, Error)]
 #[non_exhaustive]
 pub enum BindChannelError {
-    /// A channel to the peer stands.
+    /// There is a channel to the peer.
     #[error("The channel identifier already exists and cannot be recreated.")]
     AlreadyExists,
-    /// A channel to the peer expired, and none is bound to that peer through this moment. The number of
-    /// the expired one is free for another peer at this moment.
+    /// A channel to the peer expired. No new one is bound to that peer up to and including this
+    /// time. At this time the number of the expired channel is free for another peer.
     #[error("The channel for requested peer address has expired and cannot be recreated until {}.", .0.as_nanos())]
     ExpiredChannelExists(Instant),
-    /// No allocation of that transport and family stands, or the client has ended.
+    /// There is no allocation of that transport and family, or the client has ended.
     #[error("There is no connection to the TURN server that can handle this channel.")]
     NoAllocation,
-    /// Each channel number stands, is asked for, or is reserved.
+    /// Every channel number is bound, requested, or reserved.
     #[error("no channel number is free")]
     NoChannel,
-    /// Memory was refused, and no other refusal holds.
+    /// An allocation failed, and no other error applies.
     #[error("no memory")]
     NoMemory,
 }
 
-/// Why no permission is created (RFC 8656, section 10.1).
+/// Why no permission is requested (RFC 8656, section 10.1).
 #[derive(Clone, Copy, Debug, PartialEq, Eq, Error)]
 #[non_exhaustive]
 pub enum CreatePermissionError {
-    /// A permission for the address stands, or is asked for.
+    /// There is a permission for the address, or one is requested.
     #[error("The permission already exists and cannot be recreated.")]
     AlreadyExists,
-    /// No allocation of that transport and family stands, or the client has ended.
+    /// There is no allocation of that transport and family, or the client has ended.
     #[error("There is no connection to the TURN server that can handle this permission")]
     NoAllocation,
-    /// Memory was refused, and no other refusal holds.
+    /// An allocation failed, and no other error applies.
     #[error("no memory")]
     NoMemory,
 }
 
-/// Why allocations are not deleted (RFC 8656, section 8.1).
+/// Why the end of the allocations is not requested (RFC 8656, section 8.1).
 #[derive(Clone, Copy, Debug, PartialEq, Eq, Error)]
 #[non_exhaustive]
 pub enum DeleteError {
-    /// No allocation was created, or the client has ended.
+    /// The server has allocated nothing, or the client has ended.
     #[error("There is no connection to the TURN server")]
     NoAllocation,
-    /// Memory was refused, and no other refusal holds.
+    /// An allocation failed, and no other error applies.
     #[error("no memory")]
     NoMemory,
 }
@@ -57,53 +57,55 @@ pub enum DeleteError {
 #[derive(Clone, Copy, Debug, PartialEq, Eq, Error)]
 #[non_exhaustive]
 pub enum SendError {
-    /// No call answers this.
+    /// No call returns this.
     #[error("There is no connection to the TURN server")]
     NoAllocation,
-    /// No permission for the peer's address stands; without an allocation there is none.
+    /// There is no permission for the peer's address. Without an allocation there is none.
     #[error("There is no permission installed for the requested peer")]
     NoPermission,
     /// No connection to the peer is bound (RFC 6062, section 4.3).
     #[error("There is no local TCP socket for the requested peer")]
     NoTcpSocket,
-    /// There are more than `MAX_PAYLOAD` bytes, 65,504, which an allocation over UDP does not send.
+    /// There are more than `MAX_PAYLOAD` bytes, 65,504, which is too many for an allocation over
+    /// UDP.
     #[error("payload too large")]
     TooLarge,
-    /// Memory was refused, and no other refusal holds.
+    /// An allocation failed, and no other error applies.
     #[error("no memory")]
     NoMemory,
 }
 
-/// Why no connection to a peer is asked for (RFC 6062, section 4.3).
+/// Why no connection to a peer is requested (RFC 6062, section 4.3).
 #[derive(Clone, Copy, Debug, PartialEq, Eq, Error)]
 #[non_exhaustive]
 pub enum TcpConnectError {
-    /// A connection to the peer stands, is asked for, or waits for its socket.
+    /// There is a connection to the peer, or one is requested, or one waits for its socket.
     #[error("The TCP connection already exists and cannot be recreated.")]
     AlreadyExists,
-    /// No allocation over TCP of that family stands, or the client has ended.
+    /// There is no allocation over TCP of that family, or the client has ended.
     #[error("There is no connection to the TURN server that can handle this TCP socket.")]
     NoAllocation,
-    /// No permission for the peer's address stands.
+    /// There is no permission for the peer's address.
     #[error("There is no permission installed for the requested peer")]
     NoPermission,
-    /// Memory was refused, and no other refusal holds.
+    /// An allocation failed, and no other error applies.
     #[error("no memory")]
     NoMemory,
 }
 
-/// Why a socket for a connection to a peer is not taken (RFC 6062, sections 4.3 and 4.4).
+/// Why the socket of a connection to a peer is not accepted (RFC 6062, sections 4.3 and 4.4).
 #[derive(Clone, Copy, Debug, PartialEq, Eq, Error)]
 #[non_exhaustive]
 pub enum TcpAllocateError {
-    /// Another connection has that local address.
+    /// Another connection has that own address.
     #[error("The TCP connection already exists and cannot be recreated.")]
     AlreadyExists,
-    /// No connection of that number and peer waits for a socket, the connection to the server is not
-    /// the client's, or the client has ended.
+    /// No connection with that ID and to that peer waits for a socket, the five-tuple is not the
+    /// client's own connection to the server, or the client has not allocated over TCP or has
+    /// ended.
     #[error("There is no connection to the TURN server that can handle this TCP socket.")]
     NoAllocation,
-    /// Memory was refused, and no other refusal holds.
+    /// An allocation failed, and no other error applies.
     #[error("no memory")]
     NoMemory,
 }

@@ -1,4 +1,4 @@
-//! The families of the addresses that a client asks for.
+//! The families of the addresses that a client requests.
 
 ghost use Rattle.std.specs.Prelude.{◌≡◌, ◌≢◌, [], ◌∷◌};
 ghost use Rattle.std.specs.List.{IsDistinct, list_any};
@@ -7,7 +7,7 @@ ghost use Rattle.turn_client_proto_api.specs.Families.{is_same_family, with_fami
 use std::marker::Model;
 use stun_types_base::family::AddressFamily;
 
-/// Which families, the first one first.
+/// The requested families, in order.
 #[derive(Clone, Copy, Debug, PartialEq, Eq)]
 enum FamilyOrder {
     OnlyV4,
@@ -16,7 +16,8 @@ enum FamilyOrder {
     V6First,
 }
 
-/// Families of addresses, in order: at least one, and none twice. Contracts see the list of them.
+/// Address families, in order: at least one, and no duplicates. In contracts it is the list of
+/// them.
 #[derive(Clone, Copy, Debug, PartialEq, Eq)]
 pub struct RequestedFamilies {
     order: FamilyOrder,
@@ -38,7 +39,7 @@ impl Model for RequestedFamilies {
 }
 
 impl RequestedFamilies {
-    /// This family alone.
+    /// Returns this family alone.
     pub fn only(family: AddressFamily) -> Self
         ensures { result ≡ family ∷ [] }
     {
@@ -49,7 +50,8 @@ impl RequestedFamilies {
         RequestedFamilies { order }
     }
 
-    /// These families, and another one last; one that is there already changes nothing.
+    /// Returns these families with another one added last. One that is there already changes
+    /// nothing.
     pub fn with(self, family: AddressFamily) -> Self
         ensures { result ≡ with_family self family }
     {
@@ -61,7 +63,7 @@ impl RequestedFamilies {
         RequestedFamilies { order }
     }
 
-    /// The families in order: at least one, and none twice.
+    /// Returns the families in order: at least one, and no duplicates.
     pub fn as_slice(&self) -> &[AddressFamily]
         ensures value { result.now ≡ self.now }
         ensures never_empty { result.now ≢ [] }
@@ -75,7 +77,7 @@ impl RequestedFamilies {
         }
     }
 
-    /// Whether a family is among them.
+    /// Returns whether this family is among them.
     pub fn contains(&self, family: AddressFamily) -> bool
         ensures { result ≡ list_any (is_same_family family) self.now }
     {

@@ -1,5 +1,5 @@
-//! What a user gives a TURN client and gets of it: settings, events, errors, answers, payloads, and
-//! the queues of what waits to be told or sent.
+//! The types that a user of a TURN client passes and gets: settings, events, errors, results and
+//! payloads; and the queue type for events and messages.
 #![tactic(auto)]
 
 pub mod answer;

@@ -1,4 +1,4 @@
-//! What comes in first goes out first; but what is put before all others goes out before them.
+//! A queue: first in, first out, except that `push_front` puts an element before all others.
 
 ghost use Rattle.std.specs.Prelude.{◌≡◌, ◌<◌, [], ◌∷◌, ◌++◌, List, Some, IfNone, OnOk, OnErr, length, option_to_list, remove, slice_get, take};
 ghost use Rattle.std.specs.Option.{option_copied};
@@ -8,8 +8,9 @@ use std::collections::VecDeque;
 use std::marker::Model;
 use stun_types_base::memory::NoMemory;
 
-/// A queue. Contracts see the list of its elements, the first one first. Each call costs the
-/// same, however many elements there are; but one that drops several costs by their number.
+/// A queue. In contracts it is the list of its elements, the first one first. The cost of a call
+/// does not depend on the number of elements, except that a call that drops several costs by their
+/// number.
 #[derive(Debug, Drop)]
 pub struct QueueOf<T> {
     items: VecDeque<T>,
@@ -24,7 +25,7 @@ impl<T> Model for QueueOf<T> {
 }
 
 impl<T> QueueOf<T> {
-    /// An empty queue, which holds no memory yet.
+    /// Creates an empty queue, which holds no memory yet.
     pub fn new(alloc: Global) -> Self
         ensures { result ≡ [] }
     {
@@ -33,14 +34,14 @@ impl<T> QueueOf<T> {
         }
     }
 
-    /// How many elements there are.
+    /// Returns the number of elements.
     pub fn len(&self) -> usize
         ensures { result ≡ length self.now }
     {
         self.items.len()
     }
 
-    /// Takes out the first element, where there is one.
+    /// Removes and returns the first element, or returns `None` if there is none.
     pub fn pop_front(&mut self) -> Option<T>
         ensures items { self.old ≡ option_to_list result ++ self.new }
         ensures none { IfNone result (self.old ≡ []) }
@@ -48,7 +49,7 @@ impl<T> QueueOf<T> {
         self.items.pop_front()
     }
 
-    /// Takes out the last element, where there is one.
+    /// Removes and returns the last element, or returns `None` if there is none.
     pub fn pop_back(&mut self) -> Option<T>
         ensures items { self.old ≡ self.new ++ option_to_list result }
         ensures undone { (xs : List T) (x : T) → self.old ≡ xs ++ x ∷ [] → self.new ≡ xs }
@@ -56,31 +57,31 @@ impl<T> QueueOf<T> {
         self.items.pop_back()
     }
 
-    /// Takes out the element at a place.
-    pub fn remove(&mut self, place: usize) -> Option<T>
-        requires { place < length self.old }
-        ensures given { result ≡ slice_get self.old place }
-        ensures items { self.new ≡ remove self.old place }
+    /// Removes and returns the element at an index.
+    pub fn remove(&mut self, index: usize) -> Option<T>
+        requires { index < length self.old }
+        ensures given { result ≡ slice_get self.old index }
+        ensures items { self.new ≡ remove self.old index }
     {
-        self.items.remove(place)
+        self.items.remove(index)
     }
 
-    /// The elements in two parts, the first ones first.
+    /// Returns the elements in two slices, the first elements in the first slice.
     pub fn as_slices(&self) -> (&[T], &[T])
         ensures { result.0.now ++ result.1.now ≡ self.now }
     {
         self.items.as_slices()
     }
 
-    /// The last element, where there is one.
+    /// Returns the last element, or `None` if there is none.
     pub fn back(&self) -> Option<&T>
         ensures { (xs : List T) (x : T) → self.now ≡ xs ++ x ∷ [] → option_copied result ≡ Some x }
     {
         self.items.back()
     }
 
-    /// The first element, where there is one.
-    pub fn front(&self) -> Option<&T>
+    /// Returns the first element, or `None` if there is none.
+    pub fn head(&self) -> Option<&T>
         ensures { option_copied result ≡ slice_get self.now 0 }
     {
         self.items.front()
@@ -88,7 +89,8 @@ impl<T> QueueOf<T> {
 }
 
 impl<T: Drop> QueueOf<T> {
-    /// Adds an element at the end. Where memory is refused, the queue stays as it was.
+    /// Adds an element at the end. Fails with `NoMemory` if an allocation fails; the queue is
+    /// unchanged.
     pub fn push_back(&mut self, value: T) -> Result<(), NoMemory>
         ensures ok { OnOk result (self.new ≡ self.old ++ value ∷ []) }
         ensures err { OnErr result (self.new ≡ self.old) }
@@ -97,7 +99,8 @@ impl<T: Drop> QueueOf<T> {
         Ok(())
     }
 
-    /// Adds an element before all others. Where memory is refused, the queue stays as it was.
+    /// Adds an element before all others. Fails with `NoMemory` if an allocation fails; the queue
+    /// is unchanged.
     pub fn push_front(&mut self, value: T) -> Result<(), NoMemory>
         ensures ok { OnOk result (self.new ≡ value ∷ self.old) }
         ensures err { OnErr result (self.new ≡ self.old) }
@@ -106,14 +109,14 @@ impl<T: Drop> QueueOf<T> {
         Ok(())
     }
 
-    /// Leaves the first elements, this many; all, where there are no more.
+    /// Keeps the first `count` elements, or all if there are no more, and drops the others.
     pub fn truncate(&mut self, count: usize)
         ensures { self.new ≡ take count self.old }
     {
         self.items.truncate(count);
     }
 
-    /// Takes out all elements.
+    /// Removes all elements.
     pub fn clear(&mut self)
         ensures { self.new ≡ [] }
     {

@@ -1,4 +1,5 @@
-//! What is sent to a server for a peer, before its bytes are written (RFC 8656, sections 11.1 and 12.5).
+//! What is sent to a server for a peer, before its bytes are written (RFC 8656, sections 11.1 and
+//! 12.5).
 
 ghost use Rattle.std.specs.Prelude.{◌≡◌, length};
 ghost use Rattle.turn_client_proto_api.specs.Payloads.{part_of};
@@ -14,7 +15,7 @@ use turn_types_frame::build::DelayedTransmitBuild;
 use turn_types_frame::delayed_channel::DelayedChannel;
 use turn_types_frame::delayed_message::DelayedMessage;
 
-/// What carries a payload to a peer.
+/// What carries a payload to a peer. Its bytes are written later.
 #[derive(Debug, Drop)]
 pub enum DelayedMessageOrChannelSend<T: AsSlice<u8>> {
     /// A frame of a channel (RFC 8656, section 12.5).
@@ -62,7 +63,7 @@ impl<T: AsSlice<u8> + Debug + Drop> DelayedTransmitBuild for DelayedMessageOrCha
     }
 }
 
-/// Writes bytes into a slice of just their length, and answers how many there are.
+/// Copies bytes into a slice of the same length, and returns that length.
 fn copied(bytes: &[u8], dest: &mut [u8]) -> usize
     requires { length dest.old ≡ length bytes.now }
     ensures bytes { dest.new ≡ bytes.now }
@@ -72,8 +73,8 @@ fn copied(bytes: &[u8], dest: &mut [u8]) -> usize
     bytes.len()
 }
 
-/// A range of bytes that is sent as it is. What a range names past the bytes is not there. Contracts
-/// see the bytes of the range.
+/// A range of bytes that is sent unchanged. The part of the range past the end of the bytes is
+/// empty. In contracts it is the bytes of the range.
 #[derive(Debug, Drop)]
 pub struct DelayedTransmit<T: AsSlice<u8>> {
     bytes: T,
@@ -90,14 +91,14 @@ impl<T: AsSlice<u8>> Model for DelayedTransmit<T> {
 }
 
 impl<T: AsSlice<u8> + Debug + Drop> DelayedTransmit<T> {
-    /// This range of the bytes.
+    /// Creates this range of the bytes.
     pub(crate) fn new(bytes: T, range: Range<usize>) -> DelayedTransmit<T>
         ensures { result ≡ part_of (T.items bytes) range.start range.end }
     {
         DelayedTransmit { bytes, range }
     }
 
-    /// The bytes of the range.
+    /// Returns the bytes of the range.
     fn part(&self) -> &[u8]
         ensures { result.now ≡ self.now }
     {

@@ -1,4 +1,4 @@
-//! The waits that a caller sets.
+//! The waits of requests that a caller sets.
 
 ghost use Rattle.std.specs.Prelude.{◌≡◌, Some};
 ghost use Rattle.turn_client_proto_api.specs.SameWaits.{same_waits};
@@ -6,8 +6,8 @@ ghost use Rattle.turn_client_proto_api.specs.SetWaitsView.{waits_of};
 
 use std::time::Duration;
 
-/// How long is waited behind the first transmission of a request, how long at most, how often the
-/// request is transmitted, and how long is waited behind the last transmission.
+/// The wait after the first transmission of a request, the longest wait, the number of
+/// transmissions, and the wait after the last transmission.
 #[derive(Clone, Copy, Debug)]
 pub(crate) struct SetWaits {
     pub(crate) initial: Duration,
@@ -16,7 +16,7 @@ pub(crate) struct SetWaits {
     pub(crate) last: Duration,
 }
 
-/// Whether the waits that are set are the same, where none are set those of a new agent.
+/// Returns whether the set waits are equal, where `None` stands for those of a new agent.
 pub(crate) fn is_same(one: Option<SetWaits>, other: Option<SetWaits>) -> bool
     ensures { result ≡ same_waits (waits_of one) (waits_of other) }
 {
@@ -27,7 +27,7 @@ pub(crate) fn is_same(one: Option<SetWaits>, other: Option<SetWaits>) -> bool
     }
 }
 
-/// Whether waits are the same.
+/// Returns whether two settings of waits are equal.
 fn is_each_same(one: SetWaits, other: SetWaits) -> bool
     ensures { result ≡ same_waits (waits_of (Some one)) (waits_of (Some other)) }
 {

@@ -1,4 +1,4 @@
--- The earliest of the moments until which connections may be bound.
+-- The earliest of the deadlines of connections that are not bound.
 use Rattle.std.proofs.Common.{◌≡◌, ℕ, List, [], ◌∷◌, ◌++◌, Option, Some, None, fold, min, refl, sym, ap, ◌∙◌}
 use Rattle.std.specs.List.{cons_option, filter_map}
 use Rattle.turn_client_proto_allocation.specs.StunProtoTransaction.Least.{IsLeastOf}
@@ -6,9 +6,9 @@ use Rattle.turn_client_proto_allocation.proofs.StunProtoTransaction.Leasts.{leas
 use Rattle.turn_client_proto_allocation.specs.Polling.{earlier}
 use Rattle.turn_client_proto_allocation.specs.declared.allocation.Allocation.{Allocation}
 use Rattle.turn_client_proto_allocation.specs.declared.connection.Connection.{Connection}
-use Rattle.turn_client_proto_connection.specs.Lapsing.{all_nexts, earlier_of, next_of, nexts}
+use Rattle.turn_client_proto_connection.specs.Expiring.{all_nexts, earlier_of, next_of, nexts}
 
--- one allocation after another, the earlier is kept
+-- The earliest deadline, computed over the allocations one after another.
 abbrev pub earliest : (wait : ℕ) → List Allocation → ℕ
 earliest wait allocations = fold (λ w (a : Allocation). earlier_of w a.connections) wait allocations
 
@@ -17,7 +17,7 @@ folded h wait [] = refl
 folded h wait (c ∷ rest) =
     elim (h c) as (λ o. fold (λ w b. earlier w (h b)) (earlier wait o) rest ≡ least_of wait (cons_option o (filter_map h rest))) [
       | None ↦ folded h wait rest
-      | Some moment ↦ folded h (min wait moment) rest
+      | Some time ↦ folded h (min wait time) rest
     ]
 
 joined : (wait : ℕ) (one other : List ℕ) → least_of wait (one ++ other) ≡ least_of (least_of wait one) other

@@ -1,10 +1,10 @@
--- What some functions here are proved by.
+-- Rule sets by which several functions of this crate are proved.
 use Rattle.turn_client_proto_allocation.proofs.Changes.{change_first_at, change_first_none, find_is}
-use Rattle.turn_client_proto_allocation.proofs.Prefixes.{front_kept, whole_kept}
-use Rattle.turn_client_proto_allocation.proofs.Fronts.{front_of}
+use Rattle.turn_client_proto_allocation.proofs.Prefixes.{head_stored, whole_stored}
+use Rattle.turn_client_proto_allocation.proofs.Heads.{head_of}
 
--- the front of a list that grows
-pub ruleset fronts = (front_kept, whole_kept, front_of)
+-- The first elements of a list that grows.
+pub ruleset heads = (head_stored, whole_stored, head_of)
 
--- the first that passes, by the place where it is
-pub ruleset by_place = (change_first_at, change_first_none, find_is)
+-- The first element that passes, by its index.
+pub ruleset by_index = (change_first_at, change_first_none, find_is)

@@ -1,4 +1,4 @@
--- Connections that peers begin (RFC 6062, section 4.4).
+-- Connections that peers initiate (RFC 6062, section 4.4).
 use Rattle.std.specs.Prelude.{ℕ, Bool, false, ◌||◌, List, [], ◌∷◌, ◌++◌, find, map, Option, Some, None, option_and_then, option_to_list}
 use Rattle.std.specs.List.{list_any}
 use Rattle.std.specs.declared.net.socket_addr.SocketAddr.{SocketAddr}
@@ -9,20 +9,22 @@ use Rattle.turn_client_proto_allocation.specs.declared.connection.Waiting.{Waiti
 use Rattle.turn_client_proto_connection.specs.Asking.{is_joined_to, is_waiting_for}
 use Rattle.turn_client_proto_connection.specs.Sockets.{awaits_socket, is_socket_for}
 
--- an allocation has a connection to a peer, or waits for the socket of one. One that was asked for is no bar to the peer's
+-- The allocation has a data connection to the peer or one that waits for a socket. An outstanding CONNECT
+-- does not count: it does not prevent a connection that the peer initiates.
 unfoldable pub is_joining : SocketAddr → Allocation → Bool
 is_joining peer a = list_any (is_joined_to peer) a.connections || list_any (is_waiting_for peer) a.waiting
 
--- a connection that a peer began, of which the server told by a request: the caller is yet to be asked for its socket
-abbrev pub attempt_by : (connection : ℕ) → SocketAddr → (number : ℕ) → Waiting
-attempt_by connection peer number = record { connection = connection; peer = peer; is_asked = false; attempt = Some number }
+-- A connection that a peer initiated and the server announced by a CONNECTION_ATTEMPT. Its socket is not
+-- requested from the caller yet.
+abbrev pub attempt_by : (connection : ℕ) → SocketAddr → (transaction_id : ℕ) → Waiting
+attempt_by connection peer transaction_id = record { connection = connection; peer = peer; is_requested = false; attempt = Some transaction_id }
 
--- an allocation with one more
-abbrev pub attempted : (connection : ℕ) → SocketAddr → (number : ℕ) → Allocation → Allocation
-attempted connection peer number a = record a { waiting = a.waiting ++ attempt_by connection peer number ∷ [] }
+-- The allocation with one more of these.
+abbrev pub attempted : (connection : ℕ) → SocketAddr → (transaction_id : ℕ) → Allocation → Allocation
+attempted connection peer transaction_id a = record a { waiting = a.waiting ++ attempt_by connection peer transaction_id ∷ [] }
 
--- the number of the request by which the server told of a connection, of a number and to a peer, that waits for its
--- socket; none where the client asked for it
+-- The transaction ID of the CONNECTION_ATTEMPT that announced the waiting connection with this connection ID
+-- to this peer, or `None` if the client requested it: in a list, in an allocation, and in all.
 abbrev pub attempt_among : (connection : ℕ) → SocketAddr → List Waiting → Option ℕ
 attempt_among connection peer waiting = option_and_then (λ (w : Waiting). w.attempt) (find (is_socket_for connection peer) waiting)
 
@@ -35,12 +37,13 @@ attempt_of connection peer allocations =
 
 -- ---- a transaction that ended
 
--- it has the number of the request by which the server told of a connection
+-- The transaction that timed out has the transaction ID of the CONNECTION_ATTEMPT that announced the
+-- connection.
 abbrev pub is_lost : Option ℕ → Waiting → Bool
 is_lost None w = false
 is_lost (Some ended) w = is_attempt ended w
 
--- the peer of the first such connection, and the connections that are left without it
+-- The peer of the first such connection, and the connections without it.
 abbrev pub peers_lost : Option ℕ → List Waiting → List SocketAddr
 peers_lost ended waiting = map (λ w. w.peer) (option_to_list (find (is_lost ended) waiting))
 

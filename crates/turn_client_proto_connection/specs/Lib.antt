@@ -1,8 +1,8 @@
 pub mod Asking
 pub mod Attempts
-pub mod Lapsing
-pub mod Shown
+pub mod Expiring
+pub mod Visible
 pub mod Sockets
 pub mod Streams
-pub mod Told
+pub mod Reported
 pub mod Waiting

@@ -1,4 +1,4 @@
--- Sockets for connections to peers, and their end (RFC 6062, sections 4.3 and 4.6).
+-- Opening and closing the sockets of connections to peers (RFC 6062, sections 4.3 and 4.6).
 use Rattle.std.specs.Prelude.{ℕ, ◌==◌, Bool, not, ◌&&◌, List, [], ◌∷◌, ◌++◌, filter, Some}
 use Rattle.std.specs.List.{list_any}
 use Rattle.std.specs.declared.net.socket_addr.SocketAddr.{SocketAddr}
@@ -12,23 +12,25 @@ use Rattle.turn_client_proto_allocation.specs.Same.{is_same_address}
 
 -- ---- a connection that waits for its socket
 
--- it is that of a number and to a peer, whether the caller was asked for its socket or not
+-- The waiting connection has this connection ID and peer, whether its socket was requested from the caller or
+-- not.
 abbrev pub is_socket_for : (connection : ℕ) → SocketAddr → Waiting → Bool
 is_socket_for connection peer w = (w.connection == connection) && is_same_address w.peer peer
 
 abbrev pub awaits_socket : (connection : ℕ) → SocketAddr → Allocation → Bool
 awaits_socket connection peer a = list_any (is_socket_for connection peer) a.waiting
 
--- what waits but for the first such, and an allocation in which that waits no more
+-- The waiting connections without the first one with this connection ID and peer, and the allocation without
+-- it.
 abbrev pub not_for : (connection : ℕ) → SocketAddr → List Waiting → List Waiting
 not_for connection peer waiting = without_first (is_socket_for connection peer) waiting
 
-unfoldable pub let_go : (connection : ℕ) → SocketAddr → Allocation → Allocation
-let_go connection peer a = record a { waiting = not_for connection peer a.waiting }
+unfoldable pub release : (connection : ℕ) → SocketAddr → Allocation → Allocation
+release connection peer a = record a { waiting = not_for connection peer a.waiting }
 
 -- ---- a connection that has its socket
 
--- its socket has this own address
+-- The connection has this own address.
 abbrev pub is_from : SocketAddr → Connection → Bool
 is_from here c = is_same_address c.here here
 
@@ -38,7 +40,7 @@ has_from here a = list_any (is_from here) a.connections
 abbrev pub is_any_from : SocketAddr → List Allocation → Bool
 is_any_from here allocations = list_any (has_from here) allocations
 
--- a connection that a request is to bind: nothing came over its socket yet
+-- A connection that the outstanding CONNECTION_BIND is to bind. No bytes were received over its socket yet.
 abbrev pub to_bind : (here peer : SocketAddr) → (connection : ℕ) → Binding → Connection
 to_bind here peer connection awaited = record {
   here = here;
@@ -48,10 +50,10 @@ to_bind here peer connection awaited = record {
   stream = alive [];
 }
 
--- an allocation with one more
+-- The allocation with one more data connection.
 abbrev pub binding : Connection → Allocation → Allocation
 binding c a = record a { connections = a.connections ++ c ∷ [] }
 
--- an allocation without that of an own address
+-- The allocation without the data connections with this own address.
 unfoldable pub closed : SocketAddr → Allocation → Allocation
 closed here a = record a { connections = filter (λ c. not (is_from here c)) a.connections }

@@ -1,4 +1,4 @@
--- What comes over the sockets of connections (RFC 6062, sections 4.3 and 4.5).
+-- Bytes that are received over the sockets of data connections (RFC 6062, sections 4.3 and 4.5).
 use Rattle.std.specs.Prelude.{ℕ, ◌==◌, Bool, not, ◌&&◌, List, [], find, length, is_none, Option, option_and_then}
 use Rattle.std.specs.List.{list_any}
 use Rattle.std.specs.declared.net.socket_addr.SocketAddr.{SocketAddr}
@@ -12,15 +12,15 @@ use Rattle.turn_client_proto_connection.specs.declared.streams.Raw.{Raw}
 
 -- ---- by own address
 
--- the first connection of an allocation that has this own address, and the first in all of them
+-- The first connection with this own address, of an allocation and of all allocations.
 abbrev pub from_in : SocketAddr → Allocation → Option Connection
 from_in here a = find (is_from here) a.connections
 
 abbrev pub from : SocketAddr → List Allocation → Option Connection
 from here allocations = option_and_then (from_in here) (find (has_from here) allocations)
 
--- a connection that is to be bound by the response to a request, or is bound; the first that has an own address is so, of
--- those of an allocation, and of all
+-- A connection with its outstanding CONNECTION_BIND set; `None` means that it is bound. Then the allocation,
+-- and all allocations, after this was done to the first connection with this own address.
 abbrev pub awaiting : Option Binding → Connection → Connection
 awaiting awaited c = record c { awaited = awaited }
 
@@ -30,8 +30,8 @@ waits_in here awaited a = record a { connections = change_first (is_from here) (
 abbrev pub waits_from : SocketAddr → Option Binding → List Allocation → List Allocation
 waits_from here awaited allocations = change_first (has_from here) (waits_in here awaited) allocations
 
--- a connection that keeps this of what came over its socket; the first that has an own address does, of those of an
--- allocation, and of all
+-- A connection with its stored bytes replaced. Then the allocation, and all allocations, after this was done
+-- to the first connection with this own address.
 abbrev pub with_stream : Stream → Connection → Connection
 with_stream stream c = record c { stream = stream }
 
@@ -43,28 +43,28 @@ exchanged here stream allocations = change_first (has_from here) (exchanged_in h
 
 -- ---- bytes of a peer that wait
 
--- bytes of the peer of a connection wait: it is bound, and some are kept
+-- The connection is bound and has stored data of its peer.
 abbrev pub has_raw : Connection → Bool
-has_raw c = is_none c.awaited && not (length c.stream.kept == 0)
+has_raw c = is_none c.awaited && not (length c.stream.stored == 0)
 
 abbrev pub is_any_raw : Allocation → Bool
 is_any_raw a = list_any has_raw a.connections
 
--- the first such connection of an allocation, and the first in all of them
+-- The first such connection, of an allocation and of all allocations.
 abbrev pub raw_in : Allocation → Option Connection
 raw_in a = find has_raw a.connections
 
 abbrev pub first_raw : List Allocation → Option Connection
 first_raw allocations = option_and_then raw_in (find is_any_raw allocations)
 
--- the peer and its bytes, as they are kept, and as they are given
-abbrev pub raw_kept : Connection → SocketAddr × List ℕ
-raw_kept c = (c.peer, c.stream.kept)
+-- The peer and its data, as they are stored in the connection and as they are returned.
+abbrev pub raw_stored : Connection → SocketAddr × List ℕ
+raw_stored c = (c.peer, c.stream.stored)
 
 abbrev pub raw_of : Raw → SocketAddr × List ℕ
 raw_of r = (r.peer, r.bytes.items)
 
--- nothing of it waits any more
+-- The allocation, and all allocations, after the stored data of the first such connection was taken.
 abbrev pub emptied_in : Allocation → Allocation
 emptied_in a = record a { connections = change_first has_raw (with_stream (alive [])) a.connections }
 

@@ -6,27 +6,28 @@ use Rattle.turn_client_proto_allocation.specs.Changes.{change_first}
 use Rattle.turn_client_proto_allocation.specs.declared.allocation.Allocation.{Allocation}
 use Rattle.turn_client_proto_allocation.specs.declared.connection.Waiting.{Waiting}
 
--- the caller was not asked for its socket
+-- The socket of the connection is not requested from the caller yet.
 abbrev pub is_unasked : Waiting → Bool
-is_unasked w = not w.is_asked
+is_unasked w = not w.is_requested
 
--- such a connection of an allocation, of several the first
+-- The first such connection of the allocation.
 abbrev pub unasked_of : Allocation → Option Waiting
 unasked_of a = find is_unasked a.waiting
 
 abbrev pub has_unasked : Allocation → Bool
 has_unasked a = list_any is_unasked a.waiting
 
--- the first in all of them
+-- The first such connection of all allocations.
 abbrev pub unasked : List Allocation → Option Waiting
 unasked allocations = option_and_then unasked_of (find has_unasked allocations)
 
--- the caller was asked for the socket of one; for that of the first of an allocation; and of the first in all of them
-abbrev pub asked : Waiting → Waiting
-asked w = record w { is_asked = true }
+-- The connection with its socket requested. Then the allocation, and all allocations, after this was done to
+-- the first connection whose socket was not requested yet.
+abbrev pub requested : Waiting → Waiting
+requested w = record w { is_requested = true }
 
-abbrev pub asked_in : Allocation → Allocation
-asked_in a = record a { waiting = change_first is_unasked asked a.waiting }
+abbrev pub requested_in : Allocation → Allocation
+requested_in a = record a { waiting = change_first is_unasked requested a.waiting }
 
-abbrev pub all_asked : List Allocation → List Allocation
-all_asked allocations = change_first has_unasked asked_in allocations
+abbrev pub all_requested : List Allocation → List Allocation
+all_requested allocations = change_first has_unasked requested_in allocations

@@ -1,9 +1,9 @@
-//! Connections that are asked for (RFC 6062, section 4.3).
+//! Connections that the client requests (RFC 6062, section 4.3).
 
 ghost use Rattle.std.specs.Prelude.{◌≡◌, ◌<◌, List, OnOk, OnErr, IfSome, length, slice_get, slice_set};
 ghost use Rattle.std.specs.List.{list_any};
-ghost use Rattle.turn_client_proto_allocation.specs.declared.allocation.Allocation.{Allocation as Kept};
-ghost use Rattle.turn_client_proto_allocation.specs.declared.connection.Connecting.{Connecting as Asked};
+ghost use Rattle.turn_client_proto_allocation.specs.declared.allocation.Allocation.{Allocation as Stored};
+ghost use Rattle.turn_client_proto_allocation.specs.declared.connection.Connecting.{Connecting as Requested};
 ghost use Rattle.turn_client_proto_connection.specs.Asking.{barring, connecting, has_way_to, is_connecting_to, is_joined_to, is_waiting_for};
 
 use std::net::SocketAddr;
@@ -14,29 +14,29 @@ use turn_client_proto_allocation::listed::Allocations;
 use turn_client_proto_allocation::permitted::permits;
 use turn_client_proto_api::error::TcpConnectError;
 
-/// Whether one of the connections is to a peer.
+/// Returns whether one of the data connections is to the peer.
 pub(crate) fn is_any_joined(connections: &[Connection], peer: SocketAddr) -> bool
     ensures { result ≡ list_any (is_joined_to peer) connections.now }
 {
     connections.iter().any(|c| c.peer == peer)
 }
 
-/// Whether one of the connections that wait for their socket is to a peer.
+/// Returns whether one of the connections that wait for a socket is to the peer.
 pub(crate) fn is_any_waiting(waiting: &[Waiting], peer: SocketAddr) -> bool
     ensures { result ≡ list_any (is_waiting_for peer) waiting.now }
 {
     waiting.iter().any(|w| w.peer == peer)
 }
 
-/// Whether one of the connections that were asked for is to a peer.
+/// Returns whether one of the outstanding CONNECT requests is for the peer.
 fn is_any_connecting(connecting: &[Connecting], peer: SocketAddr) -> bool
     ensures { result ≡ list_any (is_connecting_to peer) connecting.now }
 {
     connecting.iter().any(|c| c.peer == peer)
 }
 
-/// Whether an allocation has a connection to a peer, waits for the socket of one, or has asked for
-/// one.
+/// Returns whether the allocation has a data connection to the peer, a connection to it that waits
+/// for a socket, or an outstanding CONNECT for it.
 #[tactic(auto, unfolding(crate::specs::Asking::has_way_to))]
 fn has_way_to(a: &Allocation, peer: SocketAddr) -> bool
     ensures { result ≡ has_way_to peer a.now }
@@ -46,9 +46,12 @@ fn has_way_to(a: &Allocation, peer: SocketAddr) -> bool
         || is_any_connecting(a.connecting.as_slice(), peer)
 }
 
-/// Why no connection to a peer is asked for in an allocation: `NoPermission` where no permission for
-/// the peer's address stands there; else `AlreadyExists` where there is a connection to the peer, one
-/// that waits for its socket, or one that was asked for. `None` where there is no such reason.
+/// Returns why no connection to the peer can be requested in the allocation, or `None` if it can
+/// be:
+///
+/// 1. `NoPermission`: the allocation has no active permission for the peer's address.
+/// 2. `AlreadyExists`: there is a data connection to the peer, one that waits for its socket, or an
+///    outstanding CONNECT.
 #[tactic(auto, unfolding(crate::specs::Asking::barring))]
 pub fn barring(a: &Allocation, peer: SocketAddr) -> Option<TcpConnectError>
     ensures { result ≡ barring peer a.now }
@@ -62,25 +65,30 @@ pub fn barring(a: &Allocation, peer: SocketAddr) -> Option<TcpConnectError>
     None
 }
 
-/// A connection is asked for in the allocation at a place. Where memory is refused, nothing changes.
-pub fn ask(allocations: &mut Allocations, place: usize, asked: Connecting) -> Result<(), NoMemory>
-    requires { place < length allocations.old }
-    ensures ok { OnOk result (IfSome (slice_get allocations.old place)
-        (λ a. allocations.new ≡ slice_set allocations.old place (connecting asked a))) }
+/// Appends an outstanding CONNECT to the allocation at `index`. If memory runs out, fails
+/// with `NoMemory` and nothing changes.
+pub fn ask(
+    allocations: &mut Allocations,
+    index: usize,
+    requested: Connecting,
+) -> Result<(), NoMemory>
+    requires { index < length allocations.old }
+    ensures ok { OnOk result (IfSome (slice_get allocations.old index)
+        (λ a. allocations.new ≡ slice_set allocations.old index (connecting requested a))) }
     ensures err { OnErr result (allocations.new ≡ allocations.old) }
 {
     let items = allocations.as_mut_slice();
-    items[place].connecting.push(asked)
+    items[index].connecting.push(requested)
 }
 
-/// The allocation at a place forgets the connection that was asked for last.
-pub fn forget(allocations: &mut Allocations, place: usize)
-    requires { place < length allocations.old }
-    ensures { (before : List Kept) (a : Kept) (asked : Asked)
-        → slice_get before place ≡ Some a
-        → allocations.old ≡ slice_set before place (connecting asked a)
+/// Removes the CONNECT that was appended last from the allocation at `index`.
+pub fn forget(allocations: &mut Allocations, index: usize)
+    requires { index < length allocations.old }
+    ensures { (before : List Stored) (a : Stored) (requested : Requested)
+        → slice_get before index ≡ Some a
+        → allocations.old ≡ slice_set before index (connecting requested a)
         → allocations.new ≡ before }
 {
     let items = allocations.as_mut_slice();
-    items[place].connecting.pop();
+    items[index].connecting.pop();
 }

@@ -1,11 +1,12 @@
-//! Connections that peers begin (RFC 6062, section 4.4): the server tells of them by requests of its own.
+//! Connections that peers initiate: the server announces them by CONNECTION_ATTEMPT requests (RFC
+//! 6062, section 4.4).
 
 ghost use Rattle.std.specs.Prelude.{◌≡◌, ◌≢◌, ◌<◌, ◌++◌, [], OnOk, OnErr, IfSome, length, map, position, slice_get, slice_set, take};
 ghost use Rattle.turn_client_proto_api.specs.declared.event.TurnEvent.TheVariants.{TcpConnectFailed};
 ghost use Rattle.turn_client_proto_connection.specs.Attempts.{attempt_among, attempt_of, attempted, is_joining, is_lost, not_lost, peers_lost};
 
 use crate::asking::{is_any_joined, is_any_waiting};
-use crate::sockets::{place_among, place_of};
+use crate::sockets::{index_among, index_of};
 use std::net::SocketAddr;
 use stun_types_base::list::ListOf;
 use stun_types_base::memory::NoMemory;
@@ -16,8 +17,9 @@ use turn_client_proto_allocation::listed::Allocations;
 use turn_client_proto_api::event::TurnEvent;
 use turn_client_proto_api::queue::QueueOf;
 
-/// Whether an allocation has a connection to a peer, or waits for the socket of one. One that was asked for
-/// is no bar to the peer's.
+/// Returns whether the allocation has a data connection to the peer or one that waits for a socket.
+/// An outstanding CONNECT to the peer does not count: it does not prevent a connection that the
+/// peer initiates.
 #[tactic(auto, unfolding(crate::specs::Attempts::is_joining))]
 pub fn is_joining(a: &Allocation, peer: SocketAddr) -> bool
     ensures { result ≡ is_joining peer a.now }
@@ -25,41 +27,44 @@ pub fn is_joining(a: &Allocation, peer: SocketAddr) -> bool
     is_any_joined(a.connections.as_slice(), peer) || is_any_waiting(a.waiting.as_slice(), peer)
 }
 
-/// A connection that a peer began waits for its socket in the allocation at a place. The number is that of
-/// the server's request. Where memory is refused, nothing changes.
+/// Appends a connection that a peer initiated, and that waits for its socket, to the allocation at
+/// `index`. `number` is the transaction ID of the server's request. If memory runs out, fails
+/// with `NoMemory` and nothing changes.
 pub fn begin(
     allocations: &mut Allocations,
-    place: usize,
+    index: usize,
     connection: u32,
     peer: SocketAddr,
-    number: TransactionId,
+    transaction_id: TransactionId,
 ) -> Result<(), NoMemory>
-    requires { place < length allocations.old }
-    ensures ok { OnOk result (IfSome (slice_get allocations.old place) (λ a. allocations.new
-        ≡ slice_set allocations.old place (attempted connection peer number a))) }
+    requires { index < length allocations.old }
+    ensures ok { OnOk result (IfSome (slice_get allocations.old index) (λ a. allocations.new
+        ≡ slice_set allocations.old index (attempted connection peer transaction_id a))) }
     ensures err { OnErr result (allocations.new ≡ allocations.old) }
 {
     let items = allocations.as_mut_slice();
-    items[place].waiting.push(Waiting {
+    items[index].waiting.push(Waiting {
         connection,
         peer,
-        is_asked: false,
-        attempt: Some(number),
+        is_requested: false,
+        attempt: Some(transaction_id),
     })
 }
 
-/// The number of the server's request by which it told of that one.
-#[tactic(auto, using(crate::proofs::Usual::by_place))]
+/// Returns the transaction ID of the CONNECTION_ATTEMPT that announced the first waiting connection
+/// with this connection ID to this peer, or `None` if there is none or the client requested it.
+#[tactic(auto, using(crate::proofs::Usual::by_index))]
 fn attempt_among(waiting: &[Waiting], connection: u32, peer: SocketAddr) -> Option<TransactionId>
     ensures { result ≡ attempt_among connection peer waiting.now }
 {
-    let place = place_among(waiting, connection, peer)?;
-    waiting[place].attempt
+    let index = index_among(waiting, connection, peer)?;
+    waiting[index].attempt
 }
 
-/// The number of the request by which the server told of a connection, of a number and to a peer, that
-/// waits for its socket; none where the client asked for it.
-#[tactic(auto, using(crate::proofs::Usual::by_place))]
+/// Returns the transaction ID of the CONNECTION_ATTEMPT that announced the connection that waits
+/// for its socket, by its connection ID and peer. Returns `None` if there is none or the client
+/// requested it.
+#[tactic(auto, using(crate::proofs::Usual::by_index))]
 pub fn attempt_of(
     allocations: &[Allocation],
     connection: u32,
@@ -67,11 +72,12 @@ pub fn attempt_of(
 ) -> Option<TransactionId>
     ensures { result ≡ attempt_of connection peer allocations.now }
 {
-    let place = place_of(allocations, connection, peer)?;
-    attempt_among(allocations[place].waiting.as_slice(), connection, peer)
+    let index = index_of(allocations, connection, peer)?;
+    attempt_among(allocations[index].waiting.as_slice(), connection, peer)
 }
 
-/// Whether the transaction that ended has the number of the server's request.
+/// Returns whether the transaction that timed out has the transaction ID of the server's request
+/// for this connection.
 fn is_lost(waiting: &Waiting, ended: &Option<TransactionId>) -> bool
     ensures { result ≡ is_lost ended.now waiting.now }
 {
@@ -81,17 +87,19 @@ fn is_lost(waiting: &Waiting, ended: &Option<TransactionId>) -> bool
     }
 }
 
-/// The place of the first of some connections that has that number.
-fn place_lost(waiting: &[Waiting], ended: &Option<TransactionId>) -> Option<usize>
+/// Returns the index of the first waiting connection whose server request has the transaction ID
+/// `ended`.
+fn index_lost(waiting: &[Waiting], ended: &Option<TransactionId>) -> Option<usize>
     ensures { result ≡ position (is_lost ended.now) waiting.now }
 {
     waiting.iter().position(|w| is_lost(w, ended))
 }
 
-/// Tells that connection, which goes. Where memory is refused, `NoMemory`, and the events that were there
-/// still come first. It is refused only where there is something to tell.
-#[tactic(auto, using(crate::proofs::Usual::fronts))]
-pub fn tell_lost(
+/// Queues a `TcpConnectFailed` for the waiting connection that `drop_lost` removes. Fails with
+/// `NoMemory` if memory runs out, which happens only if there is an event to queue. The events that
+/// were queued before are then still the first ones.
+#[tactic(auto, using(crate::proofs::Usual::heads))]
+pub fn report_lost(
     events: &mut QueueOf<TurnEvent>,
     waiting: &[Waiting],
     ended: &Option<TransactionId>,
@@ -99,19 +107,19 @@ pub fn tell_lost(
     ensures ok { OnOk result (events.new
         ≡ events.old ++ map TcpConnectFailed (peers_lost ended.now waiting.now)) }
     ensures err { OnErr result (take (length events.old) events.new ≡ events.old) }
-    ensures told { OnErr result (peers_lost ended.now waiting.now ≢ []) }
+    ensures reported { OnErr result (peers_lost ended.now waiting.now ≢ []) }
 {
-    match place_lost(waiting, ended) {
-        Some(place) => events.push_back(TurnEvent::TcpConnectFailed(waiting[place].peer)),
+    match index_lost(waiting, ended) {
+        Some(index) => events.push_back(TurnEvent::TcpConnectFailed(waiting[index].peer)),
         None => Ok(()),
     }
 }
 
-/// That connection goes.
+/// Removes the first waiting connection whose server request has the transaction ID `ended`.
 pub(crate) fn drop_lost(waiting: &mut ListOf<Waiting>, ended: &Option<TransactionId>)
     ensures { waiting.new ≡ not_lost ended.now waiting.old }
 {
-    if let Some(place) = place_lost(waiting.as_slice(), ended) {
-        waiting.remove(place);
+    if let Some(index) = index_lost(waiting.as_slice(), ended) {
+        waiting.remove(index);
     }
 }

@@ -1,9 +1,9 @@
-//! Sockets for connections to peers, and their end (RFC 6062, sections 4.3 and 4.6).
+//! Opening and closing the sockets of connections to peers (RFC 6062, sections 4.3 and 4.6).
 
 ghost use Rattle.std.specs.Prelude.{◌≡◌, ◌<◌, List, OnOk, OnErr, IfSome, Some, length, map, position, slice_get, slice_set};
-ghost use Rattle.turn_client_proto_allocation.specs.declared.allocation.Allocation.{Allocation as Kept};
+ghost use Rattle.turn_client_proto_allocation.specs.declared.allocation.Allocation.{Allocation as Stored};
 ghost use Rattle.turn_client_proto_allocation.specs.declared.connection.Connection.{Connection as Joined};
-ghost use Rattle.turn_client_proto_connection.specs.Sockets.{awaits_socket, binding, closed, has_from, is_any_from, is_socket_for, let_go, not_for, to_bind};
+ghost use Rattle.turn_client_proto_connection.specs.Sockets.{awaits_socket, binding, closed, has_from, is_any_from, is_socket_for, release, not_for, to_bind};
 
 use std::alloc::Global;
 use std::net::SocketAddr;
@@ -14,7 +14,8 @@ use turn_client_proto_allocation::connection::{Binding, Connection, Waiting};
 use turn_client_proto_allocation::listed::Allocations;
 use turn_types_frame::tcp::TurnTcpBuffer;
 
-/// Whether a connection of a number and to a peer waits for its socket in an allocation.
+/// Returns whether a connection with this connection ID to this peer waits for its socket in the
+/// allocation.
 fn awaits_socket(a: &Allocation, connection: u32, peer: SocketAddr) -> bool
     ensures { result ≡ awaits_socket connection peer a.now }
 {
@@ -24,8 +25,8 @@ fn awaits_socket(a: &Allocation, connection: u32, peer: SocketAddr) -> bool
         .any(|w| w.connection == connection && w.peer == peer)
 }
 
-/// The place of the first allocation in which one does.
-pub fn place_of(allocations: &[Allocation], connection: u32, peer: SocketAddr) -> Option<usize>
+/// Returns the index of the first allocation in which such a connection waits for its socket.
+pub fn index_of(allocations: &[Allocation], connection: u32, peer: SocketAddr) -> Option<usize>
     ensures { result ≡ position (awaits_socket connection peer) allocations.now }
 {
     allocations
@@ -33,39 +34,39 @@ pub fn place_of(allocations: &[Allocation], connection: u32, peer: SocketAddr) -
         .position(|a| awaits_socket(a, connection, peer))
 }
 
-/// Whether a connection of an allocation has this own address.
+/// Returns whether a data connection of the allocation has this own address.
 pub(crate) fn has_from(a: &Allocation, here: SocketAddr) -> bool
     ensures { result ≡ has_from here a.now }
 {
     a.connections.as_slice().iter().any(|c| c.here == here)
 }
 
-/// Whether a connection has this own address.
+/// Returns whether a data connection of one of the allocations has this own address.
 pub fn is_any_from(allocations: &[Allocation], here: SocketAddr) -> bool
     ensures { result ≡ is_any_from here allocations.now }
 {
     allocations.iter().any(|a| has_from(a, here))
 }
 
-/// A connection from an own address to a peer, which the server knows by a number, is to be bound in the
-/// allocation at a place. Where memory is refused, nothing changes.
+/// Appends a data connection that is to be bound by the outstanding CONNECTION_BIND `awaited` to
+/// the allocation at `index`. If memory runs out, fails with `NoMemory` and nothing changes.
 pub fn bind(
     alloc: Global,
     allocations: &mut Allocations,
-    place: usize,
+    index: usize,
     here: SocketAddr,
     peer: SocketAddr,
     connection: u32,
     awaited: Binding,
 ) -> Result<(), NoMemory>
-    requires { place < length allocations.old }
-    ensures ok { OnOk result (IfSome (slice_get allocations.old place)
+    requires { index < length allocations.old }
+    ensures ok { OnOk result (IfSome (slice_get allocations.old index)
         (λ a. allocations.new
-        ≡ slice_set allocations.old place (binding (to_bind here peer connection awaited) a))) }
+        ≡ slice_set allocations.old index (binding (to_bind here peer connection awaited) a))) }
     ensures err { OnErr result (allocations.new ≡ allocations.old) }
 {
     let items = allocations.as_mut_slice();
-    items[place].connections.push(Connection {
+    items[index].connections.push(Connection {
         here,
         peer,
         connection,
@@ -74,20 +75,20 @@ pub fn bind(
     })
 }
 
-/// The allocation at a place forgets the connection that was to be bound last.
-pub fn forget(allocations: &mut Allocations, place: usize)
-    requires { place < length allocations.old }
-    ensures { (before : List Kept) (a : Kept) (connection : Joined)
-        → slice_get before place ≡ Some a
-        → allocations.old ≡ slice_set before place (binding connection a)
+/// Removes the data connection that was appended last from the allocation at `index`.
+pub fn forget(allocations: &mut Allocations, index: usize)
+    requires { index < length allocations.old }
+    ensures { (before : List Stored) (a : Stored) (connection : Joined)
+        → slice_get before index ≡ Some a
+        → allocations.old ≡ slice_set before index (binding connection a)
         → allocations.new ≡ before }
 {
     let items = allocations.as_mut_slice();
-    items[place].connections.pop();
+    items[index].connections.pop();
 }
 
-/// The place of the first of some connections that has a number and is to a peer.
-pub(crate) fn place_among(waiting: &[Waiting], connection: u32, peer: SocketAddr) -> Option<usize>
+/// Returns the index of the first waiting connection with this connection ID to this peer.
+pub(crate) fn index_among(waiting: &[Waiting], connection: u32, peer: SocketAddr) -> Option<usize>
     ensures { result ≡ position (is_socket_for connection peer) waiting.now }
 {
     waiting
@@ -95,26 +96,26 @@ pub(crate) fn place_among(waiting: &[Waiting], connection: u32, peer: SocketAddr
         .position(|w| w.connection == connection && w.peer == peer)
 }
 
-/// That connection waits for its socket no more.
+/// Removes the first waiting connection with this connection ID to this peer.
 fn drop_first(waiting: &mut ListOf<Waiting>, connection: u32, peer: SocketAddr)
     ensures { waiting.new ≡ not_for connection peer waiting.old }
 {
-    if let Some(place) = place_among(waiting.as_slice(), connection, peer) {
-        waiting.remove(place);
+    if let Some(index) = index_among(waiting.as_slice(), connection, peer) {
+        waiting.remove(index);
     }
 }
 
-/// In each allocation the first connection of a number and to a peer waits for its socket no more.
-#[tactic(auto, unfolding(crate::specs::Sockets::let_go))]
-pub fn let_go(allocations: &mut [Allocation], connection: u32, peer: SocketAddr)
-    ensures { allocations.new ≡ map (let_go connection peer) allocations.old }
+/// Removes, in each allocation, the first waiting connection with this connection ID to this peer.
+#[tactic(auto, unfolding(crate::specs::Sockets::release))]
+pub fn release(allocations: &mut [Allocation], connection: u32, peer: SocketAddr)
+    ensures { allocations.new ≡ map (release connection peer) allocations.old }
 {
     for allocation in allocations.iter_mut() {
         drop_first(&mut allocation.waiting, connection, peer);
     }
 }
 
-/// The connection that has this own address goes.
+/// Removes the data connections with this own address.
 #[tactic(auto, unfolding(crate::specs::Sockets::closed))]
 pub fn close(allocations: &mut [Allocation], here: SocketAddr)
     ensures { allocations.new ≡ map (closed here) allocations.old }

@@ -1,4 +1,4 @@
--- A permission that is asked for.
+-- Requests for a permission.
 use Rattle.std.proofs.Common.{◌≡◌, ℕ, true, false, List, [], ◌∷◌, Option, Some, None, Result, Err, position, slice_get, slice_set, refl, sym, ap, ◌∙◌, subst}
 use Rattle.std.specs.Prelude.{IfNone, IfSome, MatchResult}
 use Rattle.std.specs.declared.net.ip_addr.IpAddr.{IpAddr}
@@ -8,12 +8,12 @@ use Rattle.turn_client_proto_allocation.specs.declared.allocation.Allocation.{Al
 use Rattle.turn_client_proto_api.specs.declared.error.CreatePermissionError.{CreatePermissionError}
 use Rattle.turn_client_proto_api.specs.declared.error.CreatePermissionError.TheVariants.{AlreadyExists, NoAllocation, NoMemory}
 use Rattle.turn_client_proto_peers.specs.Permission.Asking.{asking, is_of, is_past, knows}
-use Rattle.turn_client_proto_messages.specs.ToldRequests.{IsLawfulRequest}
+use Rattle.turn_client_proto_messages.specs.ReportedRequests.{IsLawfulRequest}
 use Rattle.turn_client_proto_messages.specs.declared.request.TurnRequest.TheVariants.{CreatePermission}
-use Rattle.turn_client_proto_core.specs.Asking.{asked}
+use Rattle.turn_client_proto_core.specs.Asking.{requested}
 use Rattle.turn_client_proto_core.specs.Deleting.{is_authenticated}
 use Rattle.turn_client_proto_core.specs.Numbering.{IsNextNumber, after_number}
-use Rattle.turn_client_proto_core.specs.Permitting.{IsPermissionAnswered, IsPermissionAsked, after_asking, allocation_for, family_of_ip, permission_refusal, refusal_in, refused_in}
+use Rattle.turn_client_proto_core.specs.Permitting.{IsPermissionAnswered, IsPermissionRequested, after_asking, allocation_for, family_of_ip, permission_refusal, refusal_in, refused_in}
 use Rattle.turn_client_proto_core.specs.declared.protocol.Phase.{Phase}
 use Rattle.turn_client_proto_core.specs.declared.protocol.Protocol.{Protocol}
 
@@ -33,7 +33,7 @@ module _ (phase : Phase) (ip : IpAddr) (now : ℕ) (a : Allocation) where
   free not_past not_known is = rw (not_past, not_known, is) refl
 
 module _ (old : Protocol) (transport : TransportType) (ip : IpAddr) (now : ℕ) where
-  -- what the call answers, by what was found
+  -- The result of a refused call, by the allocation that was found.
   pub refused_by : (found : Option Allocation) → allocation_for transport ip old ≡ found → (error : CreatePermissionError) (new : Protocol) → refusal_in found old.phase ip now ≡ Some error
       → new ≡ refused_in found transport ip now old → IsPermissionAnswered old transport ip now (Err error) new
   refused_by found is error new refusal after =
@@ -42,28 +42,28 @@ module _ (old : Protocol) (transport : TransportType) (ip : IpAddr) (now : ℕ) 
       record {
         refused = subst (λ (o : Option CreatePermissionError). IfSome o (λ e. (answer ≡ Err e) × (new ≡ refused_in (allocation_for transport ip old) transport ip now old))) (sym here)
             (refl, after ∙ ap (λ (o : Option Allocation). refused_in o transport ip now old) (sym is));
-        asked = subst (λ (o : Option CreatePermissionError). IfNone o (MatchResult answer (λ _. IsPermissionAsked old transport ip now new) (λ e. (e ≡ NoMemory) × (new ≡ after_number old)))) (sym here) tt;
+        requested = subst (λ (o : Option CreatePermissionError). IfNone o (MatchResult answer (λ _. IsPermissionRequested old transport ip now new) (λ e. (e ≡ NoMemory) × (new ≡ after_number old)))) (sym here) tt;
       }
 
   pub answered_by : (found : Option Allocation) → allocation_for transport ip old ≡ found → (answer : Result (Unit {0}) CreatePermissionError) (new : Protocol) → refusal_in found old.phase ip now ≡ None
-      → MatchResult answer (λ _. IsPermissionAsked old transport ip now new) (λ e. (e ≡ NoMemory) × (new ≡ after_number old)) → IsPermissionAnswered old transport ip now answer new
+      → MatchResult answer (λ _. IsPermissionRequested old transport ip now new) (λ e. (e ≡ NoMemory) × (new ≡ after_number old)) → IsPermissionAnswered old transport ip now answer new
   answered_by found is answer new none outcome =
       let here : permission_refusal old transport ip now ≡ None = ap (λ (o : Option Allocation). refusal_in o old.phase ip now) is ∙ none in
       record {
         refused = subst (λ (o : Option CreatePermissionError). IfSome o (λ e. (answer ≡ Err e) × (new ≡ refused_in (allocation_for transport ip old) transport ip now old))) (sym here) tt;
-        asked = subst (λ (o : Option CreatePermissionError). IfNone o (MatchResult answer (λ _. IsPermissionAsked old transport ip now new) (λ e. (e ≡ NoMemory) × (new ≡ after_number old)))) (sym here) outcome;
+        requested = subst (λ (o : Option CreatePermissionError). IfNone o (MatchResult answer (λ _. IsPermissionRequested old transport ip now new) (λ e. (e ≡ NoMemory) × (new ≡ after_number old)))) (sym here) outcome;
       }
 
-  -- a permission was asked for there
-  pub asked_there : (place : ℕ) (a : Allocation) (number : ℕ) (new : Protocol) (read : Option Allocation) → position (is_of transport (family_of_ip ip)) old.allocations ≡ Some place → slice_get old.allocations place ≡ read → read ≡ Some a → IsNextNumber old number → IsLawfulRequest (CreatePermission ip)
-      → IfSome read (λ x. new ≡ record (asked (after_number old) (CreatePermission ip) number now) { allocations = slice_set old.allocations place (asking (record { ip = ip; numbers = number ∷ [] }) x) })
-      → IsPermissionAsked old transport ip now new
+  -- The result if a permission was requested in the allocation at `index`.
+  pub requested_there : (index : ℕ) (a : Allocation) (number : ℕ) (new : Protocol) (read : Option Allocation) → position (is_of transport (family_of_ip ip)) old.allocations ≡ Some index → slice_get old.allocations index ≡ read → read ≡ Some a → IsNextNumber old number → IsLawfulRequest (CreatePermission ip)
+      → IfSome read (λ x. new ≡ record (requested (after_number old) (CreatePermission ip) number now) { allocations = slice_set old.allocations index (asking (record { ip = ip; numbers = number ∷ [] }) x) })
+      → IsPermissionRequested old transport ip now new
   unfolding after_asking
-  asked_there place a number new None here at_it none next lawful is = absurd (Prim.cc none)
-  asked_there place a number new (Some x) here at_it some next lawful is = record {
+  requested_there index a number new None here at_it none next lawful is = absurd (Prim.cc none)
+  requested_there index a number new (Some x) here at_it some next lawful is = record {
     number = number;
     is_next = next;
     lawful = lawful;
-    after = is ∙ ap (λ (l : List Allocation). record (asked (after_number old) (CreatePermission ip) number now) { allocations = l })
-        (change_first_at (is_of transport (family_of_ip ip)) (asking (record { ip = ip; numbers = number ∷ [] })) old.allocations place x here at_it);
+    after = is ∙ ap (λ (l : List Allocation). record (requested (after_number old) (CreatePermission ip) number now) { allocations = l })
+        (change_first_at (is_of transport (family_of_ip ip)) (asking (record { ip = ip; numbers = number ∷ [] })) old.allocations index x here at_it);
   }

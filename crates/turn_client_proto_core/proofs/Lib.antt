@@ -1,12 +1,12 @@
-pub mod AskedChannels
+pub mod RequestedChannels
 pub mod Bound
 pub mod Deleting
 pub mod Granting
 pub mod Numbers
-pub mod Places
+pub mod Indexes
 pub mod Results
 pub mod Sendable
-pub mod Shown
+pub mod Visible
 pub mod Tried
 pub mod UnderWay
 pub mod Usual

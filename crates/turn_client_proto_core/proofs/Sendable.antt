@@ -1,4 +1,4 @@
--- A request that was written is sent, where none of its number is outstanding.
+-- A request that was written can be sent if its transaction ID isn't outstanding.
 use Rattle.std.proofs.Common.{◌≡◌, ℕ, true, List, None, refl, ap, ◌∙◌}
 use Rattle.std.specs.FinMap as map
 use Rattle.stun_types_wire.specs.Grammar.{number_at, refusal}

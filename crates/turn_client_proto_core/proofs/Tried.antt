@@ -1,4 +1,4 @@
--- What is made of a CONNECTION_ATTEMPT, by the place of the allocation that may have the connection.
+-- The outcome of a CONNECTION_ATTEMPT, by the index of the allocation that may have the connection.
 use Rattle.std.proofs.Common.{◌≡◌, ℕ, true, false, List, Option, Some, None, get_or, position, slice_get, slice_set, refl, sym, ap, ◌∙◌}
 use Rattle.std.specs.Prelude.{find, IfSome}
 use Rattle.std.specs.declared.net.socket_addr.SocketAddr.{SocketAddr}
@@ -6,47 +6,47 @@ use Rattle.stun_types_base.specs.Family.{family_of_socket}
 use Rattle.stun_types_wire.specs.Grammar.{number_at}
 use Rattle.stun_types_base.specs.declared.family.AddressFamily.{AddressFamily}
 use Rattle.stun_types_base.specs.declared.transport.TransportType.{TransportType}
-use Rattle.turn_client_proto_allocation.proofs.Changes.{at_place, changed_at, find_is, found_at}
+use Rattle.turn_client_proto_allocation.proofs.Changes.{at_index, changed_at, find_is, found_at}
 use Rattle.turn_client_proto_allocation.specs.declared.allocation.Allocation.{Allocation}
 use Rattle.turn_client_proto_connection.specs.Attempts.{attempted, is_joining}
 use Rattle.turn_client_proto_peers.specs.Permission.Asking.{is_of}
 use Rattle.turn_client_proto_messages.specs.declared.answer.AttemptAnswer.TheVariants.{AlreadyExists, BadRequest}
-use Rattle.turn_client_proto_messages.specs.Told.{connection_told, peer_told}
+use Rattle.turn_client_proto_messages.specs.Reported.{connection_reported, peer_reported}
 use Rattle.turn_client_proto_core.specs.Attempting.{after_attempt, after_attempt_in, after_attempt_of, answering, may_join}
 use Rattle.turn_client_proto_core.specs.declared.protocol.Protocol.{Protocol}
 
--- a place, by what it was looked for with
-pub place_by : (p : Protocol) (peer : SocketAddr) (transport : TransportType) (family : AddressFamily) (all : List Allocation) (found place : Option ℕ)
-    → transport ≡ p.agent.transport → family ≡ family_of_socket peer → all ≡ p.allocations → found ≡ position (is_of transport family) all → found ≡ place → position (may_join peer p) p.allocations ≡ place
-place_by p peer transport family all found place t f a is at = sym (is ∙ (λ i. position (is_of (t i) (f i)) (a i))) ∙ at
+-- The index, by the transport, family and list that it was searched with.
+pub index_by : (p : Protocol) (peer : SocketAddr) (transport : TransportType) (family : AddressFamily) (all : List Allocation) (found index : Option ℕ)
+    → transport ≡ p.agent.transport → family ≡ family_of_socket peer → all ≡ p.allocations → found ≡ position (is_of transport family) all → found ≡ index → position (may_join peer p) p.allocations ≡ index
+index_by p peer transport family all found index t f a is at = sym (is ∙ (λ i. position (is_of (t i) (f i)) (a i))) ∙ at
 
-module _ (bytes : List ℕ) (p : Protocol) (connection : ℕ) (peer : SocketAddr) (number : ℕ) (told : connection_told bytes ≡ Some connection) (named : peer_told bytes ≡ Some peer) (number_is : number ≡ number_at bytes) where
+module _ (bytes : List ℕ) (p : Protocol) (connection : ℕ) (peer : SocketAddr) (number : ℕ) (reported : connection_reported bytes ≡ Some connection) (named : peer_reported bytes ≡ Some peer) (number_is : number ≡ number_at bytes) where
   by_names : after_attempt bytes p ≡ after_attempt_in (find (may_join peer p) p.allocations) connection peer number p
   by_names =
-      ap (λ (o : Option ℕ). after_attempt_of o (peer_told bytes) (number_at bytes) p) told
+      ap (λ (o : Option ℕ). after_attempt_of o (peer_reported bytes) (number_at bytes) p) reported
       ∙ ap (λ (o : Option SocketAddr). after_attempt_of (Some connection) o (number_at bytes) p) named
       ∙ ap (λ (n : ℕ). after_attempt_in (find (may_join peer p) p.allocations) connection peer n p) (sym number_is)
 
-  by_place : (place : Option ℕ) → position (may_join peer p) p.allocations ≡ place → after_attempt bytes p ≡ after_attempt_in (at_place p.allocations place) connection peer number p
-  by_place place at =
+  by_index : (index : Option ℕ) → position (may_join peer p) p.allocations ≡ index → after_attempt bytes p ≡ after_attempt_in (at_index p.allocations index) connection peer number p
+  by_index index at =
       by_names
-      ∙ ap (λ (o : Option Allocation). after_attempt_in o connection peer number p) (find_is (may_join peer p) p.allocations ∙ ap (at_place p.allocations) at)
+      ∙ ap (λ (o : Option Allocation). after_attempt_in o connection peer number p) (find_is (may_join peer p) p.allocations ∙ ap (at_index p.allocations) at)
 
-  -- no allocation may have it
+  -- The outcome if no allocation may have the connection.
   pub nowhere : position (may_join peer p) p.allocations ≡ None → answering BadRequest number p ≡ after_attempt bytes p
-  nowhere at = sym (by_place None at)
+  nowhere at = sym (by_index None at)
 
-  module _ (place : ℕ) (a : Allocation) (at : position (may_join peer p) p.allocations ≡ Some place) (read : a ≡ get_or p.allocations place a) where
+  module _ (index : ℕ) (a : Allocation) (at : position (may_join peer p) p.allocations ≡ Some index) (read : a ≡ get_or p.allocations index a) where
     there : after_attempt bytes p ≡ after_attempt_in (Some a) connection peer number p
-    there = by_names ∙ ap (λ (o : Option Allocation). after_attempt_in o connection peer number p) (found_at (may_join peer p) p.allocations place a at read)
+    there = by_names ∙ ap (λ (o : Option Allocation). after_attempt_in o connection peer number p) (found_at (may_join peer p) p.allocations index a at read)
 
-    -- there is one to the peer already
+    -- The outcome if there is a connection to the peer already.
     pub barred : is_joining peer a ≡ true → answering AlreadyExists number p ≡ after_attempt bytes p
     barred joins = sym (there ∙ rw joins refl)
 
-    -- it is taken up
-    pub begun : (new : List Allocation) → is_joining peer a ≡ false → IfSome (slice_get p.allocations place) (λ x. new ≡ slice_set p.allocations place (attempted connection peer number x))
+    -- The outcome if the connection is accepted.
+    pub started : (new : List Allocation) → is_joining peer a ≡ false → IfSome (slice_get p.allocations index) (λ x. new ≡ slice_set p.allocations index (attempted connection peer number x))
         → record p { allocations = new } ≡ after_attempt bytes p
-    begun new free is =
-        ap (λ (l : List Allocation). record p { allocations = l }) (changed_at (may_join peer p) (attempted connection peer number) p.allocations new place at is)
+    started new free is =
+        ap (λ (l : List Allocation). record p { allocations = l }) (changed_at (may_join peer p) (attempted connection peer number) p.allocations new index at is)
         ∙ sym (there ∙ rw free refl)

@@ -1,4 +1,5 @@
--- What a client that has not allocated makes of a message (RFC 8656, sections 7.3 and 7.4; RFC 8489, section 9.2.5).
+-- Handling of messages before the server has allocated (RFC 8656, sections 7.3 and 7.4; RFC 8489, section
+-- 9.2.5).
 use Rattle.std.specs.Prelude.{ℕ, Bool, List, [], ◌∷◌, ◌++◌, Option, Some, None, Result, Ok, Err, if◌then◌else◌}
 use Rattle.std.specs.Bool.{MatchBool}
 use Rattle.stun_proto_client.specs.declared.error.LongTermClientAuthError.{LongTermClientAuthError}
@@ -15,9 +16,9 @@ use Rattle.stun_types_base.specs.declared.family.AddressFamily.{AddressFamily}
 use Rattle.stun_types_base.specs.declared.family.AddressFamily.TheVariants.{IPV4, IPV6}
 use Rattle.turn_client_proto_api.specs.declared.event.TurnEvent.TheVariants.{AllocationCreateFailed}
 use Rattle.turn_client_proto_messages.specs.declared.request.TurnRequest.TheVariants.{Allocate}
-use Rattle.turn_client_proto_messages.specs.Told.{first_code, is_code}
+use Rattle.turn_client_proto_messages.specs.Reported.{first_code, is_code}
 use Rattle.turn_client_proto_core.specs.Allocating.{IsAllocated}
-use Rattle.turn_client_proto_core.specs.Asking.{asked}
+use Rattle.turn_client_proto_core.specs.Asking.{requested}
 use Rattle.turn_client_proto_core.specs.Ending.{ended}
 use Rattle.turn_client_proto_core.specs.Numbering.{IsNextNumber, after_number}
 use Rattle.turn_client_proto_core.specs.Outcomes.{IsHandled, IsIgnored}
@@ -28,22 +29,22 @@ use Rattle.turn_client_proto_core.specs.declared.protocol.Protocol.{Protocol}
 
 -- ---- ALLOCATE, signed
 
--- the numbers of the ALLOCATEs that were sent
+-- The transaction IDs of the ALLOCATEs that were sent.
 abbrev pub numbers_sent : Phase → List ℕ
 numbers_sent (InitialSent numbers) = numbers
 numbers_sent (Authenticating numbers) = numbers
 numbers_sent _ = []
 
--- a client that asked for an allocation under its credentials, by a request of this number more
+-- The client after it queued another signed ALLOCATE, with `transaction_id`.
 unfoldable pub allocates_again : ℕ → ℕ → Protocol → Protocol
-allocates_again number now p =
-    let asking = asked (after_number p) (Allocate p.allocates p.families) number now in
-    record asking { phase = Authenticating (numbers_sent p.phase ++ number ∷ []) }
+allocates_again transaction_id now p =
+    let asking = requested (after_number p) (Allocate p.allocates p.families) transaction_id now in
+    record asking { phase = Authenticating (numbers_sent p.phase ++ transaction_id ∷ []) }
 
 -- ---- a challenge
 
--- a challenge is answered by the request signed anew, where its number is outstanding; but after too many of them the
--- client ends
+-- A challenge whose transaction is outstanding is answered by another signed ALLOCATE. After too many
+-- challenges the client ends.
 pub record IsAllocatingAgain (p : Protocol) (bytes : List ℕ) (now : ℕ) (handled : Bool) (new : Protocol)
     : Type 0 where
   pub number : ℕ
@@ -57,41 +58,42 @@ IsChallenged p bytes now handled new = MatchBool (is_awaited p.agent bytes)
 
 -- ---- the first ALLOCATE, unsigned
 
--- a response that is no challenge, or one that can't be answered, ends the client, where its number is outstanding
-abbrev pub IsTurnedAway : Protocol → List ℕ → Bool → Protocol → Type 0
-IsTurnedAway p bytes handled new = MatchBool (is_awaited p.agent bytes)
+-- The outcome of a response that is no challenge, or a challenge that can't be answered. It ends the client
+-- if its transaction is outstanding.
+abbrev pub IsUnauthenticated : Protocol → List ℕ → Bool → Protocol → Type 0
+IsUnauthenticated p bytes handled new = MatchBool (is_awaited p.agent bytes)
     (IsHandled (ended (answered bytes p)) handled new)
     (IsIgnored p handled new)
 
--- by the verdict on a response, where no ALLOCATE was signed
+-- The outcome of a response before any ALLOCATE was signed, by the verdict on it.
 abbrev pub IsFirstJudged : Result LongTermClientValidation LongTermClientAuthError
     → Protocol → List ℕ → ℕ → Bool → Protocol → Type 0
 IsFirstJudged (Ok (ResendRequest choice)) p bytes now handled new = IsChallenged p bytes now handled new
 IsFirstJudged (Ok (Validated algorithm)) p bytes now handled new = IsIgnored (ended p) handled new
 IsFirstJudged (Err NoMemory) p bytes now handled new = ⊥
-IsFirstJudged (Err error) p bytes now handled new = IsTurnedAway p bytes handled new
+IsFirstJudged (Err error) p bytes now handled new = IsUnauthenticated p bytes handled new
 
 -- ---- a signed ALLOCATE
 
--- the family that is left where the server has no addresses of IPv4, and both were asked for
+-- The family to try after the server had no IPv4 address: IPv6 if both families were requested.
 abbrev pub other_family : List AddressFamily → Option AddressFamily
 other_family (IPV4 ∷ IPV6 ∷ rest) = Some IPV6
 other_family (IPV6 ∷ IPV4 ∷ rest) = Some IPV6
 other_family _ = None
 
--- the family for which the client asks again after an error response, where the server has no address of a family that
--- was asked for (RFC 8656, section 7.4)
+-- The family to request after an error response: the one that is left if the server doesn't support a
+-- requested family (RFC 8656, section 7.4).
 abbrev pub family_left : Protocol → List ℕ → Option AddressFamily
 family_left p bytes = if is_code family_not_supported_code (first_code bytes) then other_family p.families else None
 
--- a client that gives up IPv4, and asks for an address of the family that is left
+-- The client after it dropped IPv4 and queued an ALLOCATE for the family that is left.
 unfoldable pub allocates_other : AddressFamily → ℕ → ℕ → Protocol → Protocol
-allocates_other family number now p =
+allocates_other family transaction_id now p =
     let narrowed = record (after_number p) {
       families = family ∷ [];
       events = p.events ++ AllocationCreateFailed IPV4 ∷ [];
     } in
-    record (asked narrowed (Allocate p.allocates (family ∷ [])) number now) { phase = Authenticating (number ∷ []) }
+    record (requested narrowed (Allocate p.allocates (family ∷ [])) transaction_id now) { phase = Authenticating (transaction_id ∷ []) }
 
 pub record IsAskingForOther (p : Protocol) (family : AddressFamily) (now : ℕ) (handled : Bool) (new : Protocol)
     : Type 0 where
@@ -103,19 +105,19 @@ abbrev pub IsErrorAnswered : Option AddressFamily → Protocol → ℕ → Bool 
 IsErrorAnswered (Some family) p now handled new = IsAskingForOther p family now handled new
 IsErrorAnswered None p now handled new = IsHandled (ended p) handled new
 
--- by the class of a response that was accepted
+-- The outcome of an accepted response, by its class.
 abbrev pub IsAllocateAnswered : MessageClass → Protocol → List ℕ → ℕ → Bool → Protocol → Type 0
 IsAllocateAnswered Error p bytes now handled new = IsErrorAnswered (family_left p bytes) p now handled new
 IsAllocateAnswered Success p bytes now handled new = IsAllocated p bytes now handled new
 IsAllocateAnswered _ p bytes now handled new = IsHandled p handled new
 
--- a response that validates counts where its number is outstanding
+-- The outcome of a validated response. It is accepted if its transaction is outstanding.
 abbrev pub IsAccepted : Protocol → List ℕ → ℕ → Bool → Protocol → Type 0
 IsAccepted p bytes now handled new = MatchBool (is_awaited p.agent bytes)
     (IsAllocateAnswered (class_of (kind_at bytes)) (accepted bytes p) bytes now handled new)
     (IsHandled p handled new)
 
--- by the verdict on a response to one of the ALLOCATEs
+-- The outcome of a response to one of the ALLOCATEs after one was signed, by the verdict on it.
 abbrev pub IsSignedJudged : Result LongTermClientValidation LongTermClientAuthError
     → Protocol → List ℕ → ℕ → Bool → Protocol → Type 0
 IsSignedJudged (Ok (ResendRequest choice)) p bytes now handled new = IsChallenged p bytes now handled new

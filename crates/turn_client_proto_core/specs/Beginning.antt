@@ -1,4 +1,4 @@
--- A client that nothing was asked of yet.
+-- A new client.
 use Rattle.std.specs.Prelude.{◌≡◌, ℕ, List, [], Some, None}
 use Rattle.std.specs.FinMap as map
 use Rattle.std.specs.declared.net.socket_addr.SocketAddr.{SocketAddr}
@@ -9,7 +9,7 @@ use Rattle.turn_client_proto_messages.specs.Judging.{signer_of}
 use Rattle.turn_client_proto_core.specs.declared.protocol.Phase.TheVariants.{Initial}
 use Rattle.turn_client_proto_core.specs.declared.protocol.Protocol.{Protocol}
 
--- a client with these settings, by a transport, from an own address to the server's
+-- A new client with these settings, over this transport, from its own address to the server's.
 pub record IsNew (transport : TransportType) (here server : SocketAddr) (config : Config) (seed : List ℕ) (p : Protocol)
     : Type 0 where
   pub server_is : p.server ≡ server

@@ -1,4 +1,4 @@
--- Channels that a client is asked for, and the responses to its requests for them (RFC 8656, section 12).
+-- Requests for channels, and the responses to them (RFC 8656, section 12).
 use Rattle.std.specs.Prelude.{◌≡◌, ℕ, Bool, List, [], ◌∷◌, ◌++◌, find, map, Option, Some, None, Result, Err, MatchOption, MatchResult, IfSome, IfNone, if◌then◌else◌}
 use Rattle.std.specs.Bool.{MatchBool}
 use Rattle.std.specs.Net.Socket.{socket_ip}
@@ -19,17 +19,17 @@ use Rattle.turn_client_proto_api.specs.declared.event.TurnEvent.TheVariants.{Cha
 use Rattle.turn_client_proto_peers.specs.Permission.Asking.{is_of, is_past, knows, marked}
 use Rattle.turn_client_proto_peers.specs.Permission.Asking as permissions
 use Rattle.turn_client_proto_peers.specs.Permission.Granted as permitted
-use Rattle.turn_client_proto_allocation.specs.Requested.{asked_by, awaits_reply}
+use Rattle.turn_client_proto_allocation.specs.PendingRequests.{pending_request, awaits_reply}
 use Rattle.turn_client_proto_peers.specs.Channel.Binding.{barring}
 use Rattle.turn_client_proto_peers.specs.Channel.Binding as channels
-use Rattle.turn_client_proto_peers.specs.Channel.Granted.{all_bound, let_lapse, renewed, turned_down}
-use Rattle.turn_client_proto_peers.specs.Permission.Permitted.{all_permitted, permission_asked}
+use Rattle.turn_client_proto_peers.specs.Channel.Granted.{all_bound, expire_due, renewed, rejected}
+use Rattle.turn_client_proto_peers.specs.Permission.Permitted.{all_permitted, permission_requested}
 use Rattle.turn_client_proto_peers.specs.Channel.Numbers.{IsLeastFree}
-use Rattle.turn_client_proto_allocation.specs.declared.requested.Asked.{Asked}
-use Rattle.turn_client_proto_allocation.specs.declared.requested.Asked.TheVariants.{ChannelRenewal, Lifetime, NewChannel, NewConnection, NewPermission, Renewal}
-use Rattle.turn_client_proto_messages.specs.ToldRequests.{IsLawfulRequest}
+use Rattle.turn_client_proto_allocation.specs.declared.pending.PendingRequest.{PendingRequest}
+use Rattle.turn_client_proto_allocation.specs.declared.pending.PendingRequest.TheVariants.{ChannelRenewal, Lifetime, NewChannel, NewConnection, NewPermission, Renewal}
+use Rattle.turn_client_proto_messages.specs.ReportedRequests.{IsLawfulRequest}
 use Rattle.turn_client_proto_messages.specs.declared.request.TurnRequest.TheVariants.{ChannelBind}
-use Rattle.turn_client_proto_core.specs.Asking.{asked}
+use Rattle.turn_client_proto_core.specs.Asking.{requested}
 use Rattle.turn_client_proto_core.specs.Deleting.{is_authenticated}
 use Rattle.turn_client_proto_core.specs.Numbering.{IsNextNumber, after_number}
 use Rattle.turn_client_proto_core.specs.Outcomes.{IsHandled, IsIgnored}
@@ -37,18 +37,19 @@ use Rattle.turn_client_proto_core.specs.Responding.{is_error_class}
 use Rattle.turn_client_proto_core.specs.declared.protocol.Phase.{Phase}
 use Rattle.turn_client_proto_core.specs.declared.protocol.Protocol.{Protocol}
 
--- ---- a caller asks for one
+-- ---- a caller requests one
 
--- the allocation in which a channel to a peer is asked for: the first of the transport and of the peer's family
+-- The allocation in which a channel to a peer is requested: the first of this transport and the peer's
+-- family.
 abbrev pub allocation_to : TransportType → SocketAddr → Protocol → Option Allocation
 allocation_to transport peer p = find (is_of transport (family_of_socket peer)) p.allocations
 
--- that allocation is changed
+-- The allocations after `change` was applied to that allocation.
 abbrev pub changed_to : TransportType → SocketAddr → (Allocation → Allocation) → List Allocation → List Allocation
 changed_to transport peer change allocations = change_first (is_of transport (family_of_socket peer)) change allocations
 
--- why no channel is asked for, by that allocation, of the reasons that hold the first: there is none, or its time is
--- over; a channel to the peer stands, or has lapsed and is protected; or the client has ended
+-- Why a channel is refused, by that allocation. The first reason that applies counts: there is no allocation,
+-- or it has expired; a channel to the peer is active, or has expired and is protected; the client has ended.
 abbrev pub bind_refusal_in : Option Allocation → Phase → SocketAddr → (now : ℕ) → Option BindChannelError
 bind_refusal_in None phase peer now = Some NoAllocation
 bind_refusal_in (Some a) phase peer now = if is_past now a then Some NoAllocation
@@ -57,39 +58,40 @@ bind_refusal_in (Some a) phase peer now = if is_past now a then Some NoAllocatio
 abbrev pub bind_refusal : Protocol → TransportType → SocketAddr → (now : ℕ) → Option BindChannelError
 bind_refusal p transport peer now = bind_refusal_in (allocation_to transport peer p) p.phase peer now
 
--- a client after a refusal: an allocation whose time was found to be over is marked so
+-- The client after a refusal. An allocation that was found to have expired is marked as expired.
 abbrev pub bind_refused_in : Option Allocation → TransportType → SocketAddr → ℕ → Protocol → Protocol
 bind_refused_in None transport peer now p = p
 bind_refused_in (Some a) transport peer now p =
     if is_past now a then record p { allocations = changed_to transport peer marked p.allocations } else p
 
--- an allocation in which a permission for an address is asked for, where none stands or was asked for
-unfoldable pub permission_beside : IpAddr → (number : ℕ) → Allocation → Allocation
-permission_beside ip number a =
-    if knows ip a then a else permissions.asking (record { ip = ip; numbers = number ∷ [] }) a
+-- The allocation after a permission for an address was requested along with a channel, unless it is active or
+-- requested already.
+unfoldable pub permission_beside : IpAddr → (transaction_id : ℕ) → Allocation → Allocation
+permission_beside ip transaction_id a =
+    if knows ip a then a else permissions.asking (record { ip = ip; numbers = transaction_id ∷ [] }) a
 
--- an allocation in which a channel is asked for, and the permission that it needs, by a request of this number
-abbrev pub asking_channel : (channel : ℕ) → SocketAddr → (number : ℕ) → Allocation → Allocation
-asking_channel channel peer number a = permission_beside (socket_ip peer) number
-    (channels.asking (record { channel = channel; peer = peer; numbers = number ∷ [] }) a)
+-- The allocation after a channel, and the permission that it needs, were requested by the request `transaction_id`.
+abbrev pub asking_channel : (channel : ℕ) → SocketAddr → (transaction_id : ℕ) → Allocation → Allocation
+asking_channel channel peer transaction_id a = permission_beside (socket_ip peer) transaction_id
+    (channels.asking (record { channel = channel; peer = peer; numbers = transaction_id ∷ [] }) a)
 
--- a client that asked for a channel at a moment, by a request of this number
-unfoldable pub after_binding : TransportType → SocketAddr → (channel number now : ℕ) → Protocol → Protocol
-after_binding transport peer channel number now p =
-    record (asked (after_number p) (ChannelBind channel peer) number now) {
-      allocations = changed_to transport peer (asking_channel channel peer number) p.allocations;
+-- The client after it queued a CHANNEL_BIND with `transaction_id`.
+unfoldable pub after_binding : TransportType → SocketAddr → (channel transaction_id now : ℕ) → Protocol → Protocol
+after_binding transport peer channel transaction_id now p =
+    record (requested (after_number p) (ChannelBind channel peer) transaction_id now) {
+      allocations = changed_to transport peer (asking_channel channel peer transaction_id) p.allocations;
     }
 
--- a channel was asked for, by a request of the next number
-pub record IsChannelAsked (old : Protocol) (transport : TransportType) (peer : SocketAddr) (channel now : ℕ)
+-- A channel was requested, with the next transaction ID.
+pub record IsChannelRequested (old : Protocol) (transport : TransportType) (peer : SocketAddr) (channel now : ℕ)
     (new : Protocol) : Type 0 where
   pub number : ℕ
   pub is_next : IsNextNumber old number
   pub lawful : IsLawfulRequest (ChannelBind channel peer)
   pub after : new ≡ after_binding transport peer channel number now old
 
--- a channel is asked for under the least number that is free; refused, where none is; or memory was refused, and nothing
--- changed but the words that were drawn
+-- A channel is requested with the least free number. The call is refused if no number is free. With
+-- `NoMemory`, nothing has changed except that random words were generated.
 pub record IsBindTried (old : Protocol) (transport : TransportType) (peer : SocketAddr) (now : ℕ)
     (answer : Result (Unit {0}) BindChannelError) (new : Protocol) : Type 0 where
   pub free : Option ℕ
@@ -97,10 +99,10 @@ pub record IsBindTried (old : Protocol) (transport : TransportType) (peer : Sock
   pub outcome : MatchOption free
       ((answer ≡ Err NoChannel) × (new ≡ old))
       (λ channel. MatchResult answer
-      (λ _. IsChannelAsked old transport peer channel now new)
+      (λ _. IsChannelRequested old transport peer channel now new)
       (λ error. (error ≡ NoMemory) × (new ≡ after_number old)))
 
--- a call that asks for a channel, as it is answered: refused, or tried
+-- The result of `bind_channel`: the call is refused, or the channel is requested.
 pub record IsBindAnswered (old : Protocol) (transport : TransportType) (peer : SocketAddr) (now : ℕ)
     (answer : Result (Unit {0}) BindChannelError) (new : Protocol) : Type 0 where
   pub refused : IfSome (bind_refusal old transport peer now) (λ error.
@@ -109,79 +111,81 @@ pub record IsBindAnswered (old : Protocol) (transport : TransportType) (peer : S
 
 -- ---- a response
 
--- the permission that the request of a number asks for beside a channel, in the first allocation that awaits it
-abbrev pub permission_with : (number : ℕ) → List Allocation → Option IpAddr
-permission_with number allocations = option_and_then (permission_asked number) (find (awaits_reply number) allocations)
+-- The permission that the request `transaction_id` asks for along with a channel, in the first allocation that awaits
+-- its response.
+abbrev pub permission_with : (transaction_id : ℕ) → List Allocation → Option IpAddr
+permission_with transaction_id allocations = option_and_then (permission_requested transaction_id) (find (awaits_reply transaction_id) allocations)
 
--- what is told of a permission that comes with a channel
-abbrev pub told_with : (IpAddr → TurnEvent) → Option IpAddr → List TurnEvent
-told_with event None = []
-told_with event (Some ip) = event ip ∷ []
+-- The event for the permission that comes with a channel, if there is one.
+abbrev pub reported_with : (IpAddr → TurnEvent) → Option IpAddr → List TurnEvent
+reported_with event None = []
+reported_with event (Some ip) = event ip ∷ []
 
--- the allocations in which a permission was granted, where one was asked for
-abbrev pub permitted_with : Option IpAddr → (number now : ℕ) → List Allocation → List Allocation
-permitted_with None number now allocations = allocations
-permitted_with (Some ip) number now allocations = all_permitted ip number now allocations
+-- The allocations after the permission was granted, if one was requested.
+abbrev pub permitted_with : Option IpAddr → (transaction_id now : ℕ) → List Allocation → List Allocation
+permitted_with None transaction_id now allocations = allocations
+permitted_with (Some ip) transaction_id now allocations = all_permitted ip transaction_id now allocations
 
--- a client in which a channel to a peer was granted, for which the request of a number asks: the permission that it
--- asks for is told first
-unfoldable pub bound : TransportType → (channel : ℕ) → SocketAddr → Option IpAddr → (number now : ℕ) → Protocol
+-- The client after the channel to a peer that the request `transaction_id` asked for was granted. The event for its
+-- permission comes first.
+unfoldable pub bound : TransportType → (channel : ℕ) → SocketAddr → Option IpAddr → (transaction_id now : ℕ) → Protocol
     → Protocol
-bound transport channel peer ip number now p = record p {
-  allocations = all_bound channel peer number now (permitted_with ip number now p.allocations);
-  events = p.events ++ told_with (PermissionCreated transport) ip ++ ChannelCreated transport peer ∷ [];
+bound transport channel peer ip transaction_id now p = record p {
+  allocations = all_bound channel peer transaction_id now (permitted_with ip transaction_id now p.allocations);
+  events = p.events ++ reported_with (PermissionCreated transport) ip ++ ChannelCreated transport peer ∷ [];
 }
 
--- a client in which the channels that the request of a number was to renew stand on
-unfoldable pub renews_channels : (number now : ℕ) → Protocol → Protocol
-renews_channels number now p = record p { allocations = map (renewed number now) p.allocations }
+-- The client after the channels that the request `transaction_id` was to renew were renewed.
+unfoldable pub renews_channels : (transaction_id now : ℕ) → Protocol → Protocol
+renews_channels transaction_id now p = record p { allocations = map (renewed transaction_id now) p.allocations }
 
--- the allocations from which a permission is gone, where one was asked for
-abbrev pub turned_down_with : Option IpAddr → (number : ℕ) → List Allocation → List Allocation
-turned_down_with None number allocations = allocations
-turned_down_with (Some ip) number allocations = map (permitted.turned_down number) allocations
+-- The allocations after the requested permission was removed, if one was requested.
+abbrev pub rejected_with : Option IpAddr → (transaction_id : ℕ) → List Allocation → List Allocation
+rejected_with None transaction_id allocations = allocations
+rejected_with (Some ip) transaction_id allocations = map (permitted.rejected transaction_id) allocations
 
--- a client in which the channels that the request of a number asks for are gone, and their permission: the channel is
--- told first
-unfoldable pub unbound : TransportType → SocketAddr → Option IpAddr → (number : ℕ) → Protocol → Protocol
-unbound transport peer ip number p = record p {
-  allocations = turned_down_with ip number (map (turned_down number) p.allocations);
-  events = p.events ++ ChannelCreateFailed transport peer ∷ told_with (PermissionCreateFailed transport) ip;
+-- The client after the channels that the request `transaction_id` asked for were removed, and their permission. The
+-- event for the channel comes first.
+unfoldable pub unbound : TransportType → SocketAddr → Option IpAddr → (transaction_id : ℕ) → Protocol → Protocol
+unbound transport peer ip transaction_id p = record p {
+  allocations = rejected_with ip transaction_id (map (rejected transaction_id) p.allocations);
+  events = p.events ++ ChannelCreateFailed transport peer ∷ reported_with (PermissionCreateFailed transport) ip;
 }
 
--- a client in which the channels that the request of a number was to renew have lapsed: the first is told
-unfoldable pub lets_lapse : TransportType → SocketAddr → (number : ℕ) → Protocol → Protocol
-lets_lapse transport peer number p = record p {
-  allocations = map (let_lapse number) p.allocations;
+-- The client after the channels that the request `transaction_id` was to renew expired. An event is queued for the
+-- first one.
+unfoldable pub expires_due : TransportType → SocketAddr → (transaction_id : ℕ) → Protocol → Protocol
+expires_due transport peer transaction_id p = record p {
+  allocations = map (expire_due transaction_id) p.allocations;
   events = p.events ++ ChannelCreateFailed transport peer ∷ [];
 }
 
--- the request of a number was granted, by what it asks for
-abbrev pub IsBoundFor : Option Asked → Protocol → (number now : ℕ) → Bool → Protocol → Type 0
-IsBoundFor (Some (NewChannel transport channel peer)) p number now handled new =
-    IsHandled (bound transport channel peer (permission_with number p.allocations) number now p) handled new
-IsBoundFor (Some (ChannelRenewal transport channel peer)) p number now handled new =
-    IsHandled (renews_channels number now p) handled new
-IsBoundFor (Some (NewPermission transport ip)) p number now handled new = IsIgnored p handled new
-IsBoundFor (Some (Renewal transport ip)) p number now handled new = IsIgnored p handled new
-IsBoundFor (Some (Lifetime lifetime)) p number now handled new = IsIgnored p handled new
-IsBoundFor (Some (NewConnection to)) p number now handled new = IsIgnored p handled new
-IsBoundFor None p number now handled new = IsIgnored p handled new
+-- The outcome of the success response to the request `transaction_id`, by what it asked for.
+abbrev pub IsBoundFor : Option PendingRequest → Protocol → (transaction_id now : ℕ) → Bool → Protocol → Type 0
+IsBoundFor (Some (NewChannel transport channel peer)) p transaction_id now handled new =
+    IsHandled (bound transport channel peer (permission_with transaction_id p.allocations) transaction_id now p) handled new
+IsBoundFor (Some (ChannelRenewal transport channel peer)) p transaction_id now handled new =
+    IsHandled (renews_channels transaction_id now p) handled new
+IsBoundFor (Some (NewPermission transport ip)) p transaction_id now handled new = IsIgnored p handled new
+IsBoundFor (Some (Renewal transport ip)) p transaction_id now handled new = IsIgnored p handled new
+IsBoundFor (Some (Lifetime lifetime)) p transaction_id now handled new = IsIgnored p handled new
+IsBoundFor (Some (NewConnection to)) p transaction_id now handled new = IsIgnored p handled new
+IsBoundFor None p transaction_id now handled new = IsIgnored p handled new
 
--- the request of a number was refused, by what it asks for
-abbrev pub IsUnboundFor : Option Asked → Protocol → (number : ℕ) → Bool → Protocol → Type 0
-IsUnboundFor (Some (NewChannel transport channel peer)) p number handled new =
-    IsHandled (unbound transport peer (permission_with number p.allocations) number p) handled new
-IsUnboundFor (Some (ChannelRenewal transport channel peer)) p number handled new =
-    IsHandled (lets_lapse transport peer number p) handled new
-IsUnboundFor (Some (NewPermission transport ip)) p number handled new = IsIgnored p handled new
-IsUnboundFor (Some (Renewal transport ip)) p number handled new = IsIgnored p handled new
-IsUnboundFor (Some (Lifetime lifetime)) p number handled new = IsIgnored p handled new
-IsUnboundFor (Some (NewConnection to)) p number handled new = IsIgnored p handled new
-IsUnboundFor None p number handled new = IsIgnored p handled new
+-- The outcome of the error response to the request `transaction_id`, by what it asked for.
+abbrev pub IsUnboundFor : Option PendingRequest → Protocol → (transaction_id : ℕ) → Bool → Protocol → Type 0
+IsUnboundFor (Some (NewChannel transport channel peer)) p transaction_id handled new =
+    IsHandled (unbound transport peer (permission_with transaction_id p.allocations) transaction_id p) handled new
+IsUnboundFor (Some (ChannelRenewal transport channel peer)) p transaction_id handled new =
+    IsHandled (expires_due transport peer transaction_id p) handled new
+IsUnboundFor (Some (NewPermission transport ip)) p transaction_id handled new = IsIgnored p handled new
+IsUnboundFor (Some (Renewal transport ip)) p transaction_id handled new = IsIgnored p handled new
+IsUnboundFor (Some (Lifetime lifetime)) p transaction_id handled new = IsIgnored p handled new
+IsUnboundFor (Some (NewConnection to)) p transaction_id handled new = IsIgnored p handled new
+IsUnboundFor None p transaction_id handled new = IsIgnored p handled new
 
--- the response to a CHANNEL_BIND, by its class
+-- The outcome of a response to a CHANNEL_BIND, by its class.
 abbrev pub IsBindResponded : Protocol → List ℕ → ℕ → Bool → Protocol → Type 0
 IsBindResponded p bytes now handled new = MatchBool (is_error_class (class_of (kind_at bytes)))
-    (IsUnboundFor (asked_by (number_at bytes) p.allocations) p (number_at bytes) handled new)
-    (IsBoundFor (asked_by (number_at bytes) p.allocations) p (number_at bytes) now handled new)
+    (IsUnboundFor (pending_request (number_at bytes) p.allocations) p (number_at bytes) handled new)
+    (IsBoundFor (pending_request (number_at bytes) p.allocations) p (number_at bytes) now handled new)

@@ -12,6 +12,6 @@ pub mod Permitting
 pub mod Receiving
 pub mod Responding
 pub mod Standing
--- What stands above this crate has these through it.
+-- Re-exports for the crates above this one.
 pub use Rattle.stun_proto_client.specs as StunProtoClient
 pub use Rattle.turn_client_proto_messages.specs.TurnRuns as TurnRuns

@@ -1,7 +1,7 @@
-//! The making of requests (RFC 8489, section 6.2).
+//! Building, signing and queueing of requests (RFC 8489, section 6.2).
 
 ghost use Rattle.std.specs.Prelude.{◌≡◌, OnOk, OnErr};
-ghost use Rattle.turn_client_proto_core.specs.Asking.{asked, asked_from};
+ghost use Rattle.turn_client_proto_core.specs.Asking.{requested, requested_from};
 ghost use Rattle.turn_client_proto_core.specs.Numbering.{IsUnused};
 
 use crate::protocol::Protocol;
@@ -14,38 +14,46 @@ use turn_client_proto_messages::queued::Queued;
 use turn_client_proto_messages::request::TurnRequest;
 
 impl Protocol {
-    /// Makes a request of this number: it is outstanding from now on, and waits to be sent from the
-    /// client's own address. Where memory is refused, nothing changes.
+    /// Queues a signed request with transaction ID `number`, to be sent from the client's own
+    /// address. The request is outstanding from now on.
+    ///
+    /// # Errors
+    ///
+    /// - `NoMemory`: a memory allocation failed; nothing changed.
     pub fn ask(
         &mut self,
-        number: TransactionId,
+        transaction_id: TransactionId,
         request: TurnRequest,
         now: Instant,
     ) -> Result<(), NoMemory>
-        requires unused { IsUnused self.old.agent number }
-        ensures ok { OnOk result (self.new ≡ asked self.old request number now) }
+        requires unused { IsUnused self.old.agent transaction_id }
+        ensures ok { OnOk result (self.new ≡ requested self.old request transaction_id now) }
         ensures err { OnErr result (self.new ≡ self.old) }
     {
         let here = self.agent.local_addr();
-        self.ask_from(here, number, request, now)
+        self.ask_from(here, transaction_id, request, now)
     }
 
-    /// The same, of a request that is sent from another address: that of a data connection.
+    /// Queues a request as `ask` does, but to be sent from another local address: that of a data
+    /// connection.
     pub fn ask_from(
         &mut self,
         from: SocketAddr,
-        number: TransactionId,
+        transaction_id: TransactionId,
         request: TurnRequest,
         now: Instant,
     ) -> Result<(), NoMemory>
-        requires unused { IsUnused self.old.agent number }
-        ensures ok { OnOk result (self.new ≡ asked_from from self.old request number now) }
+        requires unused { IsUnused self.old.agent transaction_id }
+        ensures ok { OnOk result (self.new ≡ requested_from from self.old request transaction_id
+            now) }
         ensures err { OnErr result (self.new ≡ self.old) }
     {
-        let bytes = self.auth.write_request(self.alloc, number, request)?;
+        let bytes = self
+            .auth
+            .write_request(self.alloc, transaction_id, request)?;
         let queued = Queued::new(bytes, from, true);
         self.queue.push_back(queued)?;
-        // It was queued just now.
+        // It was pushed just now.
         let Some(last) = self.queue.back() else {
             unreachable!()
         };
@@ -56,7 +64,7 @@ impl Protocol {
                     self.queue.pop_back();
                     Err(NoMemory)
                 }
-                // It is a request, and none of its number is outstanding.
+                // The bytes are a request, and its transaction ID isn't outstanding (`unused`).
                 _ => unreachable!(),
             },
         }

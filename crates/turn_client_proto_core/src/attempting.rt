@@ -1,4 +1,4 @@
-//! The server's own requests: a peer began a connection (RFC 6062, section 4.4).
+//! Handling of the server's own requests: a peer opened a connection (RFC 6062, section 4.4).
 
 ghost use Rattle.std.specs.Prelude.{◌≡◌, IfOk, OnErr, OnOk, true};
 ghost use Rattle.turn_client_proto_core.specs.Attempting.{IsAttemptTaken, after_attempt, answering, is_attempt};
@@ -12,26 +12,29 @@ use stun_types_wire::transaction::TransactionId;
 use turn_client_proto_connection::attempts::{begin, is_joining};
 use turn_client_proto_messages::answer::AttemptAnswer;
 use turn_client_proto_messages::queued::Queued;
-use turn_client_proto_messages::told::{connection_told, peer_told};
-use turn_client_proto_peers::permission::asking::place_of;
+use turn_client_proto_messages::reported::{connection_reported, peer_reported};
+use turn_client_proto_peers::permission::asking::index_of;
 use turn_types_attributes::registry::CONNECTION_ATTEMPT;
 
 impl Protocol {
-    /// The response to the server's request of a number waits to be sent. `Err` changes nothing.
+    /// Queues the response to the server's request with this transaction ID. After an error nothing
+    /// has changed.
     pub fn answer_attempt(
         &mut self,
-        number: TransactionId,
+        transaction_id: TransactionId,
         answer: AttemptAnswer,
     ) -> Result<(), NoMemory>
-        ensures ok { OnOk result (self.new ≡ answering answer number self.old) }
+        ensures ok { OnOk result (self.new ≡ answering answer transaction_id self.old) }
         ensures err { OnErr result (self.new ≡ self.old) }
     {
-        let bytes = self.auth.write_answer(self.alloc, number, answer)?;
+        let bytes = self.auth.write_answer(self.alloc, transaction_id, answer)?;
         let here = self.agent.local_addr();
         self.queue.push_back(Queued::new(bytes, here, false))
     }
 
-    /// A request came that validates, or a response that nothing awaits. `Err` changes nothing.
+    /// Handles a validated request, or a validated response that nothing awaits. Returns whether it
+    /// was for the client: only a CONNECTION_ATTEMPT request is. After an error nothing has
+    /// changed.
     pub(crate) fn take_request(&mut self, message: &Message<'_>) -> Result<bool, NoMemory>
         ensures ok { IfOk result (λ handled.
             IsAttemptTaken self.old message.now handled self.new) }
@@ -45,28 +48,33 @@ impl Protocol {
         Ok(true)
     }
 
-    /// The same of one by which the server tells of a connection that a peer began. It waits for its
-    /// socket in the first allocation over the transport by which the client reaches the server, of the
-    /// peer's family. It is refused with error 400 where there is none, or no connection or no peer is
-    /// named; and with 446 where one to the peer is there, or waits for its socket.
+    /// Handles a validated CONNECTION_ATTEMPT request. The new connection waits for its socket in
+    /// the first allocation whose transport is that of the control connection and whose family is
+    /// the peer's.
+    ///
+    /// The request is rejected, by a queued response,
+    ///
+    /// - with error 400 if it names no connection or no peer, or if there is no such allocation;
+    /// - with error 446 if that allocation has a connection to the peer, or one that waits for its
+    ///   socket.
     fn take_attempt(&mut self, message: &Message<'_>) -> Result<(), NoMemory>
         ensures ok { OnOk result (self.new ≡ after_attempt message.now self.old) }
         ensures err { OnErr result (self.new ≡ self.old) }
     {
         let number = message.transaction_id();
-        let Some(connection) = connection_told(message) else {
+        let Some(connection) = connection_reported(message) else {
             return self.answer_attempt(number, AttemptAnswer::BadRequest);
         };
-        let Some(peer) = peer_told(message) else {
+        let Some(peer) = peer_reported(message) else {
             return self.answer_attempt(number, AttemptAnswer::BadRequest);
         };
         let (transport, family) = (self.agent.transport(), AddressFamily::from(&peer));
-        let Some(place) = place_of(self.allocations.as_slice(), transport, family) else {
+        let Some(index) = index_of(self.allocations.as_slice(), transport, family) else {
             return self.answer_attempt(number, AttemptAnswer::BadRequest);
         };
-        if is_joining(&self.allocations.as_slice()[place], peer) {
+        if is_joining(&self.allocations.as_slice()[index], peer) {
             return self.answer_attempt(number, AttemptAnswer::AlreadyExists);
         }
-        begin(&mut self.allocations, place, connection, peer, number)
+        begin(&mut self.allocations, index, connection, peer, number)
     }
 }

@@ -1,4 +1,4 @@
-//! What a client that has not allocated makes of a message (RFC 8656, sections 7.3 and 7.4).
+//! Handling of messages before the server has allocated (RFC 8656, sections 7.3 and 7.4).
 
 ghost use Rattle.std.specs.Prelude.{◌≡◌, ◌++◌, ◌∷◌, [], ℕ, IfOk, OnOk, OnErr, Some, None, true};
 ghost use Rattle.stun_proto_agent.specs.Handling.{is_awaited, is_response};
@@ -6,8 +6,8 @@ ghost use Rattle.stun_types_wire.specs.Attributes.{kind_at};
 ghost use Rattle.stun_types_wire.specs.Grammar.{number_at};
 ghost use Rattle.stun_types_wire.specs.Types.{class_of};
 ghost use Rattle.turn_client_proto_messages.specs.declared.request.TurnRequest.TheVariants.{Allocate};
-ghost use Rattle.turn_client_proto_core.specs.Asking.{asked};
-ghost use Rattle.turn_client_proto_core.specs.Authenticating.{IsAccepted, IsAllocateAnswered, IsChallenged, IsErrorAnswered, IsFirstJudged, IsSignedJudged, IsTurnedAway, allocates_again, allocates_other, family_left, numbers_sent, other_family};
+ghost use Rattle.turn_client_proto_core.specs.Asking.{requested};
+ghost use Rattle.turn_client_proto_core.specs.Authenticating.{IsAccepted, IsAllocateAnswered, IsChallenged, IsErrorAnswered, IsFirstJudged, IsSignedJudged, IsUnauthenticated, allocates_again, allocates_other, family_left, numbers_sent, other_family};
 ghost use Rattle.turn_client_proto_core.specs.Ending.{IsUnderWay};
 ghost use Rattle.turn_client_proto_core.specs.Numbering.{IsNextNumber, after_number};
 ghost use Rattle.turn_client_proto_core.specs.Receiving.{GrowsBy, GrowsFirst, GrowsSigned, IsFollowed};
@@ -29,10 +29,11 @@ use stun_types_wire::registry::ADDRESS_FAMILY_NOT_SUPPORTED;
 use stun_types_wire::transaction::TransactionId;
 use turn_client_proto_api::event::TurnEvent;
 use turn_client_proto_api::families::RequestedFamilies;
+use turn_client_proto_messages::reported::first_code;
 use turn_client_proto_messages::request::TurnRequest;
-use turn_client_proto_messages::told::first_code;
 
-/// The family that is left where the server has no addresses of IPv4, and both were asked for.
+/// Returns IPv6 if both families were requested: the family to try after the server had no IPv4
+/// address. Returns `None` otherwise.
 fn other_family(families: RequestedFamilies) -> Option<AddressFamily>
     ensures { result ≡ other_family families }
 {
@@ -43,7 +44,7 @@ fn other_family(families: RequestedFamilies) -> Option<AddressFamily>
     }
 }
 
-/// The numbers of the ALLOCATEs that were sent. It allocates nothing.
+/// Returns the transaction IDs of the ALLOCATEs that were sent. Allocates no memory.
 fn numbers_sent(alloc: Global, phase: Phase) -> ListOf<TransactionId>
     ensures { result ≡ numbers_sent phase }
 {
@@ -54,13 +55,13 @@ fn numbers_sent(alloc: Global, phase: Phase) -> ListOf<TransactionId>
 }
 
 impl Protocol {
-    /// Asks for an allocation under the credentials, once more.
+    /// Queues another ALLOCATE, signed with the credentials.
     fn allocate_again(&mut self, now: Instant) -> Result<(), NoMemory>
         ensures ok { OnOk result ((number : ℕ) × IsNextNumber self.old number
             × (self.new ≡ allocates_again number now self.old)) }
         ensures err { OnErr result (IsUnderWay self.old self.new) }
     {
-        let number = self.draw_number()?;
+        let number = self.generate_id()?;
         let request = TurnRequest::Allocate(self.allocates, self.families);
         self.ask(number, request, now)?;
         let phase = mem::replace(&mut self.phase, Phase::Ended);
@@ -70,7 +71,9 @@ impl Protocol {
         Ok(())
     }
 
-    /// A challenge that can be answered came (RFC 8489, section 9.2.5).
+    /// Handles a challenge that can be answered (RFC 8489, section 9.2.5): sends the ALLOCATE
+    /// again, or ends the client after too many challenges. Ignores it if its transaction isn't
+    /// outstanding.
     fn answer_challenge(&mut self, message: &Message<'_>, now: Instant) -> Result<bool, NoMemory>
         ensures ok { IfOk result (λ handled.
             IsChallenged self.old message.now now handled self.new) }
@@ -88,9 +91,11 @@ impl Protocol {
         Ok(true)
     }
 
-    /// A response to the first ALLOCATE came that is no challenge, or one that can't be answered.
-    fn turn_away(&mut self, message: &Message<'_>) -> Result<bool, NoMemory>
-        ensures ok { IfOk result (λ handled. IsTurnedAway self.old message.now handled self.new) }
+    /// Ends the client on a response to the first ALLOCATE that is no challenge, or a challenge
+    /// that can't be answered. Ignores it if its transaction isn't outstanding.
+    fn refuse_unauthenticated(&mut self, message: &Message<'_>) -> Result<bool, NoMemory>
+        ensures ok { IfOk result (λ handled. IsUnauthenticated self.old message.now handled
+            self.new) }
         ensures err { OnErr result (IsUnderWay self.old self.new) }
         ensures memory { OnErr result (is_awaited self.old.agent message.now ≡ true) }
     {
@@ -102,8 +107,8 @@ impl Protocol {
         Ok(true)
     }
 
-    /// A response came where no ALLOCATE was signed.
-    pub(crate) fn hear_first(
+    /// Handles a response before any ALLOCATE was signed.
+    pub(crate) fn process_first(
         &mut self,
         message: &Message<'_>,
         now: Instant,
@@ -120,12 +125,12 @@ impl Protocol {
                 Ok(false)
             }
             Err(LongTermClientAuthError::NoMemory) => Err(NoMemory),
-            Err(_) => self.turn_away(message),
+            Err(_) => self.refuse_unauthenticated(message),
         }
     }
 
-    /// A response to one of the signed ALLOCATEs came.
-    pub(crate) fn hear_signed(
+    /// Handles a response to one of the ALLOCATEs after one was signed.
+    pub(crate) fn process_signed(
         &mut self,
         message: &Message<'_>,
         now: Instant,
@@ -147,7 +152,7 @@ impl Protocol {
         }
     }
 
-    /// A response to a signed ALLOCATE came that validates.
+    /// Handles a validated response to an ALLOCATE: accepts it if its transaction is outstanding.
     fn take_response(&mut self, message: &Message<'_>, now: Instant) -> Result<bool, NoMemory>
         ensures ok { IfOk result (λ handled.
             IsAccepted self.old message.now now handled self.new) }
@@ -162,7 +167,7 @@ impl Protocol {
         self.take_answer(message, now)
     }
 
-    /// A response to a signed ALLOCATE was accepted.
+    /// Handles an accepted response to a signed ALLOCATE, by its class.
     fn take_answer(&mut self, message: &Message<'_>, now: Instant) -> Result<bool, NoMemory>
         ensures ok { IfOk result (λ handled. IsAllocateAnswered
             (class_of (kind_at message.now)) self.old message.now now handled self.new) }
@@ -175,7 +180,8 @@ impl Protocol {
         }
     }
 
-    /// The family for which the client asks again after an error response.
+    /// Returns the family to request after an error response: the one that is left if the error is
+    /// 440 (Address Family not Supported).
     fn family_left(&self, message: &Message<'_>) -> Option<AddressFamily>
         ensures { result ≡ family_left self.now message.now }
     {
@@ -185,7 +191,8 @@ impl Protocol {
         }
     }
 
-    /// An error response to a signed ALLOCATE was accepted (RFC 8656, section 7.4).
+    /// Handles an accepted error response to a signed ALLOCATE (RFC 8656, section 7.4): requests
+    /// the family that is left, or ends the client if there is none.
     fn take_error(&mut self, message: &Message<'_>, now: Instant) -> Result<bool, NoMemory>
         ensures ok { IfOk result (λ handled. IsErrorAnswered
             (family_left self.old message.now) self.old now handled self.new) }
@@ -199,13 +206,13 @@ impl Protocol {
         Ok(true)
     }
 
-    /// Gives up IPv4, and asks for an address of the family that is left.
+    /// Drops IPv4, queues the event for that, and queues an ALLOCATE for the family that is left.
     fn allocate_other(&mut self, family: AddressFamily, now: Instant) -> Result<(), NoMemory>
         ensures ok { OnOk result ((number : ℕ) × IsNextNumber self.old number
             × (self.new ≡ allocates_other family number now self.old)) }
         ensures err { OnErr result (IsUnderWay self.old self.new) }
     {
-        let number = self.draw_number()?;
+        let number = self.generate_id()?;
         self.families = RequestedFamilies::only(family);
         let failure = TurnEvent::AllocationCreateFailed(AddressFamily::IPV4);
         self.events.push_back(failure)?;

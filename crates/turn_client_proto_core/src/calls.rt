@@ -1,4 +1,4 @@
-//! What a caller asks of a client.
+//! Calls of the application that read or drain a client.
 
 ghost use Rattle.std.specs.Prelude.{◌≡◌, ◌++◌, [], IfNone, option_to_list};
 ghost use Rattle.turn_client_proto_core.specs.Deleting.{is_authenticated};
@@ -6,7 +6,7 @@ ghost use Rattle.turn_client_proto_core.specs.Deleting.{is_authenticated};
 use crate::protocol::{Phase, Protocol};
 use turn_client_proto_api::event::TurnEvent;
 
-/// The event that has waited longest.
+/// Removes and returns the oldest event.
 pub fn poll_event(protocol: &mut Protocol) -> Option<TurnEvent>
     ensures event { protocol.old.events ≡ option_to_list result ++ protocol.new.events }
     ensures none { IfNone result (protocol.old.events ≡ []) }
@@ -16,7 +16,7 @@ pub fn poll_event(protocol: &mut Protocol) -> Option<TurnEvent>
 }
 
 impl Protocol {
-    /// Whether the server has allocated, and the client has not ended.
+    /// Returns whether the server has allocated and the client has not ended.
     pub fn is_authenticated(&self) -> bool
         ensures { result ≡ is_authenticated self.now.phase }
     {

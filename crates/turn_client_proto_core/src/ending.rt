@@ -1,4 +1,4 @@
-//! How a client ends.
+//! Ending of a client.
 
 ghost use Rattle.std.specs.Prelude.{◌≡◌, ◌≢◌, [], OnOk, OnErr};
 ghost use Rattle.turn_client_proto_core.specs.Ending.{ended, failed};
@@ -6,24 +6,28 @@ ghost use Rattle.turn_client_proto_core.specs.Ending.{ended, failed};
 use crate::protocol::{Phase, Protocol};
 use stun_proto_agent::agent::StunAgent;
 use stun_types_base::memory::NoMemory;
-use turn_client_proto_messages::telling::tell_failures;
+use turn_client_proto_messages::reporting::report_failures;
 
-/// Ends the client: that no address is allocated is told for each family, in order. What is
-/// outstanding and what waits stays. Memory is asked for where there is a family to tell of, as
-/// there is in every client; where it is refused, nothing changes.
+/// Ends the client: queues an `AllocationCreateFailed` event for each family, in order. Outstanding
+/// requests, allocations, queued messages and queued events stay.
+///
+/// # Errors
+///
+/// - `NoMemory`: a memory allocation failed; nothing changed. This can happen only if there is a
+///   family to report, as there is in every client.
 pub fn end(protocol: &mut Protocol) -> Result<(), NoMemory>
     ensures ok { OnOk result (protocol.new ≡ ended protocol.old) }
     ensures err { OnErr result (protocol.new ≡ protocol.old) }
     ensures memory { OnErr result (protocol.old.families ≢ []) }
 {
-    tell_failures(&mut protocol.events, protocol.families.as_slice())?;
+    report_failures(&mut protocol.events, protocol.families.as_slice())?;
     protocol.phase = Phase::Ended;
     Ok(())
 }
 
 impl Protocol {
-    /// Gives up after memory was refused. Nothing is held, awaited or sent any more. So many of the
-    /// events are left.
+    /// Ends the client after a memory allocation failed: it has no allocations, awaits no response
+    /// and sends nothing more. Only the first `events` of its events stay queued.
     #[tactic(auto, unfolding(crate::specs::Ending::failed))]
     pub fn fail(&mut self, events: usize)
         ensures { self.new ≡ failed events self.old }

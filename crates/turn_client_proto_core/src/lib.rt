@@ -1,6 +1,6 @@
-//! The protocol core of a TURN client (RFC 8656): what it keeps, what it is asked for, and what it
-//! makes of each message that came. It knows of no transport's framing: [`protocol`] tells what it
-//! keeps, and the other modules have its calls.
+//! The protocol core of a TURN client (RFC 8656): its state, the calls on it, and the handling of
+//! each received message. It is independent of the framing of a transport. [`protocol`] defines the
+//! state; the other modules have the calls.
 #![tactic(auto, using(crate::proofs::Usual::usual), unfolding(crate::proofs::Usual::opened))]
 
 pub mod allocating;

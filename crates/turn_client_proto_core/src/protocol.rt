@@ -1,4 +1,4 @@
-//! What a TURN client keeps.
+//! The state of a TURN client.
 
 ghost use Rattle.std.specs.Prelude.{◌≡◌};
 ghost use Rattle.turn_client_proto_allocation.specs.Awaited.{has_number};
@@ -20,15 +20,15 @@ use turn_client_proto_api::queue::QueueOf;
 use turn_client_proto_messages::queued::Queued;
 use turn_client_proto_messages::signer::Signer;
 
-/// How far a client is.
+/// The phase of a client.
 #[derive(Debug, Drop)]
 pub enum Phase {
-    /// Nothing was sent.
+    /// Nothing has been sent.
     Initial,
-    /// An ALLOCATE was sent without credentials, under these numbers.
+    /// An ALLOCATE was sent without credentials, with one of these transaction IDs.
     InitialSent(ListOf<TransactionId>),
-    /// An ALLOCATE was sent with credentials; these are the numbers of all that were sent since the
-    /// last answer that the server meant.
+    /// An ALLOCATE was sent with credentials. The list has the transaction IDs of all ALLOCATEs so
+    /// far, the unsigned one included; after a 440 error was accepted, of those since then only.
     Authenticating(ListOf<TransactionId>),
     /// The server has allocated.
     Authenticated,
@@ -37,49 +37,50 @@ pub enum Phase {
 }
 
 impl Phase {
-    /// Whether an ALLOCATE of this number was sent, and none is answered.
+    /// Returns whether an ALLOCATE with this transaction ID was sent and the client is still
+    /// allocating.
     #[tactic(auto, unfolding(crate::specs::Numbering::awaits))]
-    pub fn awaits(&self, number: TransactionId) -> bool
-        ensures { result ≡ awaits number self.now }
+    pub fn awaits(&self, transaction_id: TransactionId) -> bool
+        ensures { result ≡ awaits transaction_id self.now }
     {
         match self {
             Phase::InitialSent(numbers) | Phase::Authenticating(numbers) => {
-                has_number(numbers.as_slice(), number)
+                has_number(numbers.as_slice(), transaction_id)
             }
             Phase::Initial | Phase::Authenticated | Phase::Ended => false,
         }
     }
 }
 
-/// A TURN client, but for the framing of its transport.
+/// A TURN client without the framing of its transport.
 #[derive(Debug, Drop)]
 pub struct Protocol {
-    /// What the client allocates by.
+    /// The allocator.
     pub alloc: Global,
     /// The server's address.
     pub server: SocketAddr,
-    /// The transport between the server and the peers that is asked for.
+    /// The requested transport between the server and the peers.
     pub allocates: TransportType,
-    /// The families of addresses that are asked for.
+    /// The requested address families.
     pub families: RequestedFamilies,
-    /// Signs what goes out, and validates what comes in.
+    /// Signs outgoing messages and validates incoming ones.
     pub auth: Signer,
-    /// The requests that are outstanding.
+    /// The outstanding requests.
     pub agent: StunAgent,
-    /// How far the client is.
+    /// The phase.
     pub phase: Phase,
-    /// What the server has allocated.
+    /// The allocations that the server granted.
     pub allocations: Allocations,
-    /// The messages that wait to be sent.
+    /// The messages that are queued for sending.
     pub queue: QueueOf<Queued>,
-    /// The moment at which a message was last sent.
+    /// The time at which a message was last sent.
     pub last_send: Option<Instant>,
-    /// The events that wait to be told.
+    /// The queued events.
     pub events: QueueOf<TurnEvent>,
-    /// The own addresses of the data connections that the caller is to close.
+    /// The local addresses of the data connections that the caller has to close.
     pub closing: QueueOf<SocketAddr>,
-    /// How many challenges were answered since a response was accepted.
+    /// The count of challenges answered since a response was last accepted.
     pub resends: u32,
-    /// The generator from which the numbers of messages are drawn.
+    /// The generator of the transaction IDs.
     pub rng: ChaCha20Rng,
 }

@@ -1,8 +1,8 @@
-//! What a client makes of a message that came from the server.
+//! Handling of messages from the server.
 
 ghost use Rattle.std.specs.Prelude.{◌≡◌, IfOk, OnErr};
 ghost use Rattle.turn_client_proto_core.specs.Ending.{HasFailed, IsUnderWay};
-ghost use Rattle.turn_client_proto_core.specs.Receiving.{IsHeard, MayGrow};
+ghost use Rattle.turn_client_proto_core.specs.Receiving.{IsProcessed, MayGrow};
 
 use crate::protocol::{Phase, Protocol};
 use stun_types_base::instant::Instant;
@@ -12,22 +12,31 @@ use stun_types_wire::class::MessageClass;
 use turn_client_proto_allocation::numbers::has_number;
 
 impl Protocol {
-    /// A message came from the server at a moment. Answers whether it was for the client. Where
-    /// memory is refused, `NoMemory`: then the client has ended, holds and awaits nothing, and
-    /// sends nothing more; the events that waited still do.
+    /// Handles a message from the server, and returns whether it was for the client.
     ///
-    /// Memory is asked for where there is something to keep or to tell: of a challenge that can be
-    /// answered, whatever request it answers; of a response that is accepted, or that ends the
-    /// client. It is not by a client that has sent nothing or has ended, by an indication, or by a
-    /// response with a number that isn't outstanding, unless that one is such a challenge, ends a
-    /// client that allocates by its wrong digest, or validates before an ALLOCATE was signed.
+    /// # Errors
+    ///
+    /// - `NoMemory`: a memory allocation failed. The client has then ended: it has no allocations,
+    ///   awaits no response and sends nothing more. Events that were queued before the call stay
+    ///   queued.
+    ///
+    /// Memory is needed only if there is something to store or report:
+    ///
+    /// - for a challenge that can be answered, whatever request it answers;
+    /// - for a response that is accepted, or that ends the client;
+    /// - for a validated CONNECTION_ATTEMPT request.
+    ///
+    /// It is never needed by a client that has sent nothing or has ended, or for an indication. For
+    /// a response whose transaction ID isn't outstanding, it is needed only in three cases: the
+    /// response is such a challenge; its integrity check fails, which ends a client in
+    /// `Authenticating`; or it validates before an ALLOCATE was signed.
     pub fn handle_message(&mut self, message: &Message<'_>, now: Instant) -> Result<bool, NoMemory>
-        ensures ok { IfOk result (λ handled. IsHeard self.old message.now now handled self.new) }
+        ensures ok { IfOk result (λ handled. IsProcessed self.old message.now now handled self.new) }
         ensures err { OnErr result (HasFailed self.old self.new) }
         ensures memory { OnErr result (MayGrow self.old message.now) }
     {
         let events = self.events.len();
-        match self.hear(message, now) {
+        match self.process(message, now) {
             Ok(is_handled) => Ok(is_handled),
             Err(e) => {
                 self.fail(events);
@@ -36,9 +45,10 @@ impl Protocol {
         }
     }
 
-    /// The same; but where memory is refused, the client is under way still.
-    fn hear(&mut self, message: &Message<'_>, now: Instant) -> Result<bool, NoMemory>
-        ensures ok { IfOk result (λ handled. IsHeard self.old message.now now handled self.new) }
+    /// Handles a message for `handle_message`. If a memory allocation fails, the client is left in
+    /// an intermediate state (`IsUnderWay`).
+    fn process(&mut self, message: &Message<'_>, now: Instant) -> Result<bool, NoMemory>
+        ensures ok { IfOk result (λ handled. IsProcessed self.old message.now now handled self.new) }
         ensures err { OnErr result (IsUnderWay self.old self.new) }
         ensures memory { OnErr result (MayGrow self.old message.now) }
     {
@@ -48,20 +58,20 @@ impl Protocol {
                 if !message.is_response() {
                     return Ok(false);
                 }
-                self.hear_first(message, now)
+                self.process_first(message, now)
             }
             Phase::Authenticating(numbers) => {
                 let number = message.transaction_id();
                 if !(message.is_response() && has_number(numbers.as_slice(), number)) {
                     return Ok(false);
                 }
-                self.hear_signed(message, now)
+                self.process_signed(message, now)
             }
             Phase::Authenticated => {
                 if message.class() == MessageClass::Indication {
                     return Ok(false);
                 }
-                self.hear_standing(message, now)
+                self.process_standing(message, now)
             }
         }
     }

@@ -1,4 +1,4 @@
-//! What a client that has allocated makes of a message (RFC 8656, section 8.3).
+//! Handling of messages after the server has allocated (RFC 8656, section 8.3).
 
 ghost use Rattle.std.specs.Prelude.{◌≡◌, ℕ, IfOk, OnOk, OnErr, Some, position, true};
 ghost use Rattle.stun_types_wire.specs.Grammar.{number_at};
@@ -6,8 +6,8 @@ ghost use Rattle.turn_client_proto_core.specs.Ending.{IsUnderWay};
 ghost use Rattle.turn_client_proto_core.specs.Numbering.{IsNextNumber};
 ghost use Rattle.turn_client_proto_core.specs.Receiving.{GrowsBy, GrowsStanding, IsFollowed};
 ghost use Rattle.turn_client_proto_core.specs.Standing.{IsConnectResponded, IsJudgedStanding, IsRechallenged, IsTakenUp, after_refresh, asks_again, counts, deallocated, is_refreshed, refreshed, request_for};
-ghost use Rattle.turn_client_proto_allocation.specs.Requested.{awaits_reply};
-ghost use Rattle.turn_client_proto_messages.specs.ToldRequests.{IsLawfulRequest};
+ghost use Rattle.turn_client_proto_allocation.specs.PendingRequests.{awaits_reply};
+ghost use Rattle.turn_client_proto_messages.specs.ReportedRequests.{IsLawfulRequest};
 
 use crate::ending::end;
 use crate::protocol::{Phase, Protocol};
@@ -19,15 +19,15 @@ use stun_types_message::parsed::Message;
 use stun_types_wire::class::MessageClass;
 use stun_types_wire::registry::ALLOCATION_MISMATCH;
 use stun_types_wire::transaction::TransactionId;
-use turn_client_proto_allocation::requested::{Asked, ask_too, asked_by};
-use turn_client_proto_connection::told::answer;
-use turn_client_proto_messages::laws::requests_are_lawful;
+use turn_client_proto_allocation::pending::{PendingRequest, pending_request, reissue_under};
+use turn_client_proto_connection::reported::answer;
+use turn_client_proto_messages::laws::proof_requests_are_lawful;
+use turn_client_proto_messages::reported::{connection_reported, first_code, lifetime_reported};
 use turn_client_proto_messages::request::TurnRequest;
-use turn_client_proto_messages::told::{connection_told, first_code, lifetime_told};
 use turn_types_attributes::registry::{CHANNEL_BIND, CONNECT, CREATE_PERMISSION, REFRESH};
 
-/// Whether a REFRESH is granted by its response: by a success, or by the error that there is no
-/// allocation.
+/// Returns whether a response grants a REFRESH: a success does, and error 437 (Allocation
+/// Mismatch), which says that there is no allocation.
 fn is_refreshed(message: &Message<'_>) -> bool
     ensures { result ≡ is_refreshed message.now }
 {
@@ -37,23 +37,25 @@ fn is_refreshed(message: &Message<'_>) -> bool
     }
 }
 
-/// The request by which something is asked for.
-fn request_for(asked: &Asked) -> TurnRequest
-    ensures { result ≡ request_for asked.now }
+/// Returns the request for something that is requested.
+fn request_for(requested: &PendingRequest) -> TurnRequest
+    ensures { result ≡ request_for requested.now }
 {
-    match asked {
-        Asked::Lifetime(lifetime) => TurnRequest::Refresh(*lifetime),
-        Asked::NewChannel(_, channel, peer) | Asked::ChannelRenewal(_, channel, peer) => {
+    match requested {
+        PendingRequest::Lifetime(lifetime) => TurnRequest::Refresh(*lifetime),
+        PendingRequest::NewChannel(_, channel, peer)
+        | PendingRequest::ChannelRenewal(_, channel, peer) => {
             TurnRequest::ChannelBind(channel.number(), *peer)
         }
-        Asked::NewPermission(_, ip) | Asked::Renewal(_, ip) => TurnRequest::CreatePermission(*ip),
-        Asked::NewConnection(peer) => TurnRequest::Connect(*peer),
+        PendingRequest::NewPermission(_, ip) | PendingRequest::Renewal(_, ip) =>
+            TurnRequest::CreatePermission(*ip),
+        PendingRequest::NewConnection(peer) => TurnRequest::Connect(*peer),
     }
 }
 
 impl Protocol {
-    /// A request or a response came.
-    pub(crate) fn hear_standing(
+    /// Handles a request or a response.
+    pub(crate) fn process_standing(
         &mut self,
         message: &Message<'_>,
         now: Instant,
@@ -71,7 +73,9 @@ impl Protocol {
         }
     }
 
-    /// A challenge that can be answered came (RFC 8489, section 9.2.5).
+    /// Handles a challenge that can be answered (RFC 8489, section 9.2.5): sends the request again
+    /// with a new transaction ID, or ends the client after too many challenges. Ignores it if its
+    /// transaction isn't outstanding or no allocation awaits its response.
     fn ask_again(&mut self, message: &Message<'_>, now: Instant) -> Result<bool, NoMemory>
         ensures ok { IfOk result (λ handled.
             IsRechallenged self.old message.now now handled self.new) }
@@ -85,38 +89,45 @@ impl Protocol {
             return Ok(false);
         }
         let old = message.transaction_id();
-        let Some((place, asked)) = asked_by(self.allocations.as_slice(), old) else {
+        let Some((index, requested)) = pending_request(self.allocations.as_slice(), old) else {
             return Ok(false);
         };
-        self.send_again(place, asked, old, now)?;
+        self.send_again(index, requested, old, now)?;
         self.count_challenge(message)?;
         Ok(true)
     }
 
-    /// Sends a request again, under another number. What it asks for was found at a place: in the
-    /// first allocation that awaits the response to the old number.
+    /// Sends a request again with a new transaction ID. `index` is the index of the first
+    /// allocation that awaits the response to the request `old`; `requested` is what that request
+    /// asks for.
     fn send_again(
         &mut self,
-        place: usize,
-        asked: Asked,
+        index: usize,
+        requested: PendingRequest,
         old: TransactionId,
         now: Instant,
     ) -> Result<(), NoMemory>
-        requires { position (awaits_reply old) self.old.allocations ≡ Some place }
+        requires { position (awaits_reply old) self.old.allocations ≡ Some index }
         ensures ok { OnOk result ((number : ℕ) × IsNextNumber self.old number
-            × IsLawfulRequest (request_for asked)
-            × (self.new ≡ asks_again asked old number now self.old)) }
+            × IsLawfulRequest (request_for requested)
+            × (self.new ≡ asks_again requested old number now self.old)) }
         ensures err { OnErr result (IsUnderWay self.old self.new) }
     {
-        let number = self.draw_number()?;
-        let request = request_for(&asked);
-        requests_are_lawful(&request);
+        let number = self.generate_id()?;
+        let request = request_for(&requested);
+        proof_requests_are_lawful(&request);
         self.ask(number, request, now)?;
-        ask_too(self.allocations.as_mut_slice(), place, asked, old, number)?;
+        reissue_under(
+            self.allocations.as_mut_slice(),
+            index,
+            requested,
+            old,
+            number,
+        )?;
         Ok(())
     }
 
-    /// A request or a response came that validates.
+    /// Handles a validated request or response.
     fn take_up(&mut self, message: &Message<'_>, now: Instant) -> Result<bool, NoMemory>
         ensures ok { IfOk result (λ handled.
             IsTakenUp self.old message.now now handled self.new) }
@@ -143,23 +154,23 @@ impl Protocol {
         Ok(false)
     }
 
-    /// The response to a CONNECT was accepted.
+    /// Handles an accepted response to a CONNECT.
     fn take_connection(&mut self, message: &Message<'_>) -> Result<bool, NoMemory>
         ensures ok { IfOk result (λ handled.
             IsConnectResponded self.old message.now handled self.new) }
         ensures err { OnErr result (IsUnderWay self.old self.new) }
     {
-        let told = connection_told(message);
+        let reported = connection_reported(message);
         let allocations = self.allocations.as_mut_slice();
         answer(
             &mut self.events,
             allocations,
             message.transaction_id(),
-            told,
+            reported,
         )
     }
 
-    /// The response to a REFRESH was accepted.
+    /// Handles an accepted response to a REFRESH.
     fn take_refresh(&mut self, message: &Message<'_>, now: Instant)
         ensures { self.new ≡ after_refresh message.now now self.old }
     {
@@ -168,8 +179,8 @@ impl Protocol {
         }
     }
 
-    /// A REFRESH was granted: the allocations are gone where their end was asked for, and are
-    /// renewed else.
+    /// Applies a granted REFRESH: removes all allocations and ends the client if the REFRESH asked
+    /// for their deletion; else renews the allocations that requested it.
     fn refresh(&mut self, message: &Message<'_>, now: Instant)
         ensures { self.new ≡ refreshed message.now now self.old }
     {
@@ -178,7 +189,8 @@ impl Protocol {
             self.phase = Phase::Ended;
             self.allocations.clear();
         } else {
-            self.allocations.renew(number, lifetime_told(message), now);
+            self.allocations
+                .renew(number, lifetime_reported(message), now);
         }
     }
 }

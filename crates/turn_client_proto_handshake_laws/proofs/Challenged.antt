@@ -1,4 +1,5 @@
--- What a client that asks makes of a challenge, by the contract of `handle_message` alone.
+-- What a client that awaits the response to its first request does with a challenge, by the contract of
+-- `handle_message` alone.
 use Rattle.std.proofs.Common.{◌≡◌, ℕ, ◌+◌, ◌++◌, map as map_list, arith, Bool, true, false, List, [], ◌∷◌, Some, None, refl, sym, ap, ◌∙◌, subst, ◌⊎◌, inl, inr}
 use Rattle.std.specs.Prelude.{nat_lt, ◌&&◌, ◌||◌, Result, Ok, Err, is_some, if◌then◌else◌}
 use Rattle.std.specs.Bool.{MatchBool}
@@ -16,9 +17,9 @@ use Rattle.turn_client_proto_api.specs.StunTypesWire.Strength.{is_stronger}
 use Rattle.turn_client_proto_api.specs.StunTypesWire.Types.{class_of, is_response_class}
 use Rattle.stun_types_base.specs.declared.family.AddressFamily.{AddressFamily}
 use Rattle.stun_types_base.specs.declared.transport.TransportType.{TransportType}
-use Rattle.turn_client_proto_messages.specs.StunProtoClient.Challenges.{Told, challenge_shown, is_anonymous_enough, is_challenge_code, is_error, told_of}
+use Rattle.turn_client_proto_messages.specs.StunProtoClient.Challenges.{ChallengeFields, challenge_visible, is_anonymous_enough, is_challenge_code, is_error, reported_of}
 use Rattle.turn_client_proto_messages.specs.StunProtoClient.Choice.{is_common}
-use Rattle.turn_client_proto_api.specs.StunProtoAuth.Claims.{claimed, code_shown}
+use Rattle.turn_client_proto_api.specs.StunProtoAuth.Claims.{claimed, code_visible}
 use Rattle.turn_client_proto_messages.specs.StunProtoClient.Client as auth
 use Rattle.turn_client_proto_messages.specs.StunProtoClient.declared.error.LongTermClientAuthError.{LongTermClientAuthError}
 use Rattle.turn_client_proto_messages.specs.StunProtoClient.declared.error.LongTermClientAuthError.TheVariants.{Unauthorized, IntegrityFailed, UnsupportedFeature, NoMemory}
@@ -27,19 +28,19 @@ use Rattle.turn_client_proto_messages.specs.StunProtoClient.declared.validation.
 use Rattle.turn_client_proto_messages.specs.StunProtoClient.declared.validation.LongTermClientValidation.TheVariants.{ResendRequest, Validated}
 use Rattle.turn_client_proto_api.specs.StunProtoTransaction.Agents.{Transaction}
 use Rattle.turn_client_proto_api.specs.StunProtoAgent.Handling.{after_message, answered as answered_by, is_awaited, is_response}
-use Rattle.turn_client_proto_api.specs.StunProtoAgent.Sending.{begun, with_request}
+use Rattle.turn_client_proto_api.specs.StunProtoAgent.Sending.{started, with_request}
 use Rattle.turn_client_proto_api.specs.StunProtoAgent.State as agents
 use Rattle.turn_client_proto_api.proofs.StunProtoTransaction.Leasts.{same_number}
 use Rattle.turn_client_proto_api.specs.Config.{Config}
 use Rattle.turn_client_proto_api.specs.declared.event.TurnEvent.{TurnEvent}
 use Rattle.turn_client_proto_api.specs.declared.event.TurnEvent.TheVariants.{AllocationCreateFailed}
 use Rattle.turn_client_proto_messages.specs.Allocation.Listed.{is_any_awaited}
-use Rattle.turn_client_proto_core.specs.Asking.{asked, queued_request}
+use Rattle.turn_client_proto_core.specs.Asking.{requested, queued_request}
 use Rattle.turn_client_proto_core.specs.Authenticating.{IsAllocatingAgain, IsFirstJudged, allocates_again, numbers_sent}
 use Rattle.turn_client_proto_core.specs.Ending.{ended}
 use Rattle.turn_client_proto_core.specs.Numbering.{IsNextNumber, awaits, is_taken}
 use Rattle.turn_client_proto_core.specs.Outcomes.{IsHandled, IsIgnored}
-use Rattle.turn_client_proto_core.specs.Receiving.{IsFollowed, IsHeard, IsHeardIn}
+use Rattle.turn_client_proto_core.specs.Receiving.{IsFollowed, IsProcessed, IsProcessedIn}
 use Rattle.turn_client_proto_core.specs.Responding.{answered, challenged, is_tired, judged}
 use Rattle.turn_client_proto_messages.specs.Waiting.{Queued}
 use Rattle.turn_client_proto_core.specs.declared.protocol.Phase.{Phase}
@@ -48,25 +49,25 @@ use Rattle.turn_client_proto_core.specs.declared.protocol.Protocol.{Protocol}
 use Rattle.turn_client_proto_messages.specs.Judging.{IsJudged}
 use Rattle.turn_client_proto_messages.specs.Requests.{request_text}
 use Rattle.turn_client_proto_messages.specs.declared.request.TurnRequest.TheVariants.{Allocate}
-use Rattle.turn_client_proto_handshake_laws.specs.Asked.{IsOnlyAsked, transaction_of}
-use Rattle.turn_client_proto_handshake_laws.specs.Choosing.{Choice, IsAnsweredBy, IsBarring, IsChallenge, IsChoice, signed_asked, signed_request, signer_by}
-use Rattle.turn_client_proto_handshake_laws.specs.Stages.{HasChosen, HasEnded, IsAsking, failures, first_asked}
+use Rattle.turn_client_proto_handshake_laws.specs.Requested.{IsOnlyRequested, transaction_of}
+use Rattle.turn_client_proto_handshake_laws.specs.Choosing.{Choice, IsAnsweredBy, IsBarring, IsChallenge, IsChoice, signed_requested, signed_request, signer_by}
+use Rattle.turn_client_proto_handshake_laws.specs.Stages.{HasChosen, HasEnded, IsAsking, failures, first_requested}
 use Rattle.turn_client_proto_handshake_laws.proofs.Only.{Table, clash, none_left, put_or, put_there, stays_there, taken_out, where_false, where_true}
 use Rattle.turn_client_proto_handshake_laws.specs.Sent.{Beginning, first_number}
 
 -- ---- which choice
 
--- a challenge is a response
-pub challenges_respond : (bytes : List ℕ) (told : Told) → challenge_shown bytes ≡ Some told → is_response bytes ≡ true
-challenges_respond bytes told is = by (class_of (kind_at bytes)) is
+-- A challenge is a response.
+pub challenges_respond : (bytes : List ℕ) (reported : ChallengeFields) → challenge_visible bytes ≡ Some reported → is_response bytes ≡ true
+challenges_respond bytes reported is = by (class_of (kind_at bytes)) is
   where
-    by : (c : MessageClass) → (if is_error c && is_challenge_code (code_shown bytes) then told_of (claimed bytes) else None) ≡ Some told → is_response_class c ≡ true
+    by : (c : MessageClass) → (if is_error c && is_challenge_code (code_visible bytes) then reported_of (claimed bytes) else None) ≡ Some reported → is_response_class c ≡ true
     by Request none = absurd (Prim.cc none)
     by Indication none = absurd (Prim.cc none)
     by Success none = refl
     by Error some = refl
 
--- of two algorithms neither of which is stronger both are one
+-- Two algorithms of which neither is stronger are equal.
 as_strong : (one other : IntegrityAlgorithm) → is_stronger one other ≡ false → is_stronger other one ≡ false → one ≡ other
 as_strong Sha1 Sha1 no_less no_more = refl
 as_strong Sha256 Sha256 no_less no_more = refl
@@ -78,16 +79,16 @@ as_strong Sha256 Sha1 no_less no_more = absurd (Prim.cc no_less)
 as_strong Sha512 Sha1 no_less no_more = absurd (Prim.cc no_less)
 as_strong Sha512 Sha256 no_less no_more = absurd (Prim.cc no_less)
 
--- a challenge is answered by one algorithm alone
-pub one_choice : (config : Config) (told : Told) (one other : IntegrityAlgorithm) → IsAnsweredBy config told one → IsAnsweredBy config told other → one ≡ other
-one_choice config told one other first second = as_strong one other (second.strongest.greatest one first.strongest.common) (first.strongest.greatest other second.strongest.common)
+-- A challenge is answered by one algorithm alone.
+pub one_choice : (config : Config) (reported : ChallengeFields) (one other : IntegrityAlgorithm) → IsAnsweredBy config reported one → IsAnsweredBy config reported other → one ≡ other
+one_choice config reported one other first second = as_strong one other (second.strongest.greatest one first.strongest.common) (first.strongest.greatest other second.strongest.common)
 
--- or by none
-pub none_barred : {A : Type 0} (config : Config) (told : Told) (choice : IntegrityAlgorithm) → IsAnsweredBy config told choice → IsBarring config told → A
-none_barred config told choice is (inl none) = clash (is_common config.algorithms told.offered choice) is.strongest.common (none choice)
-none_barred config told choice is (inr named) = clash (is_anonymous_enough config.anonymous_username told.nonce) is.anonymous named
+-- A challenge that is answered does not end the client.
+pub none_barred : {A : Type 0} (config : Config) (reported : ChallengeFields) (choice : IntegrityAlgorithm) → IsAnsweredBy config reported choice → IsBarring config reported → A
+none_barred config reported choice is (inl none) = clash (is_common config.algorithms reported.offered choice) is.strongest.common (none choice)
+none_barred config reported choice is (inr named) = clash (is_anonymous_enough config.anonymous_username reported.nonce) is.anonymous named
 
--- numbers that aren't one are told apart
+-- Numbers that differ compare as different.
 apart : (m n : ℕ) → (m ≡ n → ⊥) → is_eq (nat_cmp m n) ≡ false
 apart m n differ = elim (is_eq (nat_cmp m n)) as (λ (z : Bool). is_eq (nat_cmp m n) ≡ z → z ≡ false) [
   | true ↦ λ same. absurd (differ (same_number m n same))
@@ -96,64 +97,64 @@ apart m n differ = elim (is_eq (nat_cmp m n)) as (λ (z : Bool). is_eq (nat_cmp 
 
 -- ---- what becomes of the client
 
-module _ (b : Beginning) (many last : ℕ) (p : Protocol) (w : IsAsking b many last p) (told : Told) (bytes : List ℕ) (is : IsChallenge b told bytes) (now : ℕ) (handled : Bool) (q : Protocol) where
+module _ (b : Beginning) (many last : ℕ) (p : Protocol) (w : IsAsking b many last p) (reported : ChallengeFields) (bytes : List ℕ) (is : IsChallenge b reported bytes) (now : ℕ) (handled : Bool) (q : Protocol) where
   awaited : is_awaited p.agent bytes ≡ true
-  awaited = ap (λ (n : ℕ). is_some (map.get p.agent.outstanding n)) is.number ∙ ap is_some w.asked.there
+  awaited = ap (λ (n : ℕ). is_some (map.get p.agent.outstanding n)) is.number ∙ ap is_some w.requested.there
 
   responds : is_response bytes ≡ true
-  responds = challenges_respond bytes told is.shown
+  responds = challenges_respond bytes reported is.visible
 
-  -- it was answered
+  -- The challenge was answered.
   pub record HasAnswered : Type 0 where
     pub algorithm : IntegrityAlgorithm
-    pub answered_by : IsAnsweredBy b.config told algorithm
+    pub answered_by : IsAnsweredBy b.config reported algorithm
     pub number : ℕ
-    pub is_next : IsNextNumber (judged (keeping p.auth told algorithm) p) number
+    pub is_next : IsNextNumber (judged (keeping p.auth reported algorithm) p) number
     pub is_handled : handled ≡ true
-    pub after : q ≡ challenged bytes (allocates_again number now (judged (keeping p.auth told algorithm) p))
+    pub after : q ≡ challenged bytes (allocates_again number now (judged (keeping p.auth reported algorithm) p))
 
-  -- or it ended the client
+  -- The challenge ended the client.
   pub record IsOver : Type 0 where
-    pub barring : IsBarring b.config told
+    pub barring : IsBarring b.config reported
     pub is_handled : handled ≡ true
     pub after : q ≡ ended (answered bytes p)
 
-  none_told : {A : Type 0} → challenge_shown bytes ≡ None → A
-  none_told none = absurd (Prim.cc (sym is.shown ∙ none))
+  none_decoded : {A : Type 0} → challenge_visible bytes ≡ None → A
+  none_decoded none = absurd (Prim.cc (sym is.visible ∙ none))
 
-  same_told : (other : Told) → challenge_shown bytes ≡ Some other → other ≡ told
-  same_told other e = Prim.cc (sym e ∙ is.shown)
+  same_decoded : (other : ChallengeFields) → challenge_visible bytes ≡ Some other → other ≡ reported
+  same_decoded other e = Prim.cc (sym e ∙ is.visible)
 
   by_verdict : (verdict : Result LongTermClientValidation LongTermClientAuthError) (client : auth.Client) → IsJudged p.auth bytes verdict client → IsFirstJudged verdict (judged client p) bytes now handled q → HasAnswered ⊎ IsOver
   by_verdict (Ok (ResendRequest choice)) client j out =
       let a = where_true (MatchBool (is_tired (judged client p)) (IsHandled (ended (judged client p)) handled q) (IsAllocatingAgain (judged client p) bytes now handled q)) (IsIgnored (judged client p) handled q) (is_awaited p.agent bytes) awaited out in
       let tired : is_tired p ≡ false = ap (λ (n : ℕ). nat_lt 8 n) w.resends in
       let again = where_false (IsHandled (ended (judged client p)) handled q) (IsAllocatingAgain (judged client p) bytes now handled q) (is_tired (judged client p)) tired a in
-      let same = same_told j.told j.shown in
-      let kept : client ≡ keeping p.auth told choice = j.kept ∙ ap (λ (t : Told). keeping p.auth t choice) same in
+      let same = same_decoded j.reported j.visible in
+      let stored : client ≡ keeping p.auth reported choice = j.stored ∙ ap (λ (t : ChallengeFields). keeping p.auth t choice) same in
       inl (record {
         algorithm = choice;
-        answered_by = subst (λ (x : auth.Client). IsAnswerable x told choice) w.auth (subst (λ (t : Told). IsAnswerable p.auth t choice) same j.answerable);
+        answered_by = subst (λ (x : auth.Client). IsAnswerable x reported choice) w.auth (subst (λ (t : ChallengeFields). IsAnswerable p.auth t choice) same j.answerable);
         number = again.number;
-        is_next = subst (λ (x : auth.Client). IsNextNumber (judged x p) again.number) kept again.is_next;
+        is_next = subst (λ (x : auth.Client). IsNextNumber (judged x p) again.number) stored again.is_next;
         is_handled = again.outcome.0;
-        after = again.outcome.1 ∙ ap (λ (x : auth.Client). challenged bytes (allocates_again again.number now (judged x p))) kept;
+        after = again.outcome.1 ∙ ap (λ (x : auth.Client). challenged bytes (allocates_again again.number now (judged x p))) stored;
       })
-  by_verdict (Ok (Validated algorithm)) client j out = none_told j.no_challenge
-  by_verdict (Err Unauthorized) client j out = none_told j.no_challenge
-  by_verdict (Err (IntegrityFailed algorithm)) client j out = none_told j.no_challenge
+  by_verdict (Ok (Validated algorithm)) client j out = none_decoded j.no_challenge
+  by_verdict (Err Unauthorized) client j out = none_decoded j.no_challenge
+  by_verdict (Err (IntegrityFailed algorithm)) client j out = none_decoded j.no_challenge
   by_verdict (Err UnsupportedFeature) client j out =
       let a = where_true (IsHandled (ended (answered bytes (judged client p))) handled q) (IsIgnored (judged client p) handled q) (is_awaited p.agent bytes) awaited out in
       inr (record {
-        barring = subst (λ (x : auth.Client). IsUnanswerable x told) w.auth (subst (λ (t : Told). IsUnanswerable p.auth t) (same_told j.told j.shown) j.unanswerable);
+        barring = subst (λ (x : auth.Client). IsUnanswerable x reported) w.auth (subst (λ (t : ChallengeFields). IsUnanswerable p.auth t) (same_decoded j.reported j.visible) j.unanswerable);
         is_handled = a.0;
         after = a.1 ∙ ap (λ (x : auth.Client). ended (answered bytes (judged x p))) j.unchanged;
       })
   by_verdict (Err NoMemory) client j out = absurd out
 
-  pub challenge_heard : IsHeard p bytes now handled q → HasAnswered ⊎ IsOver
-  challenge_heard heard =
-      let in_phase : IsHeardIn (InitialSent (first_number b ∷ [])) p bytes now handled q = subst (λ (f : Phase). IsHeardIn f p bytes now handled q) w.phase heard in
+  pub challenge_processed : IsProcessed p bytes now handled q → HasAnswered ⊎ IsOver
+  challenge_processed processed =
+      let in_phase : IsProcessedIn (InitialSent (first_number b ∷ [])) p bytes now handled q = subst (λ (f : Phase). IsProcessedIn f p bytes now handled q) w.phase processed in
       let f = where_true (IsFollowed IsFirstJudged p bytes now handled q) (IsIgnored p handled q) (is_response bytes) responds in_phase in
       by_verdict f.verdict f.auth f.is_judged f.outcome
 
@@ -174,7 +175,7 @@ module _ (b : Beginning) (many last : ℕ) (p : Protocol) (w : IsAsking b many l
       allocates = w.settings.allocates;
       families = w.settings.families;
     };
-    none_asked = λ number. ap (λ (n : ℕ). map.get (map.remove p.agent.outstanding n) number) is.number ∙ none_left b (first_asked b) many p w.settings w.asked number;
+    none_requested = λ number. ap (λ (n : ℕ). map.get (map.remove p.agent.outstanding n) number) is.number ∙ none_left b (first_requested b) many p w.settings w.requested number;
     phase = refl;
     allocations = w.allocations;
     queue = w.queue;
@@ -189,16 +190,16 @@ module _ (b : Beginning) (many last : ℕ) (p : Protocol) (w : IsAsking b many l
 
   -- ---- a choice
 
-  module _ (h : HasAnswered) (numbered : IsChoice b (record { told = told; algorithm = h.algorithm; number = h.number; made = now }) → number_at (signed_request b (record { told = told; algorithm = h.algorithm; number = h.number; made = now })) ≡ h.number) where
+  module _ (h : HasAnswered) (numbered : IsChoice b (record { reported = reported; algorithm = h.algorithm; number = h.number; made = now }) → number_at (signed_request b (record { reported = reported; algorithm = h.algorithm; number = h.number; made = now })) ≡ h.number) where
     abbrev pub choice : Choice
-    choice = record { told = told; algorithm = h.algorithm; number = h.number; made = now }
+    choice = record { reported = reported; algorithm = h.algorithm; number = h.number; made = now }
 
-    -- it is a new number
+    -- The transaction ID is a new one.
     new_number : h.number ≡ first_number b → ⊥
     unfolding is_taken
     new_number same =
         let free = h.is_next.free in
-        let there : is_some (map.get p.agent.outstanding h.number) ≡ true = ap (λ (n : ℕ). is_some (map.get p.agent.outstanding n)) same ∙ ap is_some w.asked.there in
+        let there : is_some (map.get p.agent.outstanding h.number) ≡ true = ap (λ (n : ℕ). is_some (map.get p.agent.outstanding n)) same ∙ ap is_some w.requested.there in
         let taken : (is_some (map.get p.agent.outstanding h.number) || (awaits h.number p.phase || is_any_awaited h.number p.allocations)) ≡ true =
         ap (λ (x : Bool). x || (awaits h.number p.phase || is_any_awaited h.number p.allocations)) there in
         absurd (Prim.cc (sym taken ∙ free))
@@ -206,17 +207,17 @@ module _ (b : Beginning) (many last : ℕ) (p : Protocol) (w : IsAsking b many l
     chosen : IsChoice b choice
     chosen =
         let e = h.is_next.is in
-        record { message = bytes; shown = is.shown; answered = h.answered_by; fits = omega (arith, e); new = new_number }
+        record { message = bytes; visible = is.visible; answered = h.answered_by; fits = omega (arith, e); new = new_number }
 
     abbrev client : auth.Client
-    client = keeping p.auth told h.algorithm
+    client = keeping p.auth reported h.algorithm
 
     abbrev text : List ℕ
     text = request_text client (Allocate p.allocates p.families) h.number
 
     text_is : text ≡ signed_request b choice
     text_is =
-        ap (λ (x : auth.Client). request_text (keeping x told h.algorithm) (Allocate p.allocates p.families) h.number) w.auth
+        ap (λ (x : auth.Client). request_text (keeping x reported h.algorithm) (Allocate p.allocates p.families) h.number) w.auth
         ∙ (ap (λ (t : TransportType). request_text (signer_by b choice) (Allocate t p.families) h.number) w.settings.allocates
         ∙ ap (λ (l : List AddressFamily). request_text (signer_by b choice) (Allocate b.config.transport l) h.number) w.settings.families)
 
@@ -224,25 +225,25 @@ module _ (b : Beginning) (many last : ℕ) (p : Protocol) (w : IsAsking b many l
     key_is = ap number_at text_is ∙ numbered chosen
 
     abbrev made : Transaction
-    made = begun p.agent text p.server now
+    made = started p.agent text p.server now
 
-    made_is : made ≡ transaction_of b (signed_asked b choice) 1
+    made_is : made ≡ transaction_of b (signed_requested b choice) 1
     made_is =
-        ap (λ (l : List ℕ). begun p.agent l p.server now) text_is
-        ∙ (ap (λ (s : SocketAddr). begun p.agent (signed_request b choice) s now) w.settings.server
+        ap (λ (l : List ℕ). started p.agent l p.server now) text_is
+        ∙ (ap (λ (s : SocketAddr). started p.agent (signed_request b choice) s now) w.settings.server
         ∙ Prim.cc w.settings.waits)
 
-    -- both are outstanding, and then the second alone
+    -- Both requests are outstanding, and then the second alone.
     abbrev both : Table
     both = map.insert p.agent.outstanding (number_at text) made
 
-    first_stays : map.get both (first_number b) ≡ Some (transaction_of b (first_asked b) many)
+    first_stays : map.get both (first_number b) ≡ Some (transaction_of b (first_requested b) many)
     first_stays =
         let differ : is_eq (nat_cmp (first_number b) (number_at text)) ≡ false = apart (first_number b) (number_at text) (λ same. new_number (sym (same ∙ key_is))) in
         map.get-insert nat_cmp_total p.agent.outstanding (number_at text) made (first_number b)
-        ∙ (ap (λ (z : Bool). if z then Some made else map.get p.agent.outstanding (first_number b)) differ ∙ w.asked.there)
+        ∙ (ap (λ (z : Bool). if z then Some made else map.get p.agent.outstanding (first_number b)) differ ∙ w.requested.there)
 
-    second_only : IsOnlyAsked b (signed_asked b choice) 1 (answered_by (with_request p.agent text p.server now) bytes p.server)
+    second_only : IsOnlyRequested b (signed_requested b choice) 1 (answered_by (with_request p.agent text p.server now) bytes p.server)
     second_only = record {
       there =
           ap (λ (n : ℕ). map.get (map.remove both n) h.number) is.number
@@ -253,7 +254,7 @@ module _ (b : Beginning) (many last : ℕ) (p : Protocol) (w : IsAsking b many l
           elim (put_or p.agent.outstanding (number_at text) made other y found.1) [
             | inl same ↦ same.0 ∙ key_is
             | inr old ↦ clash (is_eq (nat_cmp other (number_at bytes)))
-                (ap (λ (n : ℕ). is_eq (nat_cmp n (number_at bytes))) (w.asked.only other y old.1 ∙ sym is.number) ∙ (eq_by_cmp_equiv nat_cmp_total).refl (number_at bytes)) found.0
+                (ap (λ (n : ℕ). is_eq (nat_cmp n (number_at bytes))) (w.requested.only other y old.1 ∙ sym is.number) ∙ (eq_by_cmp_equiv nat_cmp_total).refl (number_at bytes)) found.0
           ]);
     }
 
@@ -263,9 +264,9 @@ module _ (b : Beginning) (many last : ℕ) (p : Protocol) (w : IsAsking b many l
         ap (λ (x : Bool). if x then answered_by (with_request p.agent text p.server now) bytes p.server else with_request p.agent text p.server now)
         (ap (λ (x : Bool). x && is_awaited (with_request p.agent text p.server now) bytes) responds ∙ there)
 
-    -- what is kept then
+    -- The client's state afterwards.
     chooses_after : HasChosen b choice 1 last (challenged bytes (allocates_again h.number now (judged client p)))
-    unfolding challenged allocates_again asked
+    unfolding challenged allocates_again requested
     chooses_after = record {
       settings = record {
         server = w.settings.server;
@@ -277,9 +278,9 @@ module _ (b : Beginning) (many last : ℕ) (p : Protocol) (w : IsAsking b many l
         families = w.settings.families;
       };
       choice = chosen;
-      asked = subst (λ (y : agents.Agent). IsOnlyAsked b (signed_asked b choice) 1 y) (sym both_after) second_only;
+      requested = subst (λ (y : agents.Agent). IsOnlyRequested b (signed_requested b choice) 1 y) (sym both_after) second_only;
       phase = ap (λ (f : Phase). Authenticating (numbers_sent f ++ h.number ∷ [])) w.phase;
-      auth = ap (λ (x : auth.Client). keeping x told h.algorithm) w.auth;
+      auth = ap (λ (x : auth.Client). keeping x reported h.algorithm) w.auth;
       allocations = w.allocations;
       queue_is =
           ap (λ (l : List Queued). l ++ queued_request p.agent.here text ∷ []) w.queue

@@ -7,13 +7,13 @@ use Rattle.turn_client_proto_api.specs.StunProtoAgent.State as agents
 use Rattle.turn_client_proto_api.specs.declared.answer.TurnPollRet.{TurnPollRet}
 use Rattle.turn_client_proto_api.specs.declared.answer.TurnPollRet.TheVariants as answer
 use Rattle.turn_client_proto_api.specs.declared.event.TurnEvent.{TurnEvent}
-use Rattle.turn_client_proto_core.specs.Receiving.{IsHeard, IsHeardIn}
+use Rattle.turn_client_proto_core.specs.Receiving.{IsProcessed, IsProcessedIn}
 use Rattle.turn_client_proto_messages.specs.Waiting.{Queued, is_answer}
 use Rattle.turn_client_proto_core.specs.declared.protocol.Phase.{Phase}
 use Rattle.turn_client_proto_core.specs.declared.protocol.Protocol.{Protocol}
-use Rattle.turn_client_proto_timers.specs.Drawing.{Again, Fresh, IsAnswerSent, IsBegun, IsDrawn, IsNextSent, IsStill, is_resting}
+use Rattle.turn_client_proto_timers.specs.Drawing.{Again, Fresh, IsAnswerSent, IsStarted, IsTransmitted, IsNextSent, IsStill, is_resting}
 use Rattle.turn_client_proto_api.specs.Sent.{Sent}
-use Rattle.turn_client_proto_timers.specs.Polling.{HasToTellIn, IsPolled, IsPolledBy, IsPolledIn, ended_of, wait_of}
+use Rattle.turn_client_proto_timers.specs.Polling.{HasToReportIn, IsPolled, IsPolledBy, IsPolledIn, ended_of, wait_of}
 use Rattle.turn_client_proto_handshake_laws.specs.Stages.{HasEnded, answer_at_end}
 use Rattle.turn_client_proto_handshake_laws.proofs.Only.{either}
 use Rattle.turn_client_proto_handshake_laws.proofs.Polls.{idles, is_ticked, pause, refused_or}
@@ -21,21 +21,21 @@ use Rattle.turn_client_proto_handshake_laws.specs.Driving.{IsEventTaken}
 use Rattle.turn_client_proto_handshake_laws.specs.Sent.{Beginning}
 
 module _ (b : Beginning) (events : List TurnEvent) (p : Protocol) (w : HasEnded b events p) where
-  -- it is drawn nothing
-  pub ended_still : (now : ℕ) (sent : Option Sent) (q : Protocol) → IsDrawn p now sent q → (sent ≡ None) × (q ≡ p)
-  ended_still now sent q (Again one is r) = absurd (Prim.cc (sym (w.none_asked r.number) ∙ r.least.present))
+  -- It transmits nothing.
+  pub ended_still : (now : ℕ) (sent : Option Sent) (q : Protocol) → IsTransmitted p now sent q → (sent ≡ None) × (q ≡ p)
+  ended_still now sent q (Again one is r) = absurd (Prim.cc (sym (w.none_requested r.number) ∙ r.least.present))
   ended_still now sent q (Fresh none is) =
       either (IsStill p sent q) (is_resting p.last_send now)
-      (subst (λ (f : Phase). MatchBool (is_resting p.last_send now) (IsStill p sent q) (IsBegun f p now sent q)) w.phase
+      (subst (λ (f : Phase). MatchBool (is_resting p.last_send now) (IsStill p sent q) (IsStarted f p now sent q)) w.phase
       (subst (λ (l : List Queued). MatchBool (is_resting p.last_send now) (IsAnswerSent (find is_answer l) p sent q) (IsNextSent l p now sent q)) w.queue is))
 
-  -- no message is for it
-  pub ended_deaf : (bytes : List ℕ) (now : ℕ) (handled : Bool) (q : Protocol) → IsHeard p bytes now handled q → (handled ≡ false) × (q ≡ p)
-  ended_deaf bytes now handled q is = subst (λ (f : Phase). IsHeardIn f p bytes now handled q) w.phase is
+  -- No message is for it.
+  pub ended_deaf : (bytes : List ℕ) (now : ℕ) (handled : Bool) (q : Protocol) → IsProcessed p bytes now handled q → (handled ≡ false) × (q ≡ p)
+  ended_deaf bytes now handled q is = subst (λ (f : Phase). IsProcessedIn f p bytes now handled q) w.phase is
 
-  -- its events are taken in order
-  pub ended_tells : (event : Option TurnEvent) (q : Protocol) → IsEventTaken p event q → (left : List TurnEvent) × (events ≡ option_to_list event ++ left) × HasEnded b left q
-  ended_tells event q is = (
+  -- Its events are taken in order.
+  pub ended_reports : (event : Option TurnEvent) (q : Protocol) → IsEventTaken p event q → (left : List TurnEvent) × (events ≡ option_to_list event ++ left) × HasEnded b left q
+  ended_reports event q is = (
     q.events,
     sym w.events_are ∙ is.first,
     subst (λ (x : Protocol). HasEnded b q.events x) (sym is.others) (record {
@@ -48,7 +48,7 @@ module _ (b : Beginning) (events : List TurnEvent) (p : Protocol) (w : HasEnded 
         allocates = w.settings.allocates;
         families = w.settings.families;
       };
-      none_asked = w.none_asked;
+      none_requested = w.none_requested;
       phase = w.phase;
       allocations = w.allocations;
       queue = w.queue;
@@ -57,11 +57,11 @@ module _ (b : Beginning) (events : List TurnEvent) (p : Protocol) (w : HasEnded 
   )
 
   module _ (now : ℕ) (ret : TurnPollRet) (q : Protocol) where
-    -- no event waits: it is closed
+    -- No event is queued: it is closed.
     closed : p.events ≡ [] → IsPolledBy p.events p now ret q → (ret ≡ answer.Closed) × (q ≡ p)
     closed silent is =
         let k = is_ticked p now ret q silent (ap (list_any is_answer) w.queue) is in
-        let idle = idles p now ret q w.none_asked k.ticked k.agent k.is_ticked in
+        let idle = idles p now ret q w.none_requested k.ticked k.agent k.is_ticked in
         let here = subst (λ (f : Phase). IsPolledIn f (ended_of k.ticked) (wait_of (pause p now ret q) k.ticked) (record p { agent = k.agent }) now ret q) w.phase k.outcome in
         (here.0, here.1 ∙ ap (λ (y : agents.Agent). record p { agent = y }) idle.unchanged)
 
@@ -72,6 +72,6 @@ module _ (b : Beginning) (events : List TurnEvent) (p : Protocol) (w : HasEnded 
     pub ended_answers : IsPolled p now ret q → (ret ≡ answer_at_end events now) × (q ≡ p)
     ended_answers polled = elim (refused_or p now ret q polled) [
       | inl by ↦ answers events w.events_are by
-      | inr refused ↦ (let k = refused.1.has_to_tell in
-          absurd (subst (λ (f : Phase). HasToTellIn f (ended_of k.ticked) (record p { agent = k.agent }) now) w.phase k.tells))
+      | inr refused ↦ (let k = refused.1.has_to_report in
+          absurd (subst (λ (f : Phase). HasToReportIn f (ended_of k.ticked) (record p { agent = k.agent }) now) w.phase k.decodes))
     ]

@@ -1,4 +1,5 @@
--- What a client that signed makes of the success of its request, by the contract of `handle_message` alone.
+-- What a client that signed does with the success response to its request, by the contract of
+-- `handle_message` alone.
 use Rattle.std.proofs.Common.{inl, inr, ◌≡◌, ℕ, ◌++◌, map as map_list, Bool, true, false, List, [], ◌∷◌, Option, Some, None, refl, sym, ap, ◌∙◌, subst}
 use Rattle.std.specs.Prelude.{◌==◌, ◌&&◌, ◌||◌, Result, Ok, Err, is_some, if◌then◌else◌}
 use Rattle.std.specs.FinMap as map
@@ -14,8 +15,8 @@ use Rattle.turn_client_proto_api.specs.StunTypesWire.declared.class.MessageClass
 use Rattle.turn_client_proto_api.specs.StunTypesWire.Types.{class_of, is_response_class}
 use Rattle.stun_types_base.specs.declared.family.AddressFamily.{AddressFamily}
 use Rattle.stun_types_base.specs.declared.transport.TransportType.{TransportType}
-use Rattle.turn_client_proto_messages.specs.StunProtoClient.Challenges.{challenge_shown, is_challenge_code, is_error, told_of}
-use Rattle.turn_client_proto_api.specs.StunProtoAuth.Claims.{claimed, code_shown}
+use Rattle.turn_client_proto_messages.specs.StunProtoClient.Challenges.{challenge_visible, is_challenge_code, is_error, reported_of}
+use Rattle.turn_client_proto_api.specs.StunProtoAuth.Claims.{claimed, code_visible}
 use Rattle.turn_client_proto_messages.specs.StunProtoClient.Client as auth
 use Rattle.turn_client_proto_messages.specs.StunProtoClient.declared.error.LongTermClientAuthError.{LongTermClientAuthError}
 use Rattle.turn_client_proto_messages.specs.StunProtoClient.ClientSteps.{accepted_by}
@@ -26,7 +27,7 @@ use Rattle.turn_client_proto_api.specs.StunProtoAgent.Handling.{after_message, a
 use Rattle.turn_client_proto_api.specs.StunProtoAgent.State as agents
 use Rattle.turn_client_proto_messages.proofs.StunProtoClient.Stepping.{right_is_accepted}
 use Rattle.turn_client_proto_messages.specs.Allocation.Awaited.{has_number}
-use Rattle.turn_client_proto_messages.specs.Allocation.Listed.{relayed_shown}
+use Rattle.turn_client_proto_messages.specs.Allocation.Listed.{relayed_listed}
 use Rattle.turn_client_proto_messages.specs.Allocation.Refreshing.{granted}
 use Rattle.turn_client_proto_messages.specs.Allocation.declared.allocation.Allocation.{Allocation}
 use Rattle.turn_client_proto_api.specs.declared.event.TurnEvent.{TurnEvent}
@@ -34,7 +35,7 @@ use Rattle.turn_client_proto_api.specs.declared.event.TurnEvent.TheVariants.{All
 use Rattle.turn_client_proto_core.specs.Allocating.{IsAllocated, IsAllocatedFor, allocated, brought, phase_by}
 use Rattle.turn_client_proto_core.specs.Authenticating.{IsAccepted, IsAllocateAnswered, IsSignedJudged}
 use Rattle.turn_client_proto_core.specs.Outcomes.{IsHandled, IsIgnored}
-use Rattle.turn_client_proto_core.specs.Receiving.{IsFollowed, IsHeard, IsHeardIn}
+use Rattle.turn_client_proto_core.specs.Receiving.{IsFollowed, IsProcessed, IsProcessedIn}
 use Rattle.turn_client_proto_core.specs.Responding.{accepted, judged}
 use Rattle.turn_client_proto_messages.specs.Waiting.{Queued}
 use Rattle.turn_client_proto_core.specs.declared.protocol.Phase.{Phase}
@@ -42,10 +43,10 @@ use Rattle.turn_client_proto_core.specs.declared.protocol.Phase.TheVariants.{Aut
 use Rattle.turn_client_proto_core.specs.declared.protocol.Protocol.{Protocol}
 use Rattle.turn_client_proto_messages.specs.Judging.{IsJudged}
 use Rattle.turn_client_proto_messages.specs.Granting.{allocations_of, families_without, first_of_each}
-use Rattle.turn_client_proto_messages.specs.Telling.{created}
-use Rattle.turn_client_proto_messages.specs.Told.{relayed_told}
-use Rattle.turn_client_proto_handshake_laws.specs.Choosing.{Choice, signed_asked, signer_by, standing_by}
-use Rattle.turn_client_proto_handshake_laws.specs.Stages.{AsksForOne, Holds, IsGrant, IsSigning, created as created_told}
+use Rattle.turn_client_proto_messages.specs.Reporting.{created}
+use Rattle.turn_client_proto_messages.specs.Reported.{relayed_reported}
+use Rattle.turn_client_proto_handshake_laws.specs.Choosing.{Choice, signed_requested, signer_by, standing_by}
+use Rattle.turn_client_proto_handshake_laws.specs.Stages.{AsksForOne, Holds, IsGrant, IsSigning, created as created_reported}
 use Rattle.turn_client_proto_handshake_laws.proofs.Only.{none_left, where_true}
 use Rattle.turn_client_proto_handshake_laws.proofs.Polls.{refused_or}
 use Rattle.turn_client_proto_api.specs.declared.answer.TurnPollRet.{TurnPollRet}
@@ -53,22 +54,22 @@ use Rattle.turn_client_proto_api.specs.declared.answer.TurnPollRet.TheVariants a
 use Rattle.turn_client_proto_timers.specs.Polling.{IsPolled, IsPolledBy}
 use Rattle.turn_client_proto_handshake_laws.specs.Sent.{Beginning, first_number}
 
--- a success is a response, and no challenge
+-- A success is a response, and no challenge.
 pub successes_respond : (bytes : List ℕ) → class_of (kind_at bytes) ≡ Success → is_response bytes ≡ true
 successes_respond bytes is = ap is_response_class is
 
-pub no_challenge : (bytes : List ℕ) → class_of (kind_at bytes) ≡ Success → challenge_shown bytes ≡ None
-no_challenge bytes is = ap (λ (c : MessageClass). if is_error c && is_challenge_code (code_shown bytes) then told_of (claimed bytes) else None) is
+pub no_challenge : (bytes : List ℕ) → class_of (kind_at bytes) ≡ Success → challenge_visible bytes ≡ None
+no_challenge bytes is = ap (λ (c : MessageClass). if is_error c && is_challenge_code (code_visible bytes) then reported_of (claimed bytes) else None) is
 
 -- ---- one address of one family
 
--- it is the one allocation
+-- The address gives exactly one allocation.
 one_brought : (address : SocketAddr) (transport : TransportType) (lifetime now : ℕ) → allocations_of (family_of_socket address ∷ []) transport lifetime now (address ∷ []) ≡ granted transport address lifetime now ∷ []
 unfolding first_of_each
 one_brought (socket.V4 a) transport lifetime now = refl
 one_brought (socket.V6 a) transport lifetime now = refl
 
--- and no family is without
+-- No family is without an address.
 none_without : (address : SocketAddr) (transport : TransportType) (lifetime now : ℕ) → families_without (family_of_socket address ∷ []) (granted transport address lifetime now ∷ []) ≡ []
 none_without (socket.V4 a) transport lifetime now = refl
 none_without (socket.V6 a) transport lifetime now = refl
@@ -76,15 +77,15 @@ none_without (socket.V6 a) transport lifetime now = refl
 module _ (b : Beginning) (c : Choice) (many last : ℕ) (queue : List Queued) (p : Protocol) (w : IsSigning b c many last queue p) (address : SocketAddr) (lifetime : ℕ) (bytes : List ℕ)
     (is : IsGrant b c address lifetime bytes) (now : ℕ) (handled : Bool) (q : Protocol) where
   awaited : is_awaited p.agent bytes ≡ true
-  awaited = ap (λ (n : ℕ). is_some (map.get p.agent.outstanding n)) is.number ∙ ap is_some w.asked.there
+  awaited = ap (λ (n : ℕ). is_some (map.get p.agent.outstanding n)) is.number ∙ ap is_some w.requested.there
 
   responds : is_response bytes ≡ true
   responds = successes_respond bytes is.success
 
-  stands : auth.standing_of p.auth ≡ Some (standing_by b c)
-  stands = ap auth.standing_of w.auth
+  occurs : auth.standing_of p.auth ≡ Some (standing_by b c)
+  occurs = ap auth.standing_of w.auth
 
-  -- it was accepted
+  -- The response was accepted.
   pub record HasAllocated : Type 0 where
     pub client : auth.Client
     pub client_is : client ≡ going_by (signer_by b c) (Some c.algorithm)
@@ -100,19 +101,19 @@ module _ (b : Beginning) (c : Choice) (many last : ℕ) (queue : List Queued) (p
       record { client = client; client_is = client_is; is_handled = e.0; after = e.1 }
 
   accepted_so : (verdict : Result LongTermClientValidation LongTermClientAuthError) (client : auth.Client) → IsJudged p.auth bytes verdict client → accepted_by verdict ≡ Some c.algorithm
-  accepted_so verdict client j = right_is_accepted p.auth client bytes (standing_by b c) verdict j (no_challenge bytes is.success) stands is.right
+  accepted_so verdict client j = right_is_accepted p.auth client bytes (standing_by b c) verdict j (no_challenge bytes is.success) occurs is.right
 
   by_verdict : (verdict : Result LongTermClientValidation LongTermClientAuthError) (client : auth.Client) → IsJudged p.auth bytes verdict client → IsSignedJudged verdict (judged client p) bytes now handled q → HasAllocated
   by_verdict (Ok (ResendRequest choice)) client j out = absurd (Prim.cc (accepted_so (Ok (ResendRequest choice)) client j))
   by_verdict (Ok (Validated algorithm)) client j out =
       let same : Some algorithm ≡ Some c.algorithm = accepted_so (Ok (Validated algorithm)) client j in
-      taken client (j.kept ∙ (ap (λ (a : Option IntegrityAlgorithm). going_by p.auth a) same ∙ ap (λ (x : auth.Client). going_by x (Some c.algorithm)) w.auth)) out
+      taken client (j.stored ∙ (ap (λ (a : Option IntegrityAlgorithm). going_by p.auth a) same ∙ ap (λ (x : auth.Client). going_by x (Some c.algorithm)) w.auth)) out
   by_verdict (Err error) client j out = absurd (Prim.cc (accepted_so (Err error) client j))
 
-  pub success_heard : IsHeard p bytes now handled q → HasAllocated
-  success_heard heard =
+  pub success_processed : IsProcessed p bytes now handled q → HasAllocated
+  success_processed processed =
       let numbers = first_number b ∷ c.number ∷ [] in
-      let in_phase : IsHeardIn (Authenticating (first_number b ∷ c.number ∷ [])) p bytes now handled q = subst (λ (f : Phase). IsHeardIn f p bytes now handled q) w.phase heard in
+      let in_phase : IsProcessedIn (Authenticating (first_number b ∷ c.number ∷ [])) p bytes now handled q = subst (λ (f : Phase). IsProcessedIn f p bytes now handled q) w.phase processed in
       let among : has_number (number_at bytes) numbers ≡ true =
       ap (λ (n : ℕ). has_number n numbers) is.number ∙ (ap (λ (x : Bool). (first_number b == c.number) || (x || false)) (eq-eqb c.number c.number refl) ∙ any (first_number b == c.number)) in
       let both : (is_response bytes && has_number (number_at bytes) numbers) ≡ true = ap (λ (x : Bool). x && has_number (number_at bytes) numbers) responds ∙ among in
@@ -133,12 +134,12 @@ module _ (b : Beginning) (c : Choice) (many last : ℕ) (queue : List Queued) (p
     families_are = w.settings.families ∙ one
 
     abbrev all : List Allocation
-    all = allocations_of p.families p.allocates lifetime now (relayed_told bytes)
+    all = allocations_of p.families p.allocates lifetime now (relayed_reported bytes)
 
     all_is : all ≡ granted b.config.transport address lifetime now ∷ []
     all_is =
-        ap (λ (l : List AddressFamily). allocations_of l p.allocates lifetime now (relayed_told bytes)) families_are
-        ∙ (ap (λ (t : TransportType). allocations_of (family_of_socket address ∷ []) t lifetime now (relayed_told bytes)) w.settings.allocates
+        ap (λ (l : List AddressFamily). allocations_of l p.allocates lifetime now (relayed_reported bytes)) families_are
+        ∙ (ap (λ (t : TransportType). allocations_of (family_of_socket address ∷ []) t lifetime now (relayed_reported bytes)) w.settings.allocates
         ∙ (ap (λ (l : List SocketAddr). allocations_of (family_of_socket address ∷ []) b.config.transport lifetime now l) is.relayed
         ∙ one_brought address b.config.transport lifetime now))
 
@@ -154,8 +155,8 @@ module _ (b : Beginning) (c : Choice) (many last : ℕ) (queue : List Queued) (p
         ∙ (ap (λ (l : List AddressFamily). map_list created all ++ map_list AllocationCreateFailed l) without_is
         ∙ ap (λ (l : List Allocation). map_list created l ++ []) all_is)
 
-    -- the client that holds it
-    holds_after : Holds b c address lifetime now last queue (created_told b address) (record p {
+    -- The client that holds the allocation.
+    holds_after : Holds b c address lifetime now last queue (created_reported b address) (record p {
       auth = h.client;
       agent = answered_by p.agent bytes p.server;
       phase = phase_by all;
@@ -173,11 +174,11 @@ module _ (b : Beginning) (c : Choice) (many last : ℕ) (queue : List Queued) (p
         allocates = w.settings.allocates;
         families = w.settings.families;
       };
-      none_asked = λ number. ap (λ (n : ℕ). map.get (map.remove p.agent.outstanding n) number) is.number ∙ none_left b (signed_asked b c) many p w.settings w.asked number;
+      none_requested = λ number. ap (λ (n : ℕ). map.get (map.remove p.agent.outstanding n) number) is.number ∙ none_left b (signed_requested b c) many p w.settings w.requested number;
       phase = ap phase_by all_is;
       auth = h.client_is;
       allocations = all_is;
-      shown = ap relayed_shown all_is;
+      visible = ap relayed_listed all_is;
       queue_is = w.queue_is;
       last_send = w.last_send;
       events_are = events_are;
@@ -185,12 +186,12 @@ module _ (b : Beginning) (c : Choice) (many last : ℕ) (queue : List Queued) (p
       resends = refl;
     }
 
-    pub holds : Holds b c address lifetime now last queue (created_told b address) q
+    pub holds : Holds b c address lifetime now last queue (created_reported b address) q
     unfolding allocated accepted
-    holds = subst (λ (x : Protocol). Holds b c address lifetime now last queue (created_told b address) x)
+    holds = subst (λ (x : Protocol). Holds b c address lifetime now last queue (created_reported b address) x)
         (sym (h.after ∙ ap (λ (y : agents.Agent). allocated (brought (record p { auth = h.client; agent = y; resends = 0 }) bytes lifetime now) (record p { auth = h.client; agent = y; resends = 0 })) agent_after)) holds_after
 
--- polled while an event waits, a client answers that one does
+-- While an event is queued, `poll` returns `WaitUntil` now.
 pub holding_polled : (p : Protocol) (event : TurnEvent) (others : List TurnEvent) → p.events ≡ event ∷ others → (now : ℕ) (ret : TurnPollRet) (q : Protocol) → IsPolled p now ret q
     → (ret ≡ answer.WaitUntil now) × (q ≡ p)
 holding_polled p event others waits now ret q polled = elim (refused_or p now ret q polled) [

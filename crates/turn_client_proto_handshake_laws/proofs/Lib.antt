@@ -7,7 +7,7 @@ pub mod Steps
 pub mod Waiting
 pub mod Asking
 pub mod Challenged
-pub mod StreamFronts
+pub mod StreamHeads
 pub mod Coming
 pub mod Ended
 pub mod First
@@ -17,5 +17,5 @@ pub mod Only
 pub mod Polls
 pub mod Request
 pub mod Signing
-pub mod Told
+pub mod Reported
 pub mod Unserved

@@ -1,8 +1,8 @@
--- The slots in numbers: that over TCP, and those of a client whose waits were not set.
+-- The slots in numbers: that over TCP, and those of a client with the default waits.
 use Rattle.std.proofs.Common.{◌≡◌, ◌≤◌, ◌+◌, ◌^◌, ℕ, arith, true, false, List, [], ◌∷◌, map, refl, ap, ◌∙◌}
 use Rattle.std.specs.List.{AllByRecursion}
 use Rattle.stun_types_base.specs.declared.transport.TransportType.{TransportType}
-use Rattle.stun_types_base.specs.Moments.{moment_after}
+use Rattle.stun_types_base.specs.Times.{time_after}
 use Rattle.turn_client_proto_api.specs.StunProtoTransaction.Schedule.{Waits, end_at, slots}
 use Rattle.turn_client_proto_api.specs.StunProtoAgent.State.{default_waits, is_tcp}
 use Rattle.turn_client_proto_handshake_laws.specs.Driving.{client_end}
@@ -10,16 +10,16 @@ use Rattle.turn_client_proto_handshake_laws.specs.Promises.{AreSlots, usual_end,
 use Rattle.turn_client_proto_handshake_laws.specs.Sent.{Beginning}
 
 module _ (made : ℕ) (early : made ≤ client_end) where
-  -- no moment of it is behind the greatest one
-  soon : (nanos : ℕ) → nanos ≤ 2 ^ 62 → moment_after made nanos ≡ made + nanos
+  -- No time of the schedule is after the latest one.
+  soon : (nanos : ℕ) → nanos ≤ 2 ^ 62 → time_after made nanos ≡ made + nanos
   soon nanos few = omega (arith, few, early)
 
   both : (x y : ℕ) (xs ys : List ℕ) → x ≡ y → xs ≡ ys → x ∷ xs ≡ y ∷ ys
   both x y xs ys first rest = ap (λ (n : ℕ). n ∷ xs) first ∙ ap (λ (l : List ℕ). y ∷ l) rest
 
-  each : (all : List ℕ) → AllByRecursion (λ n. n ≤ 2 ^ 62) all → map (moment_after made) all ≡ map (λ nanos. made + nanos) all
+  each : (all : List ℕ) → AllByRecursion (λ n. n ≤ 2 ^ 62) all → map (time_after made) all ≡ map (λ nanos. made + nanos) all
   each [] few = refl
-  each (n ∷ all) few = both (moment_after made n) (made + n) (map (moment_after made) all) (map (λ nanos. made + nanos) all) (soon n few.0) (each all few.1)
+  each (n ∷ all) few = both (time_after made n) (made + n) (map (time_after made) all) (map (λ nanos. made + nanos) all) (soon n few.0) (each all few.1)
 
   few_nanos : AllByRecursion (λ n. n ≤ 2 ^ 62) usual_slots
   few_nanos = (omega arith, (omega arith, (omega arith, (omega arith, (omega arith, (omega arith, (omega arith, tt)))))))

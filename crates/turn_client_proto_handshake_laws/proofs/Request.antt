@@ -1,4 +1,4 @@
--- What the requests of a handshake are, by the laws of a client's requests.
+-- What the requests of a handshake are, by the lemmas on a client's requests.
 use Rattle.std.proofs.Common.{◌≡◌, ℕ, ◌<◌, ◌≤◌, ◌^◌, arith, List, length, Some, None, refl}
 use Rattle.std.specs.Prelude.{true, IfSome, Result, Ok, MatchResult}
 use Rattle.turn_client_proto_api.specs.StunTypesWire.Grammar.{number_at, refusal}
@@ -7,7 +7,7 @@ use Rattle.turn_client_proto_messages.specs.StunTypesWrite.ValueReading.{utf8_re
 use Rattle.turn_client_proto_api.specs.StunProtoAuth.Claims.{claimed}
 use Rattle.turn_client_proto_messages.specs.StunProtoClient.Client.{Client, Standing, standing_key, standing_of}
 use Rattle.turn_client_proto_messages.specs.StunProtoClient.declared.error.LongTermClientAuthError.{LongTermClientAuthError}
-use Rattle.turn_client_proto_messages.specs.StunProtoClient.ClientValidation.{IsTaken, IsTurnedDown}
+use Rattle.turn_client_proto_messages.specs.StunProtoClient.ClientValidation.{IsTaken, IsRejected}
 use Rattle.turn_client_proto_messages.specs.StunProtoClient.declared.validation.LongTermClientValidation.{LongTermClientValidation}
 use Rattle.turn_client_proto_messages.specs.StunProtoClient.declared.validation.LongTermClientValidation.TheVariants.{ResendRequest}
 use Rattle.turn_client_proto_messages.specs.StunProtoClient.Digests.{IsRight}
@@ -17,60 +17,60 @@ use Rattle.turn_client_proto_messages.specs.OwnClaims.{own_claim}
 use Rattle.turn_client_proto_messages.specs.ReadTexts.{HasReadTexts}
 use Rattle.turn_client_proto_messages.specs.Requests.{is_signed, request_text}
 use Rattle.turn_client_proto_messages.specs.ShortTexts.{HasShortTexts}
-use Rattle.turn_client_proto_messages.specs.ToldRequests.{CanBeRead, IsLawfulRequest, told_request}
+use Rattle.turn_client_proto_messages.specs.ReportedRequests.{CanBeRead, IsLawfulRequest, reported_request}
 use Rattle.turn_client_proto_messages.specs.declared.request.TurnRequest.{TurnRequest}
 use Rattle.turn_client_proto_messages.specs.declared.request.TurnRequest.TheVariants.{FirstAllocate}
-use Rattle.turn_client_proto_messages.specs.TurnRuns.StunWire.{told_by}
+use Rattle.turn_client_proto_messages.specs.TurnRuns.StunWire.{decoded_by}
 use Rattle.turn_client_proto_handshake_laws.specs.Choosing.{Choice, HasTextName, IsChoice, IsSignedAllocate, allocate_of, signer_by, signed_request, standing_by}
 use Rattle.turn_client_proto_handshake_laws.specs.Sent.{Beginning, HasRoom, first_number, first_request}
 
 -- ---- the laws that are used
 
--- texts are short where the user's name is, and stay so
+-- Texts are short if the user's name is, and stay so.
 abbrev pub AreShort : Type 0
 AreShort = (client : Client) → client.challenge ≡ None → IfSome client.account (λ account. length account.username ≤ longest_username) → HasShortTexts client
 
 abbrev pub StayShort : Type 0
 StayShort = (old new : Client) (bytes : List ℕ) (result : Result LongTermClientValidation LongTermClientAuthError)
-    → MatchResult result (λ answer. IsTaken old bytes answer new) (λ error. IsTurnedDown old bytes error new) → HasShortTexts old → HasShortTexts new
+    → MatchResult result (λ answer. IsTaken old bytes answer new) (λ error. IsRejected old bytes error new) → HasShortTexts old → HasShortTexts new
 
--- the same of texts that can be read
+-- Texts can be decoded if the user's name can, and stay so.
 abbrev pub AreRead : Type 0
 AreRead = (client : Client) → client.challenge ≡ None → IfSome client.account (λ account. utf8_refusal account.username ≡ None) → HasReadTexts client
 
 abbrev pub StayRead : Type 0
 StayRead = (old new : Client) (bytes : List ℕ) (result : Result LongTermClientValidation LongTermClientAuthError)
-    → MatchResult result (λ answer. IsTaken old bytes answer new) (λ error. IsTurnedDown old bytes error new) → HasReadTexts old → HasReadTexts new
+    → MatchResult result (λ answer. IsTaken old bytes answer new) (λ error. IsRejected old bytes error new) → HasReadTexts old → HasReadTexts new
 
--- a request shows its number
+-- A request contains its transaction ID.
 abbrev pub AreNumbered : Type 0
 AreNumbered = (auth : Client) (request : TurnRequest) (number : ℕ) → HasShortTexts auth → IsLawfulRequest request → number < 2 ^ 96 → number_at (request_text auth request number) ≡ number
 
--- it is a message, of class request
+-- A request is a message of class request.
 abbrev pub AreMessages : Type 0
 AreMessages = (auth : Client) (request : TurnRequest) (number : ℕ) → HasShortTexts auth → IsLawfulRequest request → number < 2 ^ 96 → refusal (request_text auth request number) ≡ None
 
 abbrev pub AreRequests : Type 0
 AreRequests = (auth : Client) (request : TurnRequest) (number : ℕ) → is_request (request_text auth request number) ≡ true
 
--- and tells what it asks for
-abbrev pub AreTold : Type 0
-AreTold = (auth : Client) (request : TurnRequest) (number : ℕ) → HasShortTexts auth → IsLawfulRequest request → number < 2 ^ 96 → CanBeRead request number → told_by (request_text auth request number) ≡ told_request request number
+-- A request decodes as what it asks for.
+abbrev pub AreReported : Type 0
+AreReported = (auth : Client) (request : TurnRequest) (number : ℕ) → HasShortTexts auth → IsLawfulRequest request → number < 2 ^ 96 → CanBeRead request number → decoded_by (request_text auth request number) ≡ reported_request request number
 
--- one that is signed is right under the standing key
+-- A signed request validates under the key in use.
 abbrev pub AreValid : Type 0
 AreValid = (auth : Client) (request : TurnRequest) (number : ℕ) (standing : Standing) → HasShortTexts auth → IsLawfulRequest request → number < 2 ^ 96 → is_signed request ≡ true
     → standing_of auth ≡ Some standing → IsRight (request_text auth request number) (standing_key standing)
 
--- and claims what the challenge asks for
+-- A signed request claims what the challenge asks for.
 abbrev pub AreClaims : Type 0
 AreClaims = (auth : Client) (request : TurnRequest) (number : ℕ) (standing : Standing) → HasShortTexts auth → HasReadTexts auth → IsLawfulRequest request → number < 2 ^ 96 → is_signed request ≡ true
     → standing_of auth ≡ Some standing → claimed (request_text auth request number) ≡ own_claim auth.anonymous_username standing
 
--- the texts of who signs can be read
+-- The texts of the signer can be decoded.
 pub signed_read : (b : Beginning) (c : Choice) → IsChoice b c → HasTextName b.config → AreRead → StayRead → HasReadTexts (signer_by b c)
 signed_read b c chosen text read stay_read =
-    let taken : IsTaken (signer_of b.config) chosen.message (ResendRequest c.algorithm) (signer_by b c) = record { told = c.told; shown = chosen.shown; answerable = chosen.answered; kept = refl } in
+    let taken : IsTaken (signer_of b.config) chosen.message (ResendRequest c.algorithm) (signer_by b c) = record { reported = c.reported; visible = chosen.visible; answerable = chosen.answered; stored = refl } in
     stay_read (signer_of b.config) (signer_by b c) chosen.message (Ok (ResendRequest c.algorithm)) taken (read (signer_of b.config) refl text)
 
 module _ (b : Beginning) (room : HasRoom b.config) (short : AreShort) where
@@ -82,28 +82,28 @@ module _ (b : Beginning) (room : HasRoom b.config) (short : AreShort) where
   number_fits : first_number b < 2 ^ 96
   number_fits = omega arith
 
-  pub first_shown : AreNumbered → number_at (first_request b) ≡ first_number b
-  first_shown numbered = numbered (signer_of b.config) (FirstAllocate b.config.transport b.config.families) (first_number b) texts_short room.1 number_fits
+  pub first_visible : AreNumbered → number_at (first_request b) ≡ first_number b
+  first_visible numbered = numbered (signer_of b.config) (FirstAllocate b.config.transport b.config.families) (first_number b) texts_short room.1 number_fits
 
   -- ---- the signed one
 
   module _ (c : Choice) (chosen : IsChoice b c) (stay : StayShort) where
-    -- the challenge was taken
+    -- The challenge was accepted.
     taken : IsTaken (signer_of b.config) chosen.message (ResendRequest c.algorithm) (signer_by b c)
-    taken = record { told = c.told; shown = chosen.shown; answerable = chosen.answered; kept = refl }
+    taken = record { reported = c.reported; visible = chosen.visible; answerable = chosen.answered; stored = refl }
 
     pub signed_short : HasShortTexts (signer_by b c)
     signed_short = stay (signer_of b.config) (signer_by b c) chosen.message (Ok (ResendRequest c.algorithm)) taken texts_short
 
-    pub signed_shown : AreNumbered → number_at (signed_request b c) ≡ c.number
-    signed_shown numbered = numbered (signer_by b c) (allocate_of b) c.number signed_short room.1 chosen.fits
+    pub signed_listed : AreNumbered → number_at (signed_request b c) ≡ c.number
+    signed_listed numbered = numbered (signer_by b c) (allocate_of b) c.number signed_short room.1 chosen.fits
 
-    pub signed_allocates : HasTextName b.config → AreNumbered → AreMessages → AreRequests → AreTold → AreValid → AreRead → StayRead → AreClaims → IsSignedAllocate b c
-    signed_allocates text numbered messages requests told valid read stay_read claims = record {
+    pub signed_allocates : HasTextName b.config → AreNumbered → AreMessages → AreRequests → AreReported → AreValid → AreRead → StayRead → AreClaims → IsSignedAllocate b c
+    signed_allocates text numbered messages requests reported valid read stay_read claims = record {
       message = messages (signer_by b c) (allocate_of b) c.number signed_short room.1 chosen.fits;
       request = requests (signer_by b c) (allocate_of b) c.number;
-      number = signed_shown numbered;
-      told = told (signer_by b c) (allocate_of b) c.number signed_short room.1 chosen.fits tt;
+      number = signed_listed numbered;
+      reported = reported (signer_by b c) (allocate_of b) c.number signed_short room.1 chosen.fits tt;
       valid = valid (signer_by b c) (allocate_of b) c.number (standing_by b c) signed_short room.1 chosen.fits refl refl;
       claims = claims (signer_by b c) (allocate_of b) c.number (standing_by b c) signed_short (signed_read b c chosen text read stay_read) room.1 chosen.fits refl refl;
     }

@@ -1,4 +1,5 @@
--- A client that answered a challenge: what it draws and answers, by the contracts of `poll_transmit` and `poll` alone.
+-- A client that answered a challenge: what it transmits and what its calls return, by the contracts of
+-- `poll_transmit` and `poll` alone.
 use Rattle.std.proofs.Common.{◌≡◌, ℕ, ◌+◌, ◌<◌, ◌≤◌, ◌++◌, map as map_list, Bool, true, false, List, [], ◌∷◌, Option, Some, None, refl, sym, ap, ◌∙◌, subst, ◌⊎◌, inl, inr}
 use Rattle.std.specs.Prelude.{◌==◌, ◌||◌, find}
 use Rattle.std.specs.Bool.{MatchBool}
@@ -6,8 +7,8 @@ use Rattle.std.specs.FinMap as map
 use Rattle.std.specs.List.{list_any}
 use Rattle.std.proofs.lemmas.Bool.{eq-eqb, le-ltb, lt-ltb}
 use Rattle.stun_types_base.specs.declared.family.AddressFamily.{AddressFamily}
-use Rattle.stun_types_base.specs.Moments.{moment_after}
-use Rattle.turn_client_proto_api.specs.StunProtoAgent.Sending.{kept_under}
+use Rattle.stun_types_base.specs.Times.{time_after}
+use Rattle.turn_client_proto_api.specs.StunProtoAgent.Sending.{stored_under}
 use Rattle.turn_client_proto_api.specs.declared.answer.TurnPollRet.{TurnPollRet}
 use Rattle.turn_client_proto_api.specs.declared.answer.TurnPollRet.TheVariants as answer
 use Rattle.turn_client_proto_api.specs.declared.event.TurnEvent.{TurnEvent}
@@ -16,11 +17,11 @@ use Rattle.turn_client_proto_core.specs.Ending.{HasFailed, ended}
 use Rattle.turn_client_proto_messages.specs.Waiting.{Queued, is_answer}
 use Rattle.turn_client_proto_core.specs.declared.protocol.Phase.{Phase}
 use Rattle.turn_client_proto_core.specs.declared.protocol.Protocol.{Protocol}
-use Rattle.turn_client_proto_timers.specs.Drawing.{IsAnswerSent, IsBegun, IsDrawn, IsNextSent, IsQueuedSent, IsStill, after_sending, is_resting}
+use Rattle.turn_client_proto_timers.specs.Drawing.{IsAnswerSent, IsStarted, IsTransmitted, IsNextSent, IsQueuedSent, IsStill, after_sending, is_resting}
 use Rattle.turn_client_proto_api.specs.Sent.{Sent}
 use Rattle.turn_client_proto_timers.specs.Polling.{IsPolled, cadence}
-use Rattle.turn_client_proto_handshake_laws.specs.Asked.{IsDue, IsOnlyAsked, IsPatient, IsQuiet, end_of, transaction_of}
-use Rattle.turn_client_proto_handshake_laws.specs.Choosing.{Choice, signed_asked, signed_sent}
+use Rattle.turn_client_proto_handshake_laws.specs.Requested.{IsDue, IsOnlyRequested, IsPatient, IsQuiet, end_of, transaction_of}
+use Rattle.turn_client_proto_handshake_laws.specs.Choosing.{Choice, signed_requested, signed_sent}
 use Rattle.turn_client_proto_handshake_laws.specs.Stages.{HasChosen, HasEnded, HasSigned, IsSigning, failures, signed_queued}
 use Rattle.turn_client_proto_handshake_laws.proofs.First.{sends_one}
 use Rattle.turn_client_proto_handshake_laws.proofs.Only.{due_or_quiet, IsSentAgain, either, none_left, sent_again, sent_fresh, where_false, where_true}
@@ -28,10 +29,10 @@ use Rattle.turn_client_proto_handshake_laws.proofs.Polls.{patient, patient_for, 
 use Rattle.turn_client_proto_handshake_laws.specs.Sent.{Beginning, first_number}
 
 module _ (b : Beginning) (c : Choice) (many last : ℕ) (queue : List Queued) (p : Protocol) (w : IsSigning b c many last queue p) where
-  -- ---- it is drawn
+  -- ---- it is transmitted
 
-  again_after : (now : ℕ) → IsOnlyAsked b (signed_asked b c) (many + 1) (kept_under p.agent c.number (transaction_of b (signed_asked b c) (many + 1)))
-      → IsSigning b c (many + 1) now queue (after_sending now (record p { agent = kept_under p.agent c.number (transaction_of b (signed_asked b c) (many + 1)) }))
+  again_after : (now : ℕ) → IsOnlyRequested b (signed_requested b c) (many + 1) (stored_under p.agent c.number (transaction_of b (signed_requested b c) (many + 1)))
+      → IsSigning b c (many + 1) now queue (after_sending now (record p { agent = stored_under p.agent c.number (transaction_of b (signed_requested b c) (many + 1)) }))
   again_after now only = record {
     settings = record {
       server = w.settings.server;
@@ -43,7 +44,7 @@ module _ (b : Beginning) (c : Choice) (many last : ℕ) (queue : List Queued) (p
       families = w.settings.families;
     };
     choice = w.choice;
-    asked = only;
+    requested = only;
     phase = w.phase;
     auth = w.auth;
     allocations = w.allocations;
@@ -54,18 +55,18 @@ module _ (b : Beginning) (c : Choice) (many last : ℕ) (queue : List Queued) (p
     resends = w.resends;
   }
 
-  -- where a transmission of the signed request is due, it is sent at once
-  pub signing_again : (now : ℕ) (sent : Option Sent) (q : Protocol) → IsDue b (signed_asked b c) many now → IsDrawn p now sent q
+  -- If a transmission of the signed request is due, it is transmitted at once.
+  pub signing_again : (now : ℕ) (sent : Option Sent) (q : Protocol) → IsDue b (signed_requested b c) many now → IsTransmitted p now sent q
       → (sent ≡ Some (signed_sent b c)) × IsSigning b c (many + 1) now queue q
   signing_again now sent q due is =
-      let s : IsSentAgain b (signed_asked b c) many p w.settings w.asked now sent q = sent_again b (signed_asked b c) many p w.settings w.asked now sent q due is in
-      (s.sent_is, subst (λ (x : Protocol). IsSigning b c (many + 1) now queue x) (sym s.after) (again_after now s.is_asked))
+      let s : IsSentAgain b (signed_requested b c) many p w.settings w.requested now sent q = sent_again b (signed_requested b c) many p w.settings w.requested now sent q due is in
+      (s.sent_is, subst (λ (x : Protocol). IsSigning b c (many + 1) now queue x) (sym s.after) (again_after now s.is_requested))
 
-  fresh : (now : ℕ) (sent : Option Sent) (q : Protocol) → IsQuiet b (signed_asked b c) many now → IsDrawn p now sent q
+  fresh : (now : ℕ) (sent : Option Sent) (q : Protocol) → IsQuiet b (signed_requested b c) many now → IsTransmitted p now sent q
       → MatchBool (is_resting p.last_send now) (IsAnswerSent (find is_answer queue) p sent q) (IsNextSent queue p now sent q)
   fresh now sent q quiet is =
       subst (λ (l : List Queued). MatchBool (is_resting p.last_send now) (IsAnswerSent (find is_answer l) p sent q) (IsNextSent l p now sent q)) w.queue_is
-      (sent_fresh b (signed_asked b c) many p w.settings w.asked now sent q quiet is)
+      (sent_fresh b (signed_requested b c) many p w.settings w.requested now sent q quiet is)
 
   -- ---- it is polled
 
@@ -80,19 +81,19 @@ module _ (b : Beginning) (c : Choice) (many last : ℕ) (queue : List Queued) (p
     pub none_answers : list_any is_answer p.queue ≡ false
     none_answers = ap (list_any is_answer) w.queue_is ∙ unanswered
 
-    pub signing_waits : (now : ℕ) (ret : TurnPollRet) (q : Protocol) → now < end_of b (signed_asked b c) → IsPolled p now ret q
-        → IsAwaiting p now ret q b (signed_asked b c) many w.settings w.asked (first_number b ∷ c.number ∷ []) (inr w.phase) w.events none_answers
+    pub signing_waits : (now : ℕ) (ret : TurnPollRet) (q : Protocol) → now < end_of b (signed_requested b c) → IsPolled p now ret q
+        → IsAwaiting p now ret q b (signed_requested b c) many w.settings w.requested (first_number b ∷ c.number ∷ []) (inr w.phase) w.events none_answers
     signing_waits now ret q before is =
-        awaits p now ret q b (signed_asked b c) many w.settings w.asked (first_number b ∷ c.number ∷ []) (inr w.phase) w.events none_answers before is
+        awaits p now ret q b (signed_requested b c) many w.settings w.requested (first_number b ∷ c.number ∷ []) (inr w.phase) w.events none_answers before is
 
--- ---- the signed request waits to be drawn
+-- ---- the signed request waits to be transmitted
 
 module _ (b : Beginning) (c : Choice) (many last : ℕ) (p : Protocol) (w : HasChosen b c many last p) where
-  -- for 50 ms behind the last message nothing is drawn
-  pub chosen_rests : (now : ℕ) (sent : Option Sent) (q : Protocol) → IsQuiet b (signed_asked b c) many now → now < moment_after last cadence → IsDrawn p now sent q
+  -- For 50 ms after the last message nothing is transmitted.
+  pub chosen_rests : (now : ℕ) (sent : Option Sent) (q : Protocol) → IsQuiet b (signed_requested b c) many now → now < time_after last cadence → IsTransmitted p now sent q
       → (sent ≡ None) × (q ≡ p)
   chosen_rests now sent q quiet early is =
-      let resting : is_resting p.last_send now ≡ true = ap (λ (l : Option ℕ). is_resting l now) w.last_send ∙ lt-ltb now (moment_after last cadence) early in
+      let resting : is_resting p.last_send now ≡ true = ap (λ (l : Option ℕ). is_resting l now) w.last_send ∙ lt-ltb now (time_after last cadence) early in
       where_true (IsStill p sent q) (IsNextSent (signed_queued b c ∷ []) p now sent q) (is_resting p.last_send now) resting
       (fresh b c many last (signed_queued b c ∷ []) p w now sent q quiet is)
 
@@ -108,7 +109,7 @@ module _ (b : Beginning) (c : Choice) (many last : ℕ) (p : Protocol) (w : HasC
       families = w.settings.families;
     };
     choice = w.choice;
-    asked = w.asked;
+    requested = w.requested;
     phase = w.phase;
     auth = w.auth;
     allocations = w.allocations;
@@ -119,11 +120,11 @@ module _ (b : Beginning) (c : Choice) (many last : ℕ) (p : Protocol) (w : HasC
     resends = w.resends;
   }
 
-  -- then that request is
-  pub chosen_signs : (now : ℕ) (sent : Option Sent) (q : Protocol) → IsQuiet b (signed_asked b c) many now → moment_after last cadence ≤ now → IsDrawn p now sent q
+  -- Then that request is transmitted.
+  pub chosen_signs : (now : ℕ) (sent : Option Sent) (q : Protocol) → IsQuiet b (signed_requested b c) many now → time_after last cadence ≤ now → IsTransmitted p now sent q
       → (sent ≡ Some (signed_sent b c)) × HasSigned b c many now q
   chosen_signs now sent q quiet late is =
-      let awake : is_resting p.last_send now ≡ false = ap (λ (l : Option ℕ). is_resting l now) w.last_send ∙ le-ltb now (moment_after last cadence) late in
+      let awake : is_resting p.last_send now ≡ false = ap (λ (l : Option ℕ). is_resting l now) w.last_send ∙ le-ltb now (time_after last cadence) late in
       let next = where_false (IsStill p sent q) (IsNextSent (signed_queued b c ∷ []) p now sent q) (is_resting p.last_send now) awake
       (fresh b c many last (signed_queued b c ∷ []) p w now sent q quiet is) in
       let one = sends_one sent (λ (x : Sent). IsQueuedSent p now (signed_queued b c) [] x q) next in (
@@ -131,35 +132,35 @@ module _ (b : Beginning) (c : Choice) (many last : ℕ) (p : Protocol) (w : HasC
         subst (λ (x : Protocol). HasSigned b c many now x) (sym one.2.after) (signed_after now),
       )
 
-  pub chosen_waits : (now : ℕ) (ret : TurnPollRet) (q : Protocol) → now < end_of b (signed_asked b c) → IsPolled p now ret q
-      → IsPatient b (signed_asked b c) many (Some (moment_after last cadence)) now p ret q
+  pub chosen_waits : (now : ℕ) (ret : TurnPollRet) (q : Protocol) → now < end_of b (signed_requested b c) → IsPolled p now ret q
+      → IsPatient b (signed_requested b c) many (Some (time_after last cadence)) now p ret q
   chosen_waits now ret q before is =
       let none : list_any is_answer p.queue ≡ false = none_answers b c many last (signed_queued b c ∷ []) p w refl in
-      patient_for p now ret q b (signed_asked b c) many w.settings w.asked (first_number b ∷ c.number ∷ []) (inr w.phase) w.events none
+      patient_for p now ret q b (signed_requested b c) many w.settings w.requested (first_number b ∷ c.number ∷ []) (inr w.phase) w.events none
       (signed_queued b c) last w.queue_is w.last_send (signing_waits b c many last (signed_queued b c ∷ []) p w refl now ret q before is)
 
--- whatever the waits, from then on it is what is drawn
-pub chosen_late : (b : Beginning) (c : Choice) (many last : ℕ) (p : Protocol) → HasChosen b c many last p → (now : ℕ) (sent : Option Sent) (q : Protocol) → moment_after last cadence ≤ now → IsDrawn p now sent q
+-- From then on it is transmitted, whatever the waits are.
+pub chosen_late : (b : Beginning) (c : Choice) (many last : ℕ) (p : Protocol) → HasChosen b c many last p → (now : ℕ) (sent : Option Sent) (q : Protocol) → time_after last cadence ≤ now → IsTransmitted p now sent q
     → (sent ≡ Some (signed_sent b c)) × (used : ℕ) × (queue : List Queued) × IsSigning b c used now queue q
-chosen_late b c many last p w now sent q late is = elim (due_or_quiet b (signed_asked b c) many now) [
+chosen_late b c many last p w now sent q late is = elim (due_or_quiet b (signed_requested b c) many now) [
   | inl due ↦ (let again = signing_again b c many last (signed_queued b c ∷ []) p w now sent q due is in (again.0, many + 1, signed_queued b c ∷ [], again.1))
   | inr quiet ↦ (let signs = chosen_signs b c many last p w now sent q quiet late is in (signs.0, many, [], signs.1))
 ]
 
--- ---- it was drawn
+-- ---- it was transmitted
 
 module _ (b : Beginning) (c : Choice) (many last : ℕ) (p : Protocol) (w : HasSigned b c many last p) where
-  -- nothing more is, until it is due again
-  pub signed_still : (now : ℕ) (sent : Option Sent) (q : Protocol) → IsQuiet b (signed_asked b c) many now → IsDrawn p now sent q → (sent ≡ None) × (q ≡ p)
+  -- Nothing more is transmitted until it is due again.
+  pub signed_still : (now : ℕ) (sent : Option Sent) (q : Protocol) → IsQuiet b (signed_requested b c) many now → IsTransmitted p now sent q → (sent ≡ None) × (q ≡ p)
   signed_still now sent q quiet is =
       either (IsStill p sent q) (is_resting p.last_send now)
-      (subst (λ (f : Phase). MatchBool (is_resting p.last_send now) (IsStill p sent q) (IsBegun f p now sent q)) w.phase
+      (subst (λ (f : Phase). MatchBool (is_resting p.last_send now) (IsStill p sent q) (IsStarted f p now sent q)) w.phase
       (fresh b c many last [] p w now sent q quiet is))
 
-  pub signed_waits : (now : ℕ) (ret : TurnPollRet) (q : Protocol) → now < end_of b (signed_asked b c) → IsPolled p now ret q → IsPatient b (signed_asked b c) many None now p ret q
+  pub signed_waits : (now : ℕ) (ret : TurnPollRet) (q : Protocol) → now < end_of b (signed_requested b c) → IsPolled p now ret q → IsPatient b (signed_requested b c) many None now p ret q
   signed_waits now ret q before is =
       let none : list_any is_answer p.queue ≡ false = none_answers b c many last [] p w refl in
-      patient p now ret q b (signed_asked b c) many w.settings w.asked (first_number b ∷ c.number ∷ []) (inr w.phase) w.events none
+      patient p now ret q b (signed_requested b c) many w.settings w.requested (first_number b ∷ c.number ∷ []) (inr w.phase) w.events none
       w.queue_is (signing_waits b c many last [] p w refl now ret q before is)
 
   ended_so : HasEnded b (failures b) (ended (record p { agent = record p.agent { outstanding = map.remove p.agent.outstanding c.number } }))
@@ -174,7 +175,7 @@ module _ (b : Beginning) (c : Choice) (many last : ℕ) (p : Protocol) (w : HasS
       allocates = w.settings.allocates;
       families = w.settings.families;
     };
-    none_asked = none_left b (signed_asked b c) many p w.settings w.asked;
+    none_requested = none_left b (signed_requested b c) many p w.settings w.requested;
     phase = refl;
     allocations = w.allocations;
     queue = w.queue_is;
@@ -182,10 +183,10 @@ module _ (b : Beginning) (c : Choice) (many last : ℕ) (p : Protocol) (w : HasS
         ∙ ap (λ (l : List AddressFamily). map_list AllocationCreateFailed l) w.settings.families;
   }
 
-  pub signed_ends : (now : ℕ) (ret : TurnPollRet) (q : Protocol) → end_of b (signed_asked b c) ≤ now → IsPolled p now ret q
+  pub signed_ends : (now : ℕ) (ret : TurnPollRet) (q : Protocol) → end_of b (signed_requested b c) ≤ now → IsPolled p now ret q
       → ((ret ≡ answer.Closed) × HasEnded b (failures b) q) ⊎ ((ret ≡ answer.NoMemory) × HasFailed p q)
   signed_ends now ret q reached is =
-      elim (closes p now ret q b (signed_asked b c) many w.settings w.asked (first_number b ∷ c.number ∷ []) (inr w.phase) w.events
+      elim (closes p now ret q b (signed_requested b c) many w.settings w.requested (first_number b ∷ c.number ∷ []) (inr w.phase) w.events
       (none_answers b c many last [] p w refl) (among b c many last [] p w) reached is) [
         | inl c ↦ inl (c.closed, subst (λ (x : Protocol). HasEnded b (failures b) x) (sym c.after) ended_so)
         | inr failed ↦ inr failed

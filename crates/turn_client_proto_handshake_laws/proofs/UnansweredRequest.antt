@@ -1,4 +1,4 @@
--- What the first request of a client is, by the laws of its requests.
+-- What the first request of a client is, by the lemmas on its requests.
 use Rattle.std.proofs.Common.{◌≡◌, ℕ, ◌<◌, ◌≤◌, ◌^◌, arith, length, None, refl}
 use Rattle.std.specs.Prelude.{true, IfSome}
 use Rattle.turn_client_proto_api.specs.StunTypesWire.Grammar.{number_at, refusal}
@@ -8,32 +8,32 @@ use Rattle.turn_client_proto_messages.specs.StunProtoClient.Client.{Client}
 use Rattle.turn_client_proto_messages.specs.Judging.{signer_of}
 use Rattle.turn_client_proto_messages.specs.Requests.{request_text}
 use Rattle.turn_client_proto_messages.specs.ShortTexts.{HasShortTexts}
-use Rattle.turn_client_proto_messages.specs.ToldRequests.{CanBeRead, IsLawfulRequest, told_request}
+use Rattle.turn_client_proto_messages.specs.ReportedRequests.{CanBeRead, IsLawfulRequest, reported_request}
 use Rattle.turn_client_proto_messages.specs.declared.request.TurnRequest.{TurnRequest}
 use Rattle.turn_client_proto_messages.specs.declared.request.TurnRequest.TheVariants.{FirstAllocate}
-use Rattle.turn_client_proto_messages.specs.TurnRuns.StunWire.{told_by}
+use Rattle.turn_client_proto_messages.specs.TurnRuns.StunWire.{decoded_by}
 use Rattle.turn_client_proto_handshake_laws.specs.Promises.{IsAllocate}
 use Rattle.turn_client_proto_handshake_laws.specs.Sent.{Beginning, HasRoom, first_number, first_request}
 
--- the laws that are used: texts are short where the user's name is
+-- A lemma that is used: texts are short if the user's name is.
 abbrev pub AreShort : Type 0
 AreShort = (client : Client) → client.challenge ≡ None → IfSome client.account (λ account. length account.username ≤ longest_username) → HasShortTexts client
 
--- a request shows its number
+-- A request contains its transaction ID.
 abbrev pub AreNumbered : Type 0
 AreNumbered = (auth : Client) (request : TurnRequest) (number : ℕ) → HasShortTexts auth → IsLawfulRequest request → number < 2 ^ 96 → number_at (request_text auth request number) ≡ number
 
--- it is a message
+-- A request is a message.
 abbrev pub AreMessages : Type 0
 AreMessages = (auth : Client) (request : TurnRequest) (number : ℕ) → HasShortTexts auth → IsLawfulRequest request → number < 2 ^ 96 → refusal (request_text auth request number) ≡ None
 
--- of class request
+-- A request has the class request.
 abbrev pub AreRequests : Type 0
 AreRequests = (auth : Client) (request : TurnRequest) (number : ℕ) → is_request (request_text auth request number) ≡ true
 
--- and tells what it asks for
-abbrev pub AreTold : Type 0
-AreTold = (auth : Client) (request : TurnRequest) (number : ℕ) → HasShortTexts auth → IsLawfulRequest request → number < 2 ^ 96 → CanBeRead request number → told_by (request_text auth request number) ≡ told_request request number
+-- A request decodes as what it asks for.
+abbrev pub AreReported : Type 0
+AreReported = (auth : Client) (request : TurnRequest) (number : ℕ) → HasShortTexts auth → IsLawfulRequest request → number < 2 ^ 96 → CanBeRead request number → decoded_by (request_text auth request number) ≡ reported_request request number
 
 module _ (b : Beginning) (room : HasRoom b.config) (short : AreShort) where
   texts_short : HasShortTexts (signer_of b.config)
@@ -42,12 +42,12 @@ module _ (b : Beginning) (room : HasRoom b.config) (short : AreShort) where
   number_fits : first_number b < 2 ^ 96
   number_fits = omega arith
 
-  pub first_shown : AreNumbered → number_at (first_request b) ≡ first_number b
-  first_shown numbered = numbered (signer_of b.config) (FirstAllocate b.config.transport b.config.families) (first_number b) texts_short room.1 number_fits
+  pub first_visible : AreNumbered → number_at (first_request b) ≡ first_number b
+  first_visible numbered = numbered (signer_of b.config) (FirstAllocate b.config.transport b.config.families) (first_number b) texts_short room.1 number_fits
 
-  pub first_allocates : AreMessages → AreRequests → AreTold → IsAllocate b
-  first_allocates messages requests told = record {
+  pub first_allocates : AreMessages → AreRequests → AreReported → IsAllocate b
+  first_allocates messages requests reported = record {
     message = messages (signer_of b.config) (FirstAllocate b.config.transport b.config.families) (first_number b) texts_short room.1 number_fits;
     request = requests (signer_of b.config) (FirstAllocate b.config.transport b.config.families) (first_number b);
-    told = told (signer_of b.config) (FirstAllocate b.config.transport b.config.families) (first_number b) texts_short room.1 number_fits tt;
+    reported = reported (signer_of b.config) (FirstAllocate b.config.transport b.config.families) (first_number b) texts_short room.1 number_fits tt;
   }

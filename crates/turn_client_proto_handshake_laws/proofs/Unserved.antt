@@ -1,7 +1,7 @@
 -- A client to which nothing is allocated yet.
 use Rattle.std.proofs.Common.{ℕ, List, ap, ◌≡◌, None, refl}
 use Rattle.std.specs.declared.net.socket_addr.SocketAddr.{SocketAddr}
-use Rattle.turn_client_proto_recv.specs.SocketPieces.{raw_waiting}
+use Rattle.turn_client_proto_recv.specs.SocketChunks.{raw_waiting}
 use Rattle.turn_client_proto_api.specs.StunProtoAgent.State as agents
 use Rattle.turn_client_proto_api.specs.declared.event.TurnEvent.{TurnEvent}
 use Rattle.turn_client_proto_core.specs.Deleting.{is_authenticated}
@@ -36,11 +36,11 @@ signing_unserved b c many last queue p w = record { settings = w.settings; alloc
 pub ended_unserved : (b : Beginning) (events : List TurnEvent) (p : Protocol) → HasEnded b events p → IsUnserved b p
 ended_unserved b events p w = record { settings = w.settings; allocations = w.allocations; phase = ap is_authenticated w.phase }
 
--- no bytes of the peer of a connection wait, where nothing is allocated
+-- If nothing is allocated, no bytes of a connection's peer are buffered.
 pub none_raw : (b : Beginning) (p : Protocol) → IsUnserved b p → raw_waiting p ≡ None
 none_raw b p u = rw u.allocations refl
 
--- nor in an allocation that was just granted
+-- Nor are they in an allocation that was just granted.
 pub holding_none_raw : (b : Beginning) (c : Choice) (address : SocketAddr) (lifetime now last : ℕ) (queue : List Queued) (events : List TurnEvent) (p : Protocol)
     → Holds b c address lifetime now last queue events p → raw_waiting p ≡ None
 holding_none_raw b c address lifetime now last queue events p w = rw w.allocations refl

@@ -1,5 +1,5 @@
--- A client of which so many transmissions of the first request were made, and to which no response came: what it sends
--- and answers next, by the contracts of `poll_transmit` and `poll` alone.
+-- A client that transmitted the first request `used` times and got no response: what it transmits and what
+-- its calls return next, by the contracts of `poll_transmit` and `poll` alone.
 use Rattle.std.proofs.Common.{◌≡◌, ℕ, ◌+◌, ◌-◌, ◌<◌, ◌≤◌, arith, Bool, true, false, cond, ◌++◌, map as map_list, List, [], ◌∷◌, Option, Some, None, refl, sym, ap, ◌∙◌, subst, ◌⊎◌, inl, inr}
 use Rattle.std.specs.Prelude.{◌==◌, nat_le, nat_lt, ◌&&◌, ◌||◌, if◌then◌else◌, min, find}
 use Rattle.std.specs.Bool.{MatchBool}
@@ -8,10 +8,10 @@ use Rattle.std.specs.Cmp.{eq_by_cmp_equiv, nat_cmp_total}
 use Rattle.std.specs.FinMap as map
 use Rattle.std.specs.Ordering.{is_eq, nat_cmp}
 use Rattle.std.proofs.lemmas.Bool.{lt-ltb, le-leb, lt-leb, ltb-true, ltb-false, eq-eqb}
-use Rattle.turn_client_proto_api.specs.StunProtoTransaction.Agents.{Transaction, is_due, is_ended, is_over, next_moment, transmitted}
-use Rattle.stun_types_base.specs.Moments.{moment_after}
-use Rattle.turn_client_proto_api.specs.StunProtoTransaction.Schedule.{slot_at, transmissions, waits_behind}
-use Rattle.turn_client_proto_api.specs.StunProtoAgent.Sending.{is_due_of, kept_under}
+use Rattle.turn_client_proto_api.specs.StunProtoTransaction.Agents.{Transaction, is_due, is_ended, is_over, next_time, transmitted}
+use Rattle.stun_types_base.specs.Times.{time_after}
+use Rattle.turn_client_proto_api.specs.StunProtoTransaction.Schedule.{slot_at, transmissions, waits_after}
+use Rattle.turn_client_proto_api.specs.StunProtoAgent.Sending.{is_due_of, stored_under}
 use Rattle.turn_client_proto_api.specs.StunProtoAgent.State as agents
 use Rattle.turn_client_proto_api.proofs.StunProtoTransaction.Leasts.{same_number}
 use Rattle.turn_client_proto_api.proofs.StunProtoAgent.Quiet.{slot_before_end}
@@ -29,9 +29,9 @@ use Rattle.turn_client_proto_messages.specs.Waiting.{Queued, is_answer}
 use Rattle.turn_client_proto_core.specs.declared.protocol.Phase.{Phase}
 use Rattle.turn_client_proto_core.specs.declared.protocol.Phase.TheVariants.{InitialSent, Ended}
 use Rattle.turn_client_proto_core.specs.declared.protocol.Protocol.{Protocol}
-use Rattle.turn_client_proto_timers.specs.Drawing.{Again, Fresh, HasToBegin, HasToSend, IsAnswerSent, IsBegun, IsDrawn, IsFreshSent, IsNextSent, IsStill, after_sending, is_resting}
+use Rattle.turn_client_proto_timers.specs.Drawing.{Again, Fresh, HasToBegin, HasToSend, IsAnswerSent, IsStarted, IsTransmitted, IsFreshSent, IsNextSent, IsStill, after_sending, is_resting}
 use Rattle.turn_client_proto_api.specs.Sent.{Sent}
-use Rattle.turn_client_proto_timers.specs.Polling.{Answers, HasToTellIn, IsPolled, IsPolledBy, IsPolledIn, IsRefused, IsTicked, ended_of, longest_pause, wait_of, wait_to_send, waits_until}
+use Rattle.turn_client_proto_timers.specs.Polling.{Answers, HasToReportIn, IsPolled, IsPolledBy, IsPolledIn, IsRefused, IsAgentPolled, ended_of, longest_pause, wait_of, wait_to_send, waits_until}
 use Rattle.turn_client_proto_handshake_laws.specs.Driving.{client_end}
 use Rattle.turn_client_proto_handshake_laws.specs.Sent.{Beginning, end_of, first_request, first_sent}
 
@@ -50,14 +50,14 @@ clash b t f = absurd (Prim.cc (sym t ∙ f))
 
 -- ---- the schedule
 
--- how often the first request is sent
+-- How often the first request is transmitted.
 abbrev pub count_of : Beginning → ℕ
 count_of b = transmissions (agents.is_tcp b.transport) b.config.waits
 
 abbrev pub slot_of : Beginning → ℕ → ℕ
-slot_of b place = slot_at b.made b.config.waits place
+slot_of b index = slot_at b.made b.config.waits index
 
--- it is sent at least once
+-- It is transmitted at least once.
 pub some_sent : (b : Beginning) → 1 ≤ count_of b
 some_sent b = by (agents.is_tcp b.transport)
   where
@@ -65,25 +65,25 @@ some_sent b = by (agents.is_tcp b.transport)
     by true = omega arith
     by false = omega arith
 
--- the first slot is the moment at which the request is made
+-- The first slot is the time at which the request is made.
 pub slots_begin : (b : Beginning) → b.made ≤ client_end → slot_of b 0 ≡ b.made
 slots_begin b early = omega (arith, early)
 
--- a later slot comes no earlier
-pub slots_grow : (b : Beginning) (place later : ℕ) → place ≤ later → slot_of b place ≤ slot_of b later
-slots_grow b place later less =
-    let grows = sum_grows b.config.waits place (later - place) in
-    let same : place + (later - place) ≡ later = omega (arith, less) in
-    let longer : sum (waits_behind b.config.waits place) ≤ sum (waits_behind b.config.waits later) = subst (λ (n : ℕ). sum (waits_behind b.config.waits place) ≤ sum (waits_behind b.config.waits n)) same grows in
+-- A later slot comes no earlier.
+pub slots_grow : (b : Beginning) (index later : ℕ) → index ≤ later → slot_of b index ≤ slot_of b later
+slots_grow b index later less =
+    let grows = sum_grows b.config.waits index (later - index) in
+    let same : index + (later - index) ≡ later = omega (arith, less) in
+    let longer : sum (waits_after b.config.waits index) ≤ sum (waits_after b.config.waits later) = subst (λ (n : ℕ). sum (waits_after b.config.waits index) ≤ sum (waits_after b.config.waits n)) same grows in
     omega (arith, longer)
 
--- the end comes no earlier than the moment at which it is made
+-- The end comes no earlier than the time at which the request is made.
 pub ends_later : (b : Beginning) → b.made ≤ client_end → b.made ≤ end_of b
 ends_later b early = omega (arith, early)
 
 -- ---- such a client
 
--- its transaction
+-- The request's transaction.
 abbrev pub transaction_of : Beginning → (used : ℕ) → Transaction
 transaction_of b used = record {
   bytes = first_request b;
@@ -105,7 +105,7 @@ pub record IsWaiting (b : Beginning) (used : ℕ) (p : Protocol) : Type 0 where
   pub transport : p.agent.transport ≡ b.transport
   pub here : p.agent.here ≡ b.here
 
--- no transmission is due at a moment
+-- No transmission is due at this time.
 abbrev pub IsQuiet : Beginning → (used now : ℕ) → Type 0
 IsQuiet b used now = used < count_of b → now < slot_of b used
 
@@ -138,15 +138,15 @@ module _ (b : Beginning) (used : ℕ) where
   one_more : used < count_of b → transmitted tcp t ≡ transaction_of b (used + 1)
   one_more left = ap (λ (x : Bool). if x then transaction_of b (used + 1) else t) (lt-ltb used (count_of b) left)
 
-  -- what is next is the next slot, where one is left, and else the end
-  next_is : (bound : ℕ) → (used < count_of b → slot_of b used ≤ bound) → (count_of b ≤ used → end_of b ≤ bound) → next_moment tcp t ≤ bound
+  -- The next time is the next slot, if one is left, and otherwise the end.
+  next_is : (bound : ℕ) → (used < count_of b → slot_of b used ≤ bound) → (count_of b ≤ used → end_of b ≤ bound) → next_time tcp t ≤ bound
   next_is bound left none = elim (nat_lt used (count_of b)) as (λ (x : Bool). nat_lt used (count_of b) ≡ x → (if x then slot_of b used else end_of b) ≤ bound) [
     | true ↦ λ is. left (ltb-true used (count_of b) is)
     | false ↦ λ is. none (ltb-false used (count_of b) is)
   ] refl
 
-  -- what is next is later than now, where nothing is due and the end is later
-  next_later : (now : ℕ) → IsQuiet b used now → now < end_of b → now < next_moment tcp t
+  -- The next time is later than now, if no transmission is due and the end is later.
+  next_later : (now : ℕ) → IsQuiet b used now → now < end_of b → now < next_time tcp t
   next_later now quiet before = elim (nat_lt used (count_of b)) as (λ (x : Bool). nat_lt used (count_of b) ≡ x → now < (if x then slot_of b used else end_of b)) [
     | true ↦ λ is. quiet (ltb-true used (count_of b) is)
     | false ↦ λ is. before
@@ -167,21 +167,21 @@ module _ (b : Beginning) (used : ℕ) where
 
     -- ---- what it sends
 
-    -- nothing that waits or begins is sent
+    -- No queued message and no new request is transmitted.
     nothing_fresh : (now : ℕ) (sent : Option Sent) (q : Protocol) → IsFreshSent p now sent q → IsStill p sent q
     nothing_fresh now sent q is =
         either (IsStill p sent q) (is_resting p.last_send now)
-        (subst (λ (f : Phase). MatchBool (is_resting p.last_send now) (IsStill p sent q) (IsBegun f p now sent q)) w.phase
+        (subst (λ (f : Phase). MatchBool (is_resting p.last_send now) (IsStill p sent q) (IsStarted f p now sent q)) w.phase
         (subst (λ (l : List Queued). MatchBool (is_resting p.last_send now) (IsAnswerSent (find is_answer l) p sent q) (IsNextSent l p now sent q)) w.queue is))
 
-    -- where no transmission is due, nothing
-    pub nothing_sent : (now : ℕ) (sent : Option Sent) (q : Protocol) → IsQuiet b used now → IsDrawn p now sent q → (sent ≡ None) × (q ≡ p)
+    -- If no transmission is due, nothing is transmitted.
+    pub nothing_sent : (now : ℕ) (sent : Option Sent) (q : Protocol) → IsQuiet b used now → IsTransmitted p now sent q → (sent ≡ None) × (q ≡ p)
     nothing_sent now sent q quiet (Again one is r) =
         let found = w.only r.number r.transaction r.least.present in
         clash (is_due_of p.agent now r.transaction) r.least.passes (due_in now r.transaction found.1 ∙ not_due now quiet)
     nothing_sent now sent q quiet (Fresh none is) = nothing_fresh now sent q is
 
-    -- and memory isn't refused
+    -- If no transmission is due, memory does not run out.
     pub nothing_to_send : {A : Type 0} (now : ℕ) → IsQuiet b used now → HasToSend p now → A
     nothing_to_send now quiet (inl r) =
         let found = w.only r.number r.transaction r.least.present in
@@ -190,13 +190,13 @@ module _ (b : Beginning) (used : ℕ) where
         let here : HasToBegin (InitialSent (w.number ∷ [])) p.allocations now = subst (λ (f : Phase). HasToBegin f p.allocations now) w.phase m.begins in
         absurd here
 
-    kept_there : (number : ℕ) (x : Transaction) → map.get (kept_under p.agent number x).outstanding number ≡ Some x
-    kept_there number x =
+    stored_there : (number : ℕ) (x : Transaction) → map.get (stored_under p.agent number x).outstanding number ≡ Some x
+    stored_there number x =
         let same : is_eq (nat_cmp number number) ≡ true = (eq_by_cmp_equiv nat_cmp_total).refl number in
         map.get-insert nat_cmp_total p.agent.outstanding number x number ∙ ap (λ (y : Bool). cond y (Some x) (map.get p.agent.outstanding number)) same
 
-    kept_only : (number : ℕ) (x : Transaction) → number ≡ w.number → (other : ℕ) (y : Transaction) → map.get (kept_under p.agent number x).outstanding other ≡ Some y → (other ≡ number) × (y ≡ x)
-    kept_only number x is other y there =
+    stored_only : (number : ℕ) (x : Transaction) → number ≡ w.number → (other : ℕ) (y : Transaction) → map.get (stored_under p.agent number x).outstanding other ≡ Some y → (other ≡ number) × (y ≡ x)
+    stored_only number x is other y there =
         elim (is_eq (nat_cmp other number)) as (λ (z : Bool). is_eq (nat_cmp other number) ≡ z → cond z (Some x) (map.get p.agent.outstanding other) ≡ Some y → (other ≡ number) × (y ≡ x)) [
           | true ↦ λ same found. (same_number other number same, Prim.cc (sym found))
           | false ↦ λ apart found. (
@@ -205,21 +205,21 @@ module _ (b : Beginning) (used : ℕ) where
               clash (is_eq (nat_cmp other number)) (ap (λ (n : ℕ). is_eq (nat_cmp n number)) here ∙ (eq_by_cmp_equiv nat_cmp_total).refl number) apart)
         ] refl (sym (map.get-insert nat_cmp_total p.agent.outstanding number x other) ∙ there)
 
-    -- where one is due, the first request once more
-    pub sent_again : (now : ℕ) (sent : Option Sent) (q : Protocol) → used < count_of b → slot_of b used ≤ now → IsDrawn p now sent q
+    -- If a transmission is due, the first request is transmitted once more.
+    pub sent_again : (now : ℕ) (sent : Option Sent) (q : Protocol) → used < count_of b → slot_of b used ≤ now → IsTransmitted p now sent q
         → (sent ≡ Some (first_sent b)) × IsWaiting b (used + 1) q
     sent_again now sent q left reached (Again one is r) =
         let found = w.only r.number r.transaction r.least.present in
         let counted : transmitted (agents.is_tcp p.agent.transport) r.transaction ≡ transaction_of b (used + 1) =
         ap (λ (y : Bool). transmitted y r.transaction) tcp_is ∙ (ap (λ (x : Transaction). transmitted tcp x) found.1 ∙ one_more left) in
         let sent_is : one ≡ first_sent b = r.is_sent ∙ Prim.cc (w.transport, w.here, found.1) in
-        let after : q ≡ after_sending now (record p { agent = kept_under p.agent r.number (transaction_of b (used + 1)) }) =
-        r.after ∙ ap (λ (x : Transaction). after_sending now (record p { agent = kept_under p.agent r.number x })) counted in (
+        let after : q ≡ after_sending now (record p { agent = stored_under p.agent r.number (transaction_of b (used + 1)) }) =
+        r.after ∙ ap (λ (x : Transaction). after_sending now (record p { agent = stored_under p.agent r.number x })) counted in (
           is ∙ ap Some sent_is,
           subst (λ (x : Protocol). IsWaiting b (used + 1) x) (sym after) (record {
             number = r.number;
-            there = kept_there r.number (transaction_of b (used + 1));
-            only = kept_only r.number (transaction_of b (used + 1)) found.0;
+            there = stored_there r.number (transaction_of b (used + 1));
+            only = stored_only r.number (transaction_of b (used + 1)) found.0;
             phase = w.phase ∙ ap (λ (n : ℕ). InitialSent (n ∷ [])) (sym found.0);
             queue = w.queue;
             events = w.events;
@@ -231,33 +231,33 @@ module _ (b : Beginning) (used : ℕ) where
     sent_again now sent q left reached (Fresh none is) =
         clash (is_due_of p.agent now t) (due_in now t refl ∙ due left now reached) (none w.number t w.there)
 
-    -- ---- what it answers
+    -- ---- what it results
 
     module _ (now : ℕ) (ret : TurnPollRet) (q : Protocol) where
-      -- no event and no answer waits: the agent is polled
-      is_ticked : IsPolledBy p.events p now ret q → IsTicked p now ret q
+      -- No event and no reply is queued: the agent is polled.
+      is_ticked : IsPolledBy p.events p now ret q → IsAgentPolled p now ret q
       is_ticked is =
           let none : IsPolledBy [] p now ret q = subst (λ (l : List TurnEvent). IsPolledBy l p now ret q) w.events is in
-          subst (λ (l : List Queued). MatchBool (list_any is_answer l) (Answers (answer.WaitUntil now) p ret q) (IsTicked p now ret q)) w.queue none
+          subst (λ (l : List Queued). MatchBool (list_any is_answer l) (Answers (answer.WaitUntil now) p ret q) (IsAgentPolled p now ret q)) w.queue none
 
-      -- memory was refused, or not
+      -- Memory ran out, or it did not.
       cases : (r : TurnPollRet) → IsPolled p now r q → IsPolledBy p.events p now r q ⊎ ((r ≡ answer.NoMemory) × IsRefused p now q)
-      cases (answer.WaitUntil moment) is = inl is
+      cases (answer.WaitUntil time) is = inl is
       cases (answer.AllocateTcpSocket connection socket peer) is = inl is
       cases (answer.TcpClose near far) is = inl is
       cases answer.Closed is = inl is
       cases answer.NoMemory is = inr (refl, is)
 
       abbrev pause : ℕ
-      pause = wait_to_send p.last_send p.queue now (moment_after now longest_pause)
+      pause = wait_to_send p.last_send p.queue now (time_after now longest_pause)
 
-      -- what comes of what the agent answers
+      -- What follows from the agent's result.
       abbrev IsOut : StunAgentPollRet → agents.Agent → Type 0
       IsOut ticked agent = IsPolledIn p.phase (ended_of ticked) (wait_of pause ticked) (record p { agent = agent }) now ret q
 
       -- ---- at the end
 
-      -- it is closed, and tells that it allocated no address
+      -- The client is closed, and queues the events that it allocated no address.
       pub record IsClosed : Type 0 where
         pub closed : ret ≡ answer.Closed
         pub phase : q.phase ≡ Ended
@@ -282,7 +282,7 @@ module _ (b : Beginning) (used : ℕ) where
       ended_by reached (TransactionCancelled number) agent is out =
           let same = (w.only number is.transaction is.least.present).1 in
           clash (is_over is.transaction.cancelled) is.cause (ap (λ (x : Transaction). is_over x.cancelled) same)
-      ended_by reached (WaitUntil moment) agent is out = clash (is_ended now t) (over now reached) (is.0 w.number t w.there)
+      ended_by reached (WaitUntil time) agent is out = clash (is_ended now t) (over now reached) (is.0 w.number t w.there)
 
       pub gives_up : end_of b ≤ now → IsPolled p now ret q → IsClosed ⊎ ((ret ≡ answer.NoMemory) × HasFailed p q)
       gives_up reached polled = elim (cases ret polled) [
@@ -292,13 +292,13 @@ module _ (b : Beginning) (used : ℕ) where
 
       -- ---- before the end
 
-      -- it waits for a later moment, which isn't behind the next slot or, where none is left, the end
+      -- The client waits for a later time, which is not after the next slot or, if none is left, the end.
       pub record IsAwaiting : Type 0 where
-        pub moment : ℕ
-        pub ret_is : ret ≡ answer.WaitUntil moment
-        pub later : now < moment
-        pub by_end : moment ≤ end_of b
-        pub by_slot : used < count_of b → moment ≤ slot_of b used
+        pub time : ℕ
+        pub ret_is : ret ≡ answer.WaitUntil time
+        pub later : now < time
+        pub by_end : time ≤ end_of b
+        pub by_slot : used < count_of b → time ≤ slot_of b used
         pub waits : IsWaiting b used q
 
       none_over : {A : Type 0} (number : ℕ) (x : Transaction) → now < end_of b → map.get p.agent.outstanding number ≡ Some x → is_ended now x ≡ true → A
@@ -310,7 +310,7 @@ module _ (b : Beginning) (used : ℕ) where
       until_later until early quiet before next = elim next.reached [
         | inl longest ↦ omega (arith, longest, early)
         | inr some ↦ (
-            let same : next_moment (agents.is_tcp p.agent.transport) some.1 ≡ next_moment tcp t = ap (λ (x : Transaction). next_moment (agents.is_tcp p.agent.transport) x) (w.only some.0 some.1 some.2).1 ∙ ap (λ (y : Bool). next_moment y t) tcp_is in
+            let same : next_time (agents.is_tcp p.agent.transport) some.1 ≡ next_time tcp t = ap (λ (x : Transaction). next_time (agents.is_tcp p.agent.transport) x) (w.only some.0 some.1 some.2).1 ∙ ap (λ (y : Bool). next_time y t) tcp_is in
             let more = next_later now quiet before in
             let is = some.3 in
             omega (arith, same, more, is))
@@ -318,7 +318,7 @@ module _ (b : Beginning) (used : ℕ) where
 
       pause_later : now ≤ client_end → now < pause
       pause_later early =
-          let same : pause ≡ moment_after now longest_pause = ap (λ (l : List Queued). wait_to_send p.last_send l now (moment_after now longest_pause)) w.queue in
+          let same : pause ≡ time_after now longest_pause = ap (λ (l : List Queued). wait_to_send p.last_send l now (time_after now longest_pause)) w.queue in
           omega (arith, same, early)
 
       awaits_by : now ≤ client_end → IsQuiet b used now → now < end_of b → (ticked : StunAgentPollRet) (agent : agents.Agent) → agents.IsPolled p.agent now ticked agent → IsOut ticked agent → IsAwaiting
@@ -327,10 +327,10 @@ module _ (b : Beginning) (used : ℕ) where
       awaits_by early quiet before (WaitUntil until) agent is out =
           let here = subst (λ (f : Phase). IsPolledIn f None (min pause until) (record p { agent = agent }) now ret q) w.phase out in
           let next = is.1.no_later w.number t w.there in
-          let same : next_moment (agents.is_tcp p.agent.transport) t ≡ next_moment tcp t = ap (λ (y : Bool). next_moment y t) tcp_is in
+          let same : next_time (agents.is_tcp p.agent.transport) t ≡ next_time tcp t = ap (λ (y : Bool). next_time y t) tcp_is in
           let to_end = next_is (end_of b) slot_to_end (λ none. omega arith) in
           record {
-            moment = min pause until;
+            time = min pause until;
             ret_is = here.0;
             later = (let a = until_later until early quiet before is.1 in let c = pause_later early in omega (arith, a, c));
             by_end = omega (arith, next, same, to_end, before);
@@ -338,16 +338,16 @@ module _ (b : Beginning) (used : ℕ) where
             waits = same_waiting q (here.1 ∙ ap (λ (a : agents.Agent). record p { agent = a }) is.2);
           }
 
-      -- nothing is to be told before the end, and so memory isn't refused
-      nothing_told : {A : Type 0} → now < end_of b → (ticked : StunAgentPollRet) (agent : agents.Agent) → agents.IsPolled p.agent now ticked agent → HasToTellIn p.phase (ended_of ticked) (record p { agent = agent }) now → A
-      nothing_told before (TransactionTimedOut number) agent is tells = none_over number is.transaction before is.least.present is.least.passes
-      nothing_told before (TransactionCancelled number) agent is tells = none_over number is.transaction before is.least.present is.least.passes
-      nothing_told before (WaitUntil until) agent is tells =
-          let here = subst (λ (f : Phase). HasToTellIn f None (record p { agent = agent }) now) w.phase tells in
+      -- No event is to be queued before the end, so memory does not run out.
+      nothing_reported : {A : Type 0} → now < end_of b → (ticked : StunAgentPollRet) (agent : agents.Agent) → agents.IsPolled p.agent now ticked agent → HasToReportIn p.phase (ended_of ticked) (record p { agent = agent }) now → A
+      nothing_reported before (TransactionTimedOut number) agent is decodes = none_over number is.transaction before is.least.present is.least.passes
+      nothing_reported before (TransactionCancelled number) agent is decodes = none_over number is.transaction before is.least.present is.least.passes
+      nothing_reported before (WaitUntil until) agent is decodes =
+          let here = subst (λ (f : Phase). HasToReportIn f None (record p { agent = agent }) now) w.phase decodes in
           absurd (Prim.cc here.0)
 
       pub awaits : now ≤ client_end → IsQuiet b used now → now < end_of b → IsPolled p now ret q → IsAwaiting
       awaits early quiet before polled = elim (cases ret polled) [
         | inl by ↦ (let k = is_ticked by in awaits_by early quiet before k.ticked k.agent k.is_ticked k.outcome)
-        | inr refused ↦ (let k = refused.1.has_to_tell in nothing_told before k.ticked k.agent k.is_ticked k.tells)
+        | inr refused ↦ (let k = refused.1.has_to_report in nothing_reported before k.ticked k.agent k.is_ticked k.decodes)
       ]

@@ -1,5 +1,5 @@
--- How a message of the server's comes to a client that holds nothing yet: in a datagram, or in pieces of the stream
--- (RFC 8489, sections 6.2.1 and 6.2.2; RFC 8656, section 12.5).
+-- How a message from the server reaches a client that holds nothing yet: in a datagram, or in chunks of the
+-- stream (RFC 8489, sections 6.2.1 and 6.2.2; RFC 8656, section 12.5).
 use Rattle.std.specs.Prelude.{◌≡◌, ◌≢◌, ◌++◌, ℕ, Bool, false, List, [], None}
 use Rattle.turn_client_proto_api.specs.StunTypesWire.Grammar.{refusal}
 use Rattle.stun_types_base.specs.declared.transmit.Transmit.{Transmit}
@@ -9,43 +9,44 @@ use Rattle.turn_client_proto_api.specs.declared.answer.TurnRecvRet.TheVariants.{
 use Rattle.turn_client_proto_recv.specs.Control.{Control, Open}
 use Rattle.turn_client_proto_core.specs.Deleting.{is_authenticated}
 use Rattle.turn_client_proto_core.specs.Ending.{HasFailed}
-use Rattle.turn_client_proto_core.specs.Receiving.{IsHeard}
+use Rattle.turn_client_proto_core.specs.Receiving.{IsProcessed}
 use Rattle.turn_client_proto_recv.specs.Datagrams.{IsHandledAs}
-use Rattle.turn_client_proto_recv.specs.Kept.{Kept, Protocol}
+use Rattle.turn_client_proto_recv.specs.ClientState.{ClientState, Protocol}
 use Rattle.turn_client_proto_handshake_laws.specs.Stages.{IsOf}
 use Rattle.turn_client_proto_handshake_laws.specs.Sent.{Beginning}
 
--- a client to which the server has allocated nothing
+-- A client to which the server has allocated nothing.
 pub record IsUnserved (b : Beginning) (p : Protocol) : Type 0 where
   pub settings : IsOf b p
   pub allocations : p.allocations ≡ []
   pub phase : is_authenticated p.phase ≡ false
 
--- bytes come from its server to its own address
+-- The bytes come from the client's server to its own address.
 pub record IsFromServer {T : Type 0} (b : Beginning) (came : Transmit T) : Type 0 where
   pub transport : came.transport ≡ b.transport
   pub from : came.from ≡ b.server
   pub to : came.to ≡ b.here
 
--- over TCP so much of a message has come, and is kept
-abbrev pub HasCome : List ℕ → Kept → Type 0
+-- Over TCP exactly these bytes of a message are buffered.
+abbrev pub HasCome : List ℕ → ClientState → Type 0
 HasCome before k = k.control ≡ Open (alive before)
 
--- these bytes begin a message, and don't end it
+-- These bytes are a proper prefix of a message.
 pub record IsPartOf (part message : List ℕ) : Type 0 where
   pub is_message : refusal message ≡ None
   pub rest : List ℕ
   pub parts : message ≡ part ++ rest
   pub more : rest ≢ []
 
--- a message was heard, and answered by whether it was for the client; this is how bytes come then
-pub record IsHeardAs {T : Type 0} (old : Kept) (message : List ℕ) (came : Transmit T) (now : ℕ) (control : Control)
-    (answer : TurnRecvRet T) (new : Kept) : Type 0 where
+-- The message was handled; the result says whether it was for the client; and afterwards this is the state of
+-- the control connection.
+pub record IsProcessedAs {T : Type 0} (old : ClientState) (message : List ℕ) (came : Transmit T) (now : ℕ) (control : Control)
+    (answer : TurnRecvRet T) (new : ClientState) : Type 0 where
   pub handled : Bool
-  pub heard : IsHeard old.core message now handled new.core
+  pub processed : IsProcessed old.core message now handled new.core
   pub answer_is : IsHandledAs came handled answer
   pub control_is : new.control ≡ control
 
--- memory was refused, and the client has failed
-abbrev pub IsLost : {T : Type 0} → Kept → Transmit T → TurnRecvRet T → Kept → Type 0
+-- Memory ran out, and the client has failed.
+abbrev pub IsLost : {T : Type 0} → ClientState → Transmit T → TurnRecvRet T → ClientState → Type 0
 IsLost old came answer new = (answer ≡ NoMemory came) × HasFailed old.core new.core

@@ -1,4 +1,4 @@
--- What holds of a client to which nothing comes (RFC 8489, section 6.2.1; RFC 8656, section 7).
+-- What holds of a client that receives nothing (RFC 8489, section 6.2.1; RFC 8656, section 7).
 use Rattle.std.specs.Prelude.{◌≡◌, ◌<◌, ◌≤◌, ◌+◌, ◌++◌, ℕ, List, [], ◌∷◌, true, None, Contains, map, take}
 use Rattle.turn_client_proto_api.specs.StunProtoAgent.Sending.{is_request}
 use Rattle.turn_client_proto_api.specs.StunProtoAgent.State.{default_waits}
@@ -9,40 +9,42 @@ use Rattle.turn_client_proto_api.specs.declared.answer.TurnPollRet.TheVariants a
 use Rattle.turn_client_proto_api.specs.declared.event.TurnEvent.TheVariants.{AllocationCreateFailed}
 use Rattle.turn_client_proto_core.specs.declared.protocol.Phase.TheVariants.{Ended}
 use Rattle.turn_client_proto_core.specs.declared.protocol.Protocol.{Protocol}
-use Rattle.turn_client_proto_messages.specs.ToldRequests.{told_request}
+use Rattle.turn_client_proto_messages.specs.ReportedRequests.{reported_request}
 use Rattle.turn_client_proto_messages.specs.declared.request.TurnRequest.TheVariants.{FirstAllocate}
-use Rattle.turn_client_proto_messages.specs.TurnRuns.StunWire.{told_by}
+use Rattle.turn_client_proto_messages.specs.TurnRuns.StunWire.{decoded_by}
 use Rattle.turn_client_proto_handshake_laws.specs.Driving.{Call, Draws, DrawFails, Polls, Takes, Looks}
 use Rattle.turn_client_proto_handshake_laws.specs.Sent.{Beginning, end_of, first_number, first_request, slots_of}
-use Rattle.turn_client_proto_handshake_laws.specs.Sent.{sendings, sent_at, slots_until, told}
+use Rattle.turn_client_proto_handshake_laws.specs.Sent.{sendings, sent_at, slots_until, reported}
 use Rattle.turn_client_proto_handshake_laws.specs.declared.driving.Stage.{Stage}
 use Rattle.turn_client_proto_handshake_laws.specs.declared.driving.Stage.TheVariants.{Drawing, Polling, Over, Failed}
 use Rattle.turn_client_proto_handshake_laws.specs.declared.driving.Stage.TheVariants.{Astray}
 
--- so many of the first slots were kept, and nothing else was sent
-pub record HasBegun (b : Beginning) (calls : List Call) : Type 0 where
+-- The first request was transmitted at the first `many` slots, and nothing else was transmitted.
+pub record HasStarted (b : Beginning) (calls : List Call) : Type 0 where
   pub many : ℕ
   pub sent : sendings calls ≡ sent_at b (take many (slots_of b))
 
--- what was sent, by what the driver does next: once nothing more came, the first request at each slot up to now. Where
--- more may come yet, or memory was refused, at the first slots
+-- What was transmitted, by what the driver does next: once `poll_transmit` has returned nothing, the first
+-- request at each slot up to now. If more may come, or memory ran out, the first request at some number of
+-- first slots.
 abbrev pub HasSent : Beginning → List Call → Stage → Type 0
-HasSent b calls (Drawing now) = HasBegun b calls
+HasSent b calls (Drawing now) = HasStarted b calls
 HasSent b calls (Polling now) = sendings calls ≡ sent_at b (slots_until b now)
 HasSent b calls (Over now) = sendings calls ≡ sent_at b (slots_until b now)
-HasSent b calls (Failed now) = HasBegun b calls
+HasSent b calls (Failed now) = HasStarted b calls
 HasSent b calls Astray = ⊥
 
--- the answer to a poll: before the end a later moment, not behind the end; at the end that the client is closed. Or
--- that memory was refused, at the end alone: then it is asked for what is to be told
+-- The result of `poll`: before the end a later time, not after the end; at the end `Closed`. Memory may run
+-- out only at the end, for the events.
 abbrev pub IsAnswer : Beginning → (now : ℕ) → TurnPollRet → Type 0
-IsAnswer b now (answer.WaitUntil moment) = (now < moment) × (moment ≤ end_of b)
+IsAnswer b now (answer.WaitUntil time) = (now < time) × (time ≤ end_of b)
 IsAnswer b now (answer.AllocateTcpSocket connection socket peer) = ⊥
 IsAnswer b now (answer.TcpClose here server) = ⊥
 IsAnswer b now answer.Closed = now ≡ end_of b
 IsAnswer b now answer.NoMemory = now ≡ end_of b
 
--- each poll has such an answer; and memory is refused to a draw at a slot alone, where the request is to be sent
+-- Each `poll` has such a result. Memory runs out in `poll_transmit` only at a slot, when the request is to be
+-- transmitted.
 abbrev pub IsAnswered : Beginning → Call → Type 0
 IsAnswered b (Draws now sent) = Unit {0}
 IsAnswered b (DrawFails now) = Contains (slots_of b) now
@@ -50,39 +52,39 @@ IsAnswered b (Polls now ret) = IsAnswer b now ret
 IsAnswered b (Takes event) = Unit {0}
 IsAnswered b Looks = Unit {0}
 
--- nothing was told, and nothing is to be
+-- No event was reported, and none is queued.
 abbrev pub IsSilent : List Call → Protocol → Type 0
-IsSilent calls new = (told calls ≡ []) × (new.events ≡ [])
+IsSilent calls new = (reported calls ≡ []) × (new.events ≡ [])
 
--- what was told and what waits to be, by what the driver does next: nothing before the end; and then, of each family in
--- order, that no address was allocated
-abbrev pub HasTold : Beginning → List Call → Stage → Protocol → Type 0
-HasTold b calls (Drawing now) new = IsSilent calls new
-HasTold b calls (Polling now) new = IsSilent calls new
-HasTold b calls (Over now) new = (now ≡ end_of b) × (new.phase ≡ Ended)
-    × (told calls ++ new.events ≡ map AllocationCreateFailed b.config.families)
-HasTold b calls (Failed now) new = IsSilent calls new
-HasTold b calls Astray new = ⊥
+-- What was reported and what is queued, by what the driver does next: nothing before the end; and then, for
+-- each family in order, that no address was allocated.
+abbrev pub HasReported : Beginning → List Call → Stage → Protocol → Type 0
+HasReported b calls (Drawing now) new = IsSilent calls new
+HasReported b calls (Polling now) new = IsSilent calls new
+HasReported b calls (Over now) new = (now ≡ end_of b) × (new.phase ≡ Ended)
+    × (reported calls ++ new.events ≡ map AllocationCreateFailed b.config.families)
+HasReported b calls (Failed now) new = IsSilent calls new
+HasReported b calls Astray new = ⊥
 
--- the first request is a message, a request of its number, and tells that it asks for an allocation
+-- The first request is a message and a request, and it decodes as one that asks for an allocation.
 pub record IsAllocate (b : Beginning) : Type 0 where
   pub message : refusal (first_request b) ≡ None
   pub request : is_request (first_request b) ≡ true
-  pub told : told_by (first_request b)
-      ≡ told_request (FirstAllocate b.config.transport b.config.families) (first_number b)
+  pub reported : decoded_by (first_request b)
+      ≡ reported_request (FirstAllocate b.config.transport b.config.families) (first_number b)
 
--- ---- the slots in numbers
+-- ---- the slots in transaction IDs
 
--- when a request is sent, in nanoseconds behind the first time: the example of RFC 8489, section 6.2.1
+-- When a request is transmitted, in nanoseconds after the first time: the example of RFC 8489, section 6.2.1.
 abbrev pub usual_slots : List ℕ
 usual_slots = 0 ∷ 500_000_000 ∷ 1_500_000_000 ∷ 3_500_000_000 ∷ 7_500_000_000 ∷ 15_500_000_000 ∷ 31_500_000_000 ∷ []
 
--- and when it is given up
+-- When it is given up, in nanoseconds after the first time.
 abbrev pub usual_end : ℕ
 usual_end = 39_500_000_000
 
--- over TCP there is one slot, whatever the waits; over UDP, where they were not set, there are these, and over both this
--- end
+-- Over TCP there is one slot, whatever the waits. With the default waits, there are these slots over UDP, and
+-- over both transports this end.
 pub record AreSlots (b : Beginning) : Type 0 where
   pub tcp : b.transport ≡ Tcp → slots_of b ≡ b.made ∷ []
   pub udp : b.transport ≡ Udp → b.config.waits ≡ default_waits

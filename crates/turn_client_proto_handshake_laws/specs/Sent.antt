@@ -1,5 +1,5 @@
--- What a client sends to which nothing comes: its first request, at the slots of its schedule (RFC 8489, section
--- 6.2.1).
+-- What a client that receives nothing transmits: its first request, at the slots of its schedule (RFC 8489,
+-- section 6.2.1).
 use Rattle.std.specs.Prelude.{◌≤◌, ℕ, length, nat_le, List, [], ◌∷◌, filter, map, Some, None, option_to_list}
 use Rattle.std.specs.List.{flat_map}
 use Rattle.std.specs.declared.net.socket_addr.SocketAddr.{SocketAddr}
@@ -11,7 +11,7 @@ use Rattle.turn_client_proto_api.specs.StunProtoAgent.State.{is_tcp}
 use Rattle.turn_client_proto_api.specs.Config.{Config}
 use Rattle.turn_client_proto_api.specs.declared.event.TurnEvent.{TurnEvent}
 use Rattle.turn_client_proto_core.specs.Beginning.{IsNew}
-use Rattle.turn_client_proto_core.specs.Numbering.{behind, drawn}
+use Rattle.turn_client_proto_core.specs.Numbering.{following, generated}
 use Rattle.turn_client_proto_core.specs.declared.protocol.Protocol.{Protocol}
 use Rattle.turn_client_proto_api.specs.Sent.{Sent}
 use Rattle.turn_client_proto_messages.specs.Judging.{signer_of}
@@ -21,8 +21,8 @@ use Rattle.turn_client_proto_handshake_laws.specs.Driving.{Call, Draws, DrawFail
 
 -- ---- who begins
 
--- a client that begins: its transport, its own address and the server's, its settings and its seed, and the moment at
--- which it is first asked for what is to be sent
+-- A client at its start: its transport, its own address and the server's, its settings and its seed, and the
+-- time of the first call of `poll_transmit`.
 pub record Beginning : Type 0 where
   pub transport : TransportType
   pub here : SocketAddr
@@ -31,50 +31,51 @@ pub record Beginning : Type 0 where
   pub seed : List ℕ
   pub made : ℕ
 
--- nothing was asked of it before
+-- The client is new: nothing was called on it.
 abbrev pub Begins : Beginning → Protocol → Type 0
 Begins b p = IsNew b.transport b.here b.server b.config b.seed p
 
--- the name of its user has room in a message (RFC 8489, section 14.3), and there are two families of addresses at most
+-- The name of the user fits into a message (RFC 8489, section 14.3), and at most two address families are
+-- configured.
 abbrev pub HasRoom : Config → Type 0
 HasRoom config = (length config.credentials.username ≤ longest_username) × (length config.families ≤ 2)
 
--- the number that the first words of its generator make
+-- The transaction ID that the first words of its generator make.
 abbrev pub first_number : Beginning → ℕ
-first_number b = behind (drawn (of_seed b.seed)) 0
+first_number b = following (generated (of_seed b.seed)) 0
 
--- its first request: an ALLOCATE without credentials, of that number
+-- Its first request: an ALLOCATE without credentials, with that transaction ID.
 abbrev pub first_request : Beginning → List ℕ
 first_request b =
     request_text (signer_of b.config) (FirstAllocate b.config.transport b.config.families) (first_number b)
 
--- as it is sent: from its own address to the server
+-- The first request as it is transmitted: from the client's own address to the server.
 abbrev pub first_sent : Beginning → Sent
 first_sent b = record { bytes = first_request b; transport = b.transport; from = b.here; to = b.server }
 
--- the slots of that request: one over TCP. And the end of its schedule
+-- The slots of that request (one over TCP), and the end of its schedule.
 abbrev pub slots_of : Beginning → List ℕ
 slots_of b = slots (is_tcp b.transport) b.made b.config.waits
 
 abbrev pub end_of : Beginning → ℕ
 end_of b = end_at b.made b.config.waits
 
--- the slots that aren't later than a moment
+-- The slots that are not later than `now`.
 abbrev pub slots_until : Beginning → ℕ → List ℕ
 slots_until b now = filter (λ slot. nat_le slot now) (slots_of b)
 
 -- ---- what is sent
 
--- what is sent, and the moment
+-- What is transmitted, and when.
 pub record Sending : Type 0 where
   pub now : ℕ
   pub sent : Sent
 
--- the first request, sent at these moments
+-- The first request, transmitted at these times.
 abbrev pub sent_at : Beginning → List ℕ → List Sending
-sent_at b moments = map (λ now. record { now = now; sent = first_sent b }) moments
+sent_at b times = map (λ now. record { now = now; sent = first_sent b }) times
 
--- what a call sends
+-- What a call transmits.
 abbrev pub sent_by : Call → List Sending
 sent_by (Draws now (Some sent)) = record { now = now; sent = sent } ∷ []
 sent_by (Draws now None) = []
@@ -83,20 +84,20 @@ sent_by (Polls now ret) = []
 sent_by (Takes event) = []
 sent_by Looks = []
 
--- all that calls send, in order
+-- All that the calls transmit, in order.
 abbrev pub sendings : List Call → List Sending
 sendings calls = flat_map sent_by calls
 
--- ---- what is told
+-- ---- what is reported
 
--- the event that a call takes
-abbrev pub told_by : Call → List TurnEvent
-told_by (Draws now sent) = []
-told_by (DrawFails now) = []
-told_by (Polls now ret) = []
-told_by (Takes event) = option_to_list event
-told_by Looks = []
+-- The event that a call takes.
+abbrev pub decoded_by : Call → List TurnEvent
+decoded_by (Draws now sent) = []
+decoded_by (DrawFails now) = []
+decoded_by (Polls now ret) = []
+decoded_by (Takes event) = option_to_list event
+decoded_by Looks = []
 
--- all events that calls take, in order
-abbrev pub told : List Call → List TurnEvent
-told calls = flat_map told_by calls
+-- All events that the calls take, in order.
+abbrev pub reported : List Call → List TurnEvent
+reported calls = flat_map decoded_by calls

@@ -1,4 +1,4 @@
-//! A driver of a client to which nothing comes.
+//! A driver of a client that receives nothing.
 
 ghost use Rattle.std.specs.Prelude.{◌≡◌, ◌≢◌, ◌⊎◌, ◌≤◌, ◌^◌, ℕ, length, IfNone, IfSome};
 ghost use Rattle.turn_client_proto_api.specs.StunProtoTransaction.Schedule.{end_at};
@@ -17,31 +17,33 @@ use stun_types_base::transport::TransportType;
 use turn_client_proto_api::answer::TurnPollRet;
 use turn_client_proto_api::config::TurnConfig;
 use turn_client_proto_core::protocol::Protocol;
-use turn_client_proto_messages::laws::requests_are_lawful;
+use turn_client_proto_messages::laws::proof_requests_are_lawful;
 use turn_client_proto_messages::request::TurnRequest;
 use turn_client_proto_timers::drawing::poll_transmit;
 use turn_client_proto_timers::polling::poll;
 
-/// The greatest moment of a call of a client, in nanoseconds.
+/// The latest time at which a client may be called, in nanoseconds.
 const CLIENT_END: u64 = 1 << 62;
 
 /// What the driver of a client does next.
 #[derive(Debug, Drop, PartialEq, Eq)]
 pub enum Stage {
-    /// It asks for what is to be sent at this moment.
+    /// It calls `poll_transmit` at this time.
     Drawing(Instant),
-    /// There was nothing more: it polls.
+    /// `poll_transmit` returned nothing: it calls `poll`.
     Polling(Instant),
-    /// The client was closed at this moment: it takes the events, and nothing more.
+    /// The client was closed at this time: only its events are left to take.
     Over(Instant),
-    /// Memory was refused at this moment: the same.
+    /// Memory ran out at this time: only its events are left to take.
     Failed(Instant),
-    /// It is asked to open a socket or to close one, and has none.
+    /// The client requests that a socket be opened or closed, and the driver has none.
     Astray,
 }
 
-/// Makes a client, and drives it from a moment on. Where it is closed, it is so at the end of the schedule of its
-/// settings, by [`unanswered_clients_end`], and it never asks for a socket.
+/// Creates a client and drives it from time `made`, by at most `calls` calls.
+///
+/// If the client is closed, this happens at the end of the schedule of its settings, by
+/// [`unanswered_clients_end`]. It never requests a socket.
 pub fn drive_new(
     alloc: Global,
     transport: TransportType,
@@ -62,13 +64,13 @@ pub fn drive_new(
 {
     unanswered_clients_end();
     let allocates = config.allocation_transport();
-    requests_are_lawful(&TurnRequest::FirstAllocate(allocates, config.requested_families()));
+    proof_requests_are_lawful(&TurnRequest::FirstAllocate(allocates, config.requested_families()));
     let mut client = Protocol::new(alloc, transport, local, remote, config, seed);
     let stage = drive(&mut client, made, calls);
     (client, stage)
 }
 
-/// Drives a client from a moment on, by so many calls, or until there is nothing more to do.
+/// Drives a client from time `made`, by `calls` calls, or until there is nothing more to do.
 pub fn drive(client: &mut Protocol, made: Instant, calls: u32) -> Stage
     ensures { (many : ℕ) × (many ≤ calls)
         × IsDrivenBy many (Drawing made) client.old result client.new
@@ -84,7 +86,8 @@ pub fn drive(client: &mut Protocol, made: Instant, calls: u32) -> Stage
     stage
 }
 
-/// Does what comes next at a stage, where something does.
+/// Makes the next call at this stage. Returns `None`, and changes nothing, if there is nothing more
+/// to do.
 fn go_on(client: &mut Protocol, stage: &Stage) -> Option<Stage>
     ensures some { IfSome result (λ next. IsStep stage.now client.old next client.new) }
     ensures none { IfNone result (HasStopped stage.now × (client.new ≡ client.old)) }
@@ -96,7 +99,7 @@ fn go_on(client: &mut Protocol, stage: &Stage) -> Option<Stage>
     }
 }
 
-/// Asks for what is to be sent at a moment.
+/// Calls `poll_transmit` at a time, and returns the next stage.
 fn draw(client: &mut Protocol, now: Instant) -> Stage
     requires { now ≤ 2 ^ 62 }
     ensures { IsStep (Drawing now) client.old result client.new }
@@ -108,13 +111,13 @@ fn draw(client: &mut Protocol, now: Instant) -> Stage
     }
 }
 
-/// Polls the client at a moment.
+/// Calls `poll` at a time, and returns the next stage.
 fn ask(client: &mut Protocol, now: Instant) -> Stage
     requires { now ≤ 2 ^ 62 }
     ensures { IsStep (Polling now) client.old result client.new }
 {
     match poll(client, now) {
-        TurnPollRet::WaitUntil(moment) => Stage::Drawing(moment),
+        TurnPollRet::WaitUntil(time) => Stage::Drawing(time),
         TurnPollRet::AllocateTcpSocket { .. } | TurnPollRet::TcpClose { .. } => Stage::Astray,
         TurnPollRet::Closed => Stage::Over(now),
         TurnPollRet::NoMemory => Stage::Failed(now),

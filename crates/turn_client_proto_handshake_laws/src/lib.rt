@@ -1,4 +1,4 @@
-//! Laws: a client's stages in a handshake, and a client to which nothing comes.
+//! Theorems on the stages of a client in a handshake, and on a client that receives nothing.
 #![tactic(auto)]
 
 pub mod driving;

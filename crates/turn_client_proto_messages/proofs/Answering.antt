@@ -1,4 +1,5 @@
--- An answer to a CONNECTION_ATTEMPT: nothing but want of memory refuses it, and what is written is its text.
+-- A response to a CONNECTION_ATTEMPT: signing it fails only if memory runs out, and what is written are its
+-- bytes.
 use Rattle.std.proofs.Common.{◌≡◌, ◌≢◌, ℕ, ◌≤◌, ◌<◌, ◌^◌, List, ◌++◌, length, map, Option, Some, None, refl, sym, ap, ◌∙◌, subst, arith, inl, inr}
 use Rattle.std.specs.List.{AllByRecursion}
 use Rattle.stun_types_wire.specs.Attributes.{Attr, kind_at}
@@ -31,14 +32,14 @@ use Rattle.turn_client_proto_messages.proofs.Writing.{unsigned_open}
 
 -- ---- ERROR-CODE
 
--- a code of an answer is lawful with the reason that goes with it
-pub code_accepted : (told : CodeAndOther) (code : ℕ) → told.code ≡ code → told.reason ≡ None → is_answer_code code → error_refusal told.code (reason_of told) ≡ None
+-- The code of a response is accepted with its default reason.
+pub code_accepted : (reported : CodeAndOther) (code : ℕ) → reported.code ≡ code → reported.reason ≡ None → is_answer_code code → error_refusal reported.code (reason_of reported) ≡ None
 unfolding error_refusal
-code_accepted told code is default (inl own) = rw (is, default, own) refl
-code_accepted told code is default (inr (inl own)) = rw (is, default, own) refl
-code_accepted told code is default (inr (inr own)) = rw (is, default, own) refl
+code_accepted reported code is default (inl own) = rw (is, default, own) refl
+code_accepted reported code is default (inr (inl own)) = rw (is, default, own) refl
+code_accepted reported code is default (inr (inr own)) = rw (is, default, own) refl
 
--- and takes few bytes
+-- Its ERROR-CODE is short.
 pub code_small : (code : ℕ) → is_answer_code code → IsSmall (error_attribute code)
 code_small code (inl own) = rw own (record {
   ordinary = record { fits = record { kind = omega arith; value = omega arith }; ordinary = refl };
@@ -53,9 +54,9 @@ code_small code (inr (inr own)) = rw own (record {
   short = omega arith;
 })
 
--- so nothing but want of memory refuses it
-pub no_other : (told : CodeAndOther) (code : ℕ) (error : StunWriteError) → told.code ≡ code → told.reason ≡ None → is_answer_code code → IsCause NoMemory (error_refusal told.code (reason_of told)) error → error ≢ NoMemory → ⊥
-no_other told code error is default own cause other = Prim.cc (sym (cause.named other) ∙ code_accepted told code is default own)
+-- So building it fails only with `NoMemory`.
+pub no_other : (reported : CodeAndOther) (code : ℕ) (error : StunWriteError) → reported.code ≡ code → reported.reason ≡ None → is_answer_code code → IsCause NoMemory (error_refusal reported.code (reason_of reported)) error → error ≢ NoMemory → ⊥
+no_other reported code error is default own cause other = Prim.cc (sym (cause.named other) ∙ code_accepted reported code is default own)
 
 answer_small : (answer : AttemptAnswer) → AllByRecursion IsSmall (answer_attributes answer)
 answer_small Accepted = tt
@@ -71,7 +72,7 @@ answer_few Failed = omega arith
 
 -- ---- the signature
 
--- a client adds its integrity attribute alone, where it keeps a challenge
+-- To a response a client adds only its integrity attribute, if it remembers a challenge.
 alone : (anonymous : Feature) (account : Option NameAndPassword) (challenge : Option Challenge) (answer : AttemptAnswer) → IsShortAddition (addition_by anonymous (standing_by account challenge) (answer_class answer))
 alone anonymous None challenge answer = nothing_short
 alone anonymous (Some account) None answer = nothing_short
@@ -85,7 +86,7 @@ answer_short client answer = alone client.anonymous_username client.account clie
 
 -- ---- the text
 
--- an answer is of its class
+-- The bytes of a response have its class.
 pub text_class : (answer : AttemptAnswer) (number : ℕ) (attributes : List Attr) → class_of (kind_at (message_text (answer_type answer) number attributes)) ≡ answer_class answer
 unfolding message_text header_text
 text_class Accepted number attributes = refl
@@ -96,14 +97,14 @@ text_class Failed number attributes = refl
 draft_class : (answer : AttemptAnswer) (number : ℕ) (draft : Draft) → IsAnswer answer number draft → class_of (kind_at draft.bytes) ≡ answer_class answer
 draft_class answer number draft is = ap (λ (b : List ℕ). class_of (kind_at b)) is.composed.text ∙ text_class answer number (answer_attributes answer)
 
--- nothing but want of memory refuses the signature
+-- Signing fails only if memory runs out.
 pub answer_accepted : (client : Client) (answer : AttemptAnswer) (number : ℕ) (draft : Draft) → IsAnswer answer number draft → length draft.bytes ≤ 4096
     → addition_refusal (addition_for client (class_of (kind_at draft.bytes))) draft ≡ None
 answer_accepted client answer number draft is fits =
     ap (λ (class : MessageClass). addition_refusal (addition_for client class) draft) (draft_class answer number draft is)
     ∙ short_accepted (addition_for client (answer_class answer)) draft (answer_short client answer) (unsigned_open (answer_type answer) number (answer_attributes answer) draft is) fits
 
--- what is signed is its text
+-- The signed message has the bytes of the response.
 pub signed_answer : (client : Client) (answer : AttemptAnswer) (number : ℕ) (old new : Draft) → IsAnswer answer number old
     → IsMade (addition_for client (class_of (kind_at old.bytes))) old new → new.bytes ≡ answer_text client answer number
 unfolding answer_text
@@ -120,13 +121,13 @@ type_small BadRequest = omega arith
 type_small AlreadyExists = omega arith
 type_small Failed = omega arith
 
--- an answer has the number of its request
+-- A response has the transaction ID of its request.
 pub answer_number : (client : Client) (answer : AttemptAnswer) (number : ℕ) → number < 2 ^ 96 → number_at (answer_text client answer number) ≡ number
 unfolding answer_text
 answer_number client answer number n =
     (whole_read (answer_type answer) number (answer_attributes answer) (addition_for client (answer_class answer)) (type_small answer) n (answer_small answer) (answer_few answer) (answer_short client answer)).number
 
--- and its class
+-- A response has its class.
 pub answer_is : (client : Client) (answer : AttemptAnswer) (number : ℕ) → class_of (kind_at (answer_text client answer number)) ≡ answer_class answer
 unfolding answer_text
 answer_is client answer number = text_class answer number _

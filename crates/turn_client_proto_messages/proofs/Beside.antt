@@ -1,5 +1,4 @@
--- What stands beside the attributes that tell of allocations, peers, channels and connections: attributes of
--- other types.
+-- Attributes that tell nothing of allocations, peers, channels and connections.
 use Rattle.std.proofs.Common.{◌≡◌, ℕ, Bool, true, false, eqb, List, [], ◌∷◌, ◌++◌, Option, Some, None, refl}
 use Rattle.std.specs.List.{AllByRecursion, filter, find, flat_map}
 use Rattle.stun_types_wire.specs.Attributes.{Attr}
@@ -19,7 +18,7 @@ use Rattle.turn_client_proto_messages.specs.Requests.{additional_family, familie
 abbrev pub is_of : ℕ → Attr → Bool
 is_of kind a = eqb a.kind kind
 
--- a type that tells of none of them
+-- A type that tells of none of these.
 pub record IsOther (kind : ℕ) : Type 0 where
   pub transport : eqb kind requested_transport_kind ≡ false
   pub relayed : eqb kind xor_relayed_address_kind ≡ false
@@ -31,16 +30,16 @@ pub record IsOther (kind : ℕ) : Type 0 where
 abbrev pub AreOther : List Attr → Type 0
 AreOther all = AllByRecursion (λ (a : Attr). IsOther a.kind) all
 
--- none of them is of a type
+-- None of the attributes is of this type.
 pub record HasNone (kind : ℕ) (all : List Attr) : Type 0 where
   pub found : find (is_of kind) all ≡ None
-  pub kept : filter (is_of kind) all ≡ []
+  pub stored : filter (is_of kind) all ≡ []
 
 none_here : (kind : ℕ) → HasNone kind []
-none_here kind = record { found = refl; kept = refl }
+none_here kind = record { found = refl; stored = refl }
 
 none_more : (kind : ℕ) (a : Attr) (all : List Attr) → eqb a.kind kind ≡ false → HasNone kind all → HasNone kind (a ∷ all)
-none_more kind a all differs rest = record { found = rw differs rest.found; kept = rw differs rest.kept }
+none_more kind a all differs rest = record { found = rw differs rest.found; stored = rw differs rest.stored }
 
 pub no_transport : (all : List Attr) → AreOther all → HasNone requested_transport_kind all
 no_transport [] other = none_here requested_transport_kind

@@ -1,4 +1,5 @@
--- What a signed request claims is what the client keeps, where its texts can be read.
+-- The authentication attributes of a signed request are those that the client remembers, if its texts are
+-- well formed.
 use Rattle.std.specs.Prelude.{◌==◌, IfSome}
 use Rattle.std.proofs.Common.{◌≡◌, ℕ, ◌<◌, ◌≤◌, ◌^◌, Bool, true, false, if◌then◌else◌, List, [], ◌∷◌, ◌++◌, length, map, Option, Some, None, refl, ap, ◌∙◌, subst, append_assoc, arith}
 use Rattle.std.specs.List.{flat_map}
@@ -8,7 +9,7 @@ use Rattle.stun_types_write.specs.Adding.{attr_of}
 use Rattle.stun_types_wire.specs.Attributes.{Attr}
 use Rattle.stun_types_add.specs.Calls.{Integrity, Ordinary, attributes_after, attributes_of}
 use Rattle.stun_types_integrity.specs.Credentials.{Key, NameAndPassword}
-use Rattle.stun_types_attributes.specs.AuthAttributes.Entries.{algorithm_read_refusal, algorithms_read_refusal, entry, number_told}
+use Rattle.stun_types_attributes.specs.AuthAttributes.Entries.{algorithm_read_refusal, algorithms_read_refusal, entry, number_decoded}
 use Rattle.stun_types_integrity.specs.Integrity.{algorithm_of}
 use Rattle.stun_types_wire.specs.declared.algorithm.IntegrityAlgorithm.{IntegrityAlgorithm}
 use Rattle.stun_types_wire.specs.declared.algorithm.IntegrityAlgorithm.TheVariants.{Sha1, Sha256, Sha512}
@@ -26,7 +27,7 @@ use Rattle.stun_types_base.specs.declared.family.AddressFamily.TheVariants.{IPV4
 use Rattle.stun_types_write.proofs.Values.{text_is_accepted, value_is_accepted}
 use Rattle.turn_types_attributes.specs.FamilyValues.{family_value}
 use Rattle.stun_proto_auth.specs.Addition.{Addition, attrs, calls_of, nonce_of, realm_of}
-use Rattle.stun_proto_auth.specs.Claims.{Claimed, algorithm_told, algorithms_told, claim_of, claimed, hash_told, last_of_kind, text_told, unless_refused}
+use Rattle.stun_proto_auth.specs.Claims.{Claimed, algorithm_decoded, algorithms_decoded, claim_of, claimed, hash_decoded, last_of_kind, text_decoded, unless_refused}
 use Rattle.stun_proto_client.specs.Client.{Challenge, Client, Standing, standing_by, standing_key, standing_of}
 use Rattle.stun_proto_client.specs.ClientSigning.{choice_parts, hides_name, name_part, request_parts}
 use Rattle.stun_proto_auth.specs.SupportedAlgorithms.{number_by}
@@ -34,7 +35,7 @@ use Rattle.turn_client_proto_messages.specs.OwnClaims.{own_claim}
 use Rattle.turn_client_proto_messages.specs.ReadTexts.{HasReadTexts, IsReadChallenge}
 use Rattle.turn_client_proto_messages.specs.Requests.{additional_family, allocation_lifetime, channel_attribute, connection_attribute, dont_fragment_attribute, families_attributes, is_signed, lifetime_attribute, peer_attribute, peer_of, request_attributes, request_calls, request_text, request_type, transport_attribute}
 use Rattle.turn_client_proto_messages.specs.ShortTexts.{HasShortTexts, IsShortChallenge}
-use Rattle.turn_client_proto_messages.specs.ToldRequests.{IsLawfulRequest}
+use Rattle.turn_client_proto_messages.specs.ReportedRequests.{IsLawfulRequest}
 use Rattle.turn_client_proto_messages.specs.declared.request.TurnRequest.{TurnRequest}
 use Rattle.turn_client_proto_messages.specs.declared.request.TurnRequest.TheVariants.{FirstAllocate, Allocate, Refresh, CreatePermission, ChannelBind, Connect, ConnectionBind}
 use Rattle.turn_client_proto_messages.proofs.Reading.{ordinary_then, request_read}
@@ -42,7 +43,7 @@ use Rattle.turn_client_proto_messages.proofs.Signed.{adds_of}
 
 -- ---- the last of a kind
 
--- a request's own attributes have none of this kind
+-- None of the request's own attributes is of this type.
 record IsFree (kind : ℕ) : Type 0 where
   transport : (0x19 == kind) ≡ false
   lifetime : (0x0D == kind) ≡ false
@@ -68,20 +69,20 @@ none_in_families kind (IPV4 ∷ families) free = none_in_families kind families 
 none_in_families kind (IPV6 ∷ families) free =
     none_more kind (attr_of 0x8000 (family_value IPV6)) (flat_map additional_family families) free.additional (none_in_families kind families free)
 
-none_asked : (kind : ℕ) (families : List AddressFamily) → IsFree kind → last_of_kind kind (families_attributes families) ≡ None
-none_asked kind [] free = none_here kind
-none_asked kind (IPV4 ∷ []) free = none_here kind
-none_asked kind (IPV6 ∷ []) free = none_more kind (attr_of 0x17 (family_value IPV6)) [] free.requested (none_here kind)
-none_asked kind (a ∷ b ∷ rest) free = none_in_families kind (a ∷ b ∷ rest) free
+none_requested : (kind : ℕ) (families : List AddressFamily) → IsFree kind → last_of_kind kind (families_attributes families) ≡ None
+none_requested kind [] free = none_here kind
+none_requested kind (IPV4 ∷ []) free = none_here kind
+none_requested kind (IPV6 ∷ []) free = none_more kind (attr_of 0x17 (family_value IPV6)) [] free.requested (none_here kind)
+none_requested kind (a ∷ b ∷ rest) free = none_in_families kind (a ∷ b ∷ rest) free
 
 none_own : (kind : ℕ) (request : TurnRequest) (number : ℕ) → IsFree kind → last_of_kind kind (request_attributes request number) ≡ None
 none_own kind (FirstAllocate transport families) number free =
     none_more kind (lifetime_attribute allocation_lifetime) (transport_attribute transport ∷ dont_fragment_attribute ∷ families_attributes families) free.lifetime
     (none_more kind (transport_attribute transport) (dont_fragment_attribute ∷ families_attributes families) free.transport
-    (none_more kind dont_fragment_attribute (families_attributes families) free.fragment (none_asked kind families free)))
+    (none_more kind dont_fragment_attribute (families_attributes families) free.fragment (none_requested kind families free)))
 none_own kind (Allocate transport families) number free =
     none_more kind (transport_attribute transport) (lifetime_attribute allocation_lifetime ∷ families_attributes families) free.transport
-    (none_more kind (lifetime_attribute allocation_lifetime) (families_attributes families) free.lifetime (none_asked kind families free))
+    (none_more kind (lifetime_attribute allocation_lifetime) (families_attributes families) free.lifetime (none_requested kind families free))
 none_own kind (Refresh lifetime) number free = none_more kind (lifetime_attribute lifetime) [] free.lifetime (none_here kind)
 none_own kind (CreatePermission ip) number free = none_more kind (peer_attribute number (peer_of ip)) [] free.peer (none_here kind)
 none_own kind (ChannelBind channel peer) number free =
@@ -104,9 +105,9 @@ last_of_both kind (a ∷ one) other =
     three None y z = refl
     three (Some b) y z = refl
 
--- behind attributes that have none of the kind
-last_behind : (kind : ℕ) (one other : List Attr) → last_of_kind kind one ≡ None → last_of_kind kind (one ++ other) ≡ last_of_kind kind other
-last_behind kind one other none = last_of_both kind one other ∙ (ap (λ (o : Option Attr). option_or (last_of_kind kind other) o) none ∙ right (last_of_kind kind other))
+-- Attributes of which none is of the type do not matter for the last of the type.
+last_after : (kind : ℕ) (one other : List Attr) → last_of_kind kind one ≡ None → last_of_kind kind (one ++ other) ≡ last_of_kind kind other
+last_after kind one other none = last_of_both kind one other ∙ (ap (λ (o : Option Attr). option_or (last_of_kind kind other) o) none ∙ right (last_of_kind kind other))
   where
     right : (o : Option Attr) → option_or o None ≡ o
     right None = refl
@@ -123,64 +124,64 @@ abbrev tail : Bool → List ℕ → List ℕ → List ℕ → List ℕ → Optio
 tail hidden name hash realm nonce offered choice key text =
     attrs (name_part hidden name hash ∷ realm_of realm ∷ nonce_of nonce ∷ choice_parts offered choice) ++ signature choice key text ∷ []
 
-abbrev list_shown : Option (List ℕ) → Option Attr
-list_shown None = None
-list_shown (Some list) = Some (attr_of password_algorithms_kind list)
+abbrev list_listed : Option (List ℕ) → Option Attr
+list_listed None = None
+list_listed (Some list) = Some (attr_of password_algorithms_kind list)
 
-abbrev choice_shown : Option (List ℕ) → IntegrityAlgorithm → Option Attr
-choice_shown None choice = None
-choice_shown (Some list) choice = Some (attr_of password_algorithm_kind (entry (number_by choice)))
+abbrev choice_listed : Option (List ℕ) → IntegrityAlgorithm → Option Attr
+choice_listed None choice = None
+choice_listed (Some list) choice = Some (attr_of password_algorithm_kind (entry (number_by choice)))
 
--- the last of each kind
+-- The last attribute of each type.
 record IsTail (hidden : Bool) (name hash realm nonce : List ℕ) (offered : Option (List ℕ)) (choice : IntegrityAlgorithm) (all : List Attr) : Type 0 where
   seal : last_algorithm all ≡ Some choice
   username : last_of_kind username_kind all ≡ (if hidden then None else Some (attr_of username_kind name))
   user_hash : last_of_kind userhash_kind all ≡ (if hidden then Some (attr_of userhash_kind hash) else None)
-  told_realm : last_of_kind realm_kind all ≡ Some (attr_of realm_kind realm)
-  told_nonce : last_of_kind nonce_kind all ≡ Some (attr_of nonce_kind nonce)
-  told_list : last_of_kind password_algorithms_kind all ≡ list_shown offered
-  told_choice : last_of_kind password_algorithm_kind all ≡ choice_shown offered choice
+  reported_realm : last_of_kind realm_kind all ≡ Some (attr_of realm_kind realm)
+  reported_nonce : last_of_kind nonce_kind all ≡ Some (attr_of nonce_kind nonce)
+  reported_list : last_of_kind password_algorithms_kind all ≡ list_listed offered
+  reported_choice : last_of_kind password_algorithm_kind all ≡ choice_listed offered choice
 
 tail_is : (hidden : Bool) (name hash realm nonce : List ℕ) (offered : Option (List ℕ)) (choice : IntegrityAlgorithm) (key text : List ℕ) → IsTail hidden name hash realm nonce offered choice (tail hidden name hash realm nonce offered choice key text)
 unfolding last_of_kind last_algorithm signature
 tail_is true name hash realm nonce None Sha1 key text =
-    record { seal = refl; username = refl; user_hash = refl; told_realm = refl; told_nonce = refl; told_list = refl; told_choice = refl }
+    record { seal = refl; username = refl; user_hash = refl; reported_realm = refl; reported_nonce = refl; reported_list = refl; reported_choice = refl }
 tail_is true name hash realm nonce None Sha256 key text =
-    record { seal = refl; username = refl; user_hash = refl; told_realm = refl; told_nonce = refl; told_list = refl; told_choice = refl }
+    record { seal = refl; username = refl; user_hash = refl; reported_realm = refl; reported_nonce = refl; reported_list = refl; reported_choice = refl }
 tail_is true name hash realm nonce None Sha512 key text =
-    record { seal = refl; username = refl; user_hash = refl; told_realm = refl; told_nonce = refl; told_list = refl; told_choice = refl }
+    record { seal = refl; username = refl; user_hash = refl; reported_realm = refl; reported_nonce = refl; reported_list = refl; reported_choice = refl }
 tail_is true name hash realm nonce (Some list) Sha1 key text =
-    record { seal = refl; username = refl; user_hash = refl; told_realm = refl; told_nonce = refl; told_list = refl; told_choice = refl }
+    record { seal = refl; username = refl; user_hash = refl; reported_realm = refl; reported_nonce = refl; reported_list = refl; reported_choice = refl }
 tail_is true name hash realm nonce (Some list) Sha256 key text =
-    record { seal = refl; username = refl; user_hash = refl; told_realm = refl; told_nonce = refl; told_list = refl; told_choice = refl }
+    record { seal = refl; username = refl; user_hash = refl; reported_realm = refl; reported_nonce = refl; reported_list = refl; reported_choice = refl }
 tail_is true name hash realm nonce (Some list) Sha512 key text =
-    record { seal = refl; username = refl; user_hash = refl; told_realm = refl; told_nonce = refl; told_list = refl; told_choice = refl }
+    record { seal = refl; username = refl; user_hash = refl; reported_realm = refl; reported_nonce = refl; reported_list = refl; reported_choice = refl }
 tail_is false name hash realm nonce None Sha1 key text =
-    record { seal = refl; username = refl; user_hash = refl; told_realm = refl; told_nonce = refl; told_list = refl; told_choice = refl }
+    record { seal = refl; username = refl; user_hash = refl; reported_realm = refl; reported_nonce = refl; reported_list = refl; reported_choice = refl }
 tail_is false name hash realm nonce None Sha256 key text =
-    record { seal = refl; username = refl; user_hash = refl; told_realm = refl; told_nonce = refl; told_list = refl; told_choice = refl }
+    record { seal = refl; username = refl; user_hash = refl; reported_realm = refl; reported_nonce = refl; reported_list = refl; reported_choice = refl }
 tail_is false name hash realm nonce None Sha512 key text =
-    record { seal = refl; username = refl; user_hash = refl; told_realm = refl; told_nonce = refl; told_list = refl; told_choice = refl }
+    record { seal = refl; username = refl; user_hash = refl; reported_realm = refl; reported_nonce = refl; reported_list = refl; reported_choice = refl }
 tail_is false name hash realm nonce (Some list) Sha1 key text =
-    record { seal = refl; username = refl; user_hash = refl; told_realm = refl; told_nonce = refl; told_list = refl; told_choice = refl }
+    record { seal = refl; username = refl; user_hash = refl; reported_realm = refl; reported_nonce = refl; reported_list = refl; reported_choice = refl }
 tail_is false name hash realm nonce (Some list) Sha256 key text =
-    record { seal = refl; username = refl; user_hash = refl; told_realm = refl; told_nonce = refl; told_list = refl; told_choice = refl }
+    record { seal = refl; username = refl; user_hash = refl; reported_realm = refl; reported_nonce = refl; reported_list = refl; reported_choice = refl }
 tail_is false name hash realm nonce (Some list) Sha512 key text =
-    record { seal = refl; username = refl; user_hash = refl; told_realm = refl; told_nonce = refl; told_list = refl; told_choice = refl }
+    record { seal = refl; username = refl; user_hash = refl; reported_realm = refl; reported_nonce = refl; reported_list = refl; reported_choice = refl }
 
--- a request's own attributes, what the client adds, and the integrity attribute
-shown_as : (kind number : ℕ) (own parts : List Attr) (key : Key)
+-- The attributes are those of the request, those that the client adds, and the integrity attribute.
+listed_as : (kind number : ℕ) (own parts : List Attr) (key : Key)
     → attributes_of kind number (map Ordinary own ++ (map Ordinary parts ++ Integrity key.algorithm key.bytes ∷ []))
     ≡ own ++ (parts ++ signature key.algorithm key.bytes (message_text kind number (own ++ parts)) ∷ [])
 unfolding attributes_after
-shown_as kind number own parts key =
+listed_as kind number own parts key =
     ordinary_then kind number own (map Ordinary parts ++ Integrity key.algorithm key.bytes ∷ []) []
     ∙ (ordinary_then kind number parts (Integrity key.algorithm key.bytes ∷ []) own
     ∙ append_assoc own parts (signature key.algorithm key.bytes (message_text kind number (own ++ parts)) ∷ []))
 
 -- ---- what can be read
 
--- the texts can be read, and so can the list and the hash
+-- The texts are well formed, and so are the list and the hash.
 record CanBeClaimed (s : Standing) : Type 0 where
   name : text_read_refusal username_kind longest_username (attr_of username_kind s.account.username) ≡ None
   realm : text_read_refusal realm_kind longest_text (attr_of realm_kind s.challenge.realm) ≡ None
@@ -197,7 +198,7 @@ same_standing : {a b : Standing} → Some a ≡ Some b → a ≡ b
 same_standing p = Prim.cc p
 
 can_be_claimed : (client : Client) (s : Standing) → standing_of client ≡ Some s → HasShortTexts client → HasReadTexts client → CanBeClaimed s
-can_be_claimed client s stands short reads = by client.account client.challenge stands short.username reads.username short.challenge reads.challenge
+can_be_claimed client s occurs short reads = by client.account client.challenge occurs short.username reads.username short.challenge reads.challenge
   where
     by : (account : Option NameAndPassword) (challenge : Option Challenge) → standing_by account challenge ≡ Some s
         → IfSome account (λ a. length a.username ≤ longest_username) → IfSome account (λ a. utf8_refusal a.username ≡ None)
@@ -227,7 +228,7 @@ same_claim i j u v h k r s n m l o a b ij uv hk rs nm lo ab =
     ∙ (ap (λ (x : Option (List ℕ)). claim_with j v k s m x a) lo
     ∙ ap (λ (x : Option ℕ). claim_with j v k s m o x) ab)))))
 
-module _ (client : Client) (request : TurnRequest) (number : ℕ) (s : Standing) (signed : is_signed request ≡ true) (stands : standing_of client ≡ Some s) where
+module _ (client : Client) (request : TurnRequest) (number : ℕ) (s : Standing) (signed : is_signed request ≡ true) (occurs : standing_of client ≡ Some s) where
   abbrev hides : Bool
   hides = hides_name client.anonymous_username s.challenge.nonce
 
@@ -246,43 +247,43 @@ module _ (client : Client) (request : TurnRequest) (number : ℕ) (s : Standing)
   abbrev shows : List Attr
   shows = attributes_of kind number (request_calls client request number)
 
-  abbrev behind : List Attr
-  behind = tail hides name hash s.challenge.realm s.challenge.nonce s.challenge.offered s.challenge.choice (standing_key s).bytes
+  abbrev following : List Attr
+  following = tail hides name hash s.challenge.realm s.challenge.nonce s.challenge.offered s.challenge.choice (standing_key s).bytes
       (message_text kind number (own ++ attrs (request_parts hides s)))
 
-  shown_is : shows ≡ own ++ behind
-  shown_is = ap (λ (a : Addition). attributes_of kind number (map Ordinary own ++ calls_of a)) (adds_of client request s signed stands)
-      ∙ shown_as kind number own (attrs (request_parts hides s)) (standing_key s)
+  visible_is : shows ≡ own ++ following
+  visible_is = ap (λ (a : Addition). attributes_of kind number (map Ordinary own ++ calls_of a)) (adds_of client request s signed occurs)
+      ∙ listed_as kind number own (attrs (request_parts hides s)) (standing_key s)
 
-  last_is : (k : ℕ) (a : Option Attr) → IsFree k → last_of_kind k behind ≡ a → last_of_kind k shows ≡ a
-  last_is k a free is = ap (last_of_kind k) shown_is ∙ (last_behind k own behind (none_own k request number free) ∙ is)
+  last_is : (k : ℕ) (a : Option Attr) → IsFree k → last_of_kind k following ≡ a → last_of_kind k shows ≡ a
+  last_is k a free is = ap (last_of_kind k) visible_is ∙ (last_after k own following (none_own k request number free) ∙ is)
 
   claims : CanBeClaimed s → claim_of shows ≡ own_claim client.anonymous_username s
-  unfolding text_told hash_told algorithms_told algorithm_told algorithm_read_refusal number_told raw.type_and_len_refusal numbers.number_refusal numbers.is_known
+  unfolding text_decoded hash_decoded algorithms_decoded algorithm_decoded algorithm_read_refusal number_decoded raw.type_and_len_refusal numbers.number_refusal numbers.is_known
   claims can =
       let ends = tail_is hides name hash s.challenge.realm s.challenge.nonce s.challenge.offered s.challenge.choice (standing_key s).bytes (message_text kind number (own ++ attrs (request_parts hides s))) in
       same_claim _ _ _ _ _ _ _ _ _ _ _ _ _ _
-      (ap last_algorithm shown_is ∙ last_algorithm_both own behind s.challenge.choice ends.seal)
-      (ap (text_told username_kind longest_username) (last_is username_kind _ (record { transport = refl; lifetime = refl; requested = refl; additional = refl; fragment = refl; peer = refl; channel = refl; connection = refl }) ends.username) ∙ name_read hides)
-      (ap hash_told (last_is userhash_kind _ (record { transport = refl; lifetime = refl; requested = refl; additional = refl; fragment = refl; peer = refl; channel = refl; connection = refl }) ends.user_hash) ∙ hash_read hides)
-      (ap (text_told realm_kind longest_text) (last_is realm_kind _ (record { transport = refl; lifetime = refl; requested = refl; additional = refl; fragment = refl; peer = refl; channel = refl; connection = refl }) ends.told_realm) ∙ ap (λ (o : Option StunParseError). unless_refused o s.challenge.realm) can.realm)
-      (ap (text_told nonce_kind longest_text) (last_is nonce_kind _ (record { transport = refl; lifetime = refl; requested = refl; additional = refl; fragment = refl; peer = refl; channel = refl; connection = refl }) ends.told_nonce) ∙ ap (λ (o : Option StunParseError). unless_refused o s.challenge.nonce) can.nonce)
-      (ap algorithms_told (last_is password_algorithms_kind _ (record { transport = refl; lifetime = refl; requested = refl; additional = refl; fragment = refl; peer = refl; channel = refl; connection = refl }) ends.told_list) ∙ list_read s.challenge.offered can.list)
-      (ap algorithm_told (last_is password_algorithm_kind _ (record { transport = refl; lifetime = refl; requested = refl; additional = refl; fragment = refl; peer = refl; channel = refl; connection = refl }) ends.told_choice) ∙ choice_read s.challenge.offered s.challenge.choice)
+      (ap last_algorithm visible_is ∙ last_algorithm_both own following s.challenge.choice ends.seal)
+      (ap (text_decoded username_kind longest_username) (last_is username_kind _ (record { transport = refl; lifetime = refl; requested = refl; additional = refl; fragment = refl; peer = refl; channel = refl; connection = refl }) ends.username) ∙ name_read hides)
+      (ap hash_decoded (last_is userhash_kind _ (record { transport = refl; lifetime = refl; requested = refl; additional = refl; fragment = refl; peer = refl; channel = refl; connection = refl }) ends.user_hash) ∙ hash_read hides)
+      (ap (text_decoded realm_kind longest_text) (last_is realm_kind _ (record { transport = refl; lifetime = refl; requested = refl; additional = refl; fragment = refl; peer = refl; channel = refl; connection = refl }) ends.reported_realm) ∙ ap (λ (o : Option StunParseError). unless_refused o s.challenge.realm) can.realm)
+      (ap (text_decoded nonce_kind longest_text) (last_is nonce_kind _ (record { transport = refl; lifetime = refl; requested = refl; additional = refl; fragment = refl; peer = refl; channel = refl; connection = refl }) ends.reported_nonce) ∙ ap (λ (o : Option StunParseError). unless_refused o s.challenge.nonce) can.nonce)
+      (ap algorithms_decoded (last_is password_algorithms_kind _ (record { transport = refl; lifetime = refl; requested = refl; additional = refl; fragment = refl; peer = refl; channel = refl; connection = refl }) ends.reported_list) ∙ list_read s.challenge.offered can.list)
+      (ap algorithm_decoded (last_is password_algorithm_kind _ (record { transport = refl; lifetime = refl; requested = refl; additional = refl; fragment = refl; peer = refl; channel = refl; connection = refl }) ends.reported_choice) ∙ choice_read s.challenge.offered s.challenge.choice)
     where
-      name_read : (h : Bool) → text_told username_kind longest_username (if h then None else Some (attr_of username_kind name)) ≡ (if h then None else Some name)
+      name_read : (h : Bool) → text_decoded username_kind longest_username (if h then None else Some (attr_of username_kind name)) ≡ (if h then None else Some name)
       name_read true = refl
       name_read false = ap (λ (o : Option StunParseError). unless_refused o name) can.name
 
-      hash_read : (h : Bool) → hash_told (if h then Some (attr_of userhash_kind hash) else None) ≡ (if h then Some hash else None)
+      hash_read : (h : Bool) → hash_decoded (if h then Some (attr_of userhash_kind hash) else None) ≡ (if h then Some hash else None)
       hash_read false = refl
       hash_read true = ap (λ (o : Option StunParseError). unless_refused o hash) can.hash
 
-      list_read : (o : Option (List ℕ)) → IfSome o (λ list. algorithms_read_refusal (attr_of password_algorithms_kind list) ≡ None) → algorithms_told (list_shown o) ≡ o
+      list_read : (o : Option (List ℕ)) → IfSome o (λ list. algorithms_read_refusal (attr_of password_algorithms_kind list) ≡ None) → algorithms_decoded (list_listed o) ≡ o
       list_read None reads = refl
       list_read (Some list) reads = ap (λ (o : Option StunParseError). unless_refused o list) reads
 
-      choice_read : (o : Option (List ℕ)) (choice : IntegrityAlgorithm) → algorithm_told (choice_shown o choice) ≡ option_map (λ (list : List ℕ). number_by choice) o
+      choice_read : (o : Option (List ℕ)) (choice : IntegrityAlgorithm) → algorithm_decoded (choice_listed o choice) ≡ option_map (λ (list : List ℕ). number_by choice) o
       choice_read None choice = refl
       choice_read (Some list) Sha1 = refl
       choice_read (Some list) Sha256 = refl
@@ -290,6 +291,6 @@ module _ (client : Client) (request : TurnRequest) (number : ℕ) (s : Standing)
 
 pub claim_law : (client : Client) (request : TurnRequest) (number : ℕ) (s : Standing) → HasShortTexts client → HasReadTexts client → IsLawfulRequest request → number < 2 ^ 96 → is_signed request ≡ true → standing_of client ≡ Some s
     → claimed (request_text client request number) ≡ own_claim client.anonymous_username s
-claim_law client request number s short reads lawful n signed stands =
+claim_law client request number s short reads lawful n signed occurs =
     ap claim_of (request_read client request number short lawful n).shows
-    ∙ claims client request number s signed stands (can_be_claimed client s stands short reads)
+    ∙ claims client request number s signed occurs (can_be_claimed client s occurs short reads)

@@ -1,11 +1,11 @@
--- The families that are asked for.
+-- The requested address families.
 use Rattle.std.proofs.Common.{◌≤◌, List, [], ◌∷◌, length, arith}
 use Rattle.std.specs.List.{IsDistinct}
 use Rattle.stun_types_base.specs.declared.family.AddressFamily.{AddressFamily}
 use Rattle.stun_types_base.specs.declared.family.AddressFamily.TheVariants.{IPV4, IPV6}
 use Rattle.turn_client_proto_api.specs.Families.{is_same_family}
 
--- of distinct families there are two at most
+-- There are at most two distinct families.
 pub two_families : (families : List AddressFamily) → IsDistinct is_same_family families → length families ≤ 2
 unfolding IsDistinct
 two_families [] d = omega arith

@@ -1,4 +1,4 @@
--- The first address of each family, taken one after the other.
+-- The first address of each family, taken one after another.
 use Rattle.std.proofs.Common.{◌≡◌, ℕ, Bool, true, false, not, ◌&&◌, ◌||◌, cond, List, [], ◌∷◌, ◌++◌, map, fold, Option, Some, None, refl, sym, ap, ◌∙◌, inl, inr}
 use Rattle.std.specs.List.{filter, filter_map, take_while}
 use Rattle.std.specs.Prelude.{is_some}
@@ -17,28 +17,28 @@ use Rattle.turn_client_proto_allocation.specs.Refreshing.{granted}
 use Rattle.turn_client_proto_allocation.specs.declared.allocation.Allocation.{Allocation}
 use Rattle.turn_client_proto_api.specs.Families.{is_same_family}
 use Rattle.turn_client_proto_messages.specs.Granting.{allocations_of, are_of_one_family, counts, first_of_each, has_family, is_wanted, with_address}
-use Rattle.turn_client_proto_messages.specs.Told.{addresses_in}
+use Rattle.turn_client_proto_messages.specs.Reported.{addresses_in}
 use Rattle.stun_types_wire.proofs.Left.{map_numbered}
 
 -- ---- the addresses, one attribute after the other
 
--- an address and others, where it is one
+-- The address, if there is one, before the others.
 abbrev pub with_others : Option SocketAddr → List SocketAddr → List SocketAddr
 with_others None others = []
 with_others (Some address) others = address ∷ others
 
--- the addresses in attributes, up to the first that is malformed
-unfoldable pub told_before : ℕ → List Attr → List SocketAddr
-told_before number [] = []
-told_before number (a ∷ rest) = with_others (address_in number a) (told_before number rest)
+-- The addresses in attributes, up to the first that is malformed.
+unfoldable pub reported_before : ℕ → List Attr → List SocketAddr
+reported_before number [] = []
+reported_before number (a ∷ rest) = with_others (address_in number a) (reported_before number rest)
 
 one_read : (o : Option SocketAddr) (h : Attr → Option SocketAddr) (a : Attr) (rest : List Attr) → h a ≡ o
     → filter_map h (cond (is_some o) (a ∷ rest) []) ≡ with_others o (filter_map h rest)
 one_read None h a rest is = refl
 one_read (Some address) h a rest is = rw is refl
 
-pub all_read : (number : ℕ) (all : List Attr) → told_before number all ≡ addresses_in number all
-unfolding told_before
+pub all_read : (number : ℕ) (all : List Attr) → reported_before number all ≡ addresses_in number all
+unfolding reported_before
 all_read number [] = refl
 all_read number (a ∷ rest) =
     ap (with_others (address_in number a)) (all_read number rest)
@@ -47,7 +47,7 @@ all_read number (a ∷ rest) =
 
 -- ---- tests, one after the other
 
--- what passes one test and then another
+-- Filtering by one test and then by another is filtering by both.
 filter_both : {X : Type 0} (p q r : X → Bool) → ((x : X) → r x ≡ (q x && p x)) → (all : List X) → filter p (filter q all) ≡ filter r all
 filter_both p q r is [] = refl
 filter_both p q r is (x ∷ rest) =
@@ -60,7 +60,7 @@ filter_both p q r is (x ∷ rest) =
       | inr first ↦ rw (is x, first) others
     ]
 
--- tests that agree
+-- Tests that agree filter alike.
 filter_alike : {X : Type 0} (p q : X → Bool) → ((x : X) → p x ≡ q x) → (all : List X) → filter p all ≡ filter q all
 filter_alike p q is [] = refl
 filter_alike p q is (x ∷ rest) =
@@ -78,7 +78,7 @@ swapped true false = refl
 swapped false true = refl
 swapped false false = refl
 
--- an element that fails leaves none of its likes
+-- An element that fails leaves none that is like it.
 fails_for_likes : {X : Type 0} (p : X → Bool) (like : X → X → Bool) (x : X) → ((y : X) → like x y ≡ true → p y ≡ p x) → p x ≡ false → (y : X) → p y ≡ (not (like x y) && p y)
 fails_for_likes p like x alike fails y =
     elim (cases_Bool (like x y)) [
@@ -129,35 +129,35 @@ none_of_more true false false false is = refl
 none_of_more true false true false is = absurd cc
 none_of_more true false false true is = absurd cc
 
--- an address counts behind another one where it counted before, and is of another family
-counts_behind : (families : List AddressFamily) (transport : TransportType) (lifetime now : ℕ) (before : List Allocation) (x y : SocketAddr)
+-- After an address was added, another one counts if it counted before and is of another family.
+counts_after : (families : List AddressFamily) (transport : TransportType) (lifetime now : ℕ) (before : List Allocation) (x y : SocketAddr)
     → counts families (before ++ granted transport x lifetime now ∷ []) y ≡ (counts families before y && not (are_of_one_family x y))
-counts_behind families transport lifetime now before x y =
+counts_after families transport lifetime now before x y =
     let test : Allocation → Bool = λ a. is_same_family (family_of_socket y) (family_of_socket a.address) in
     ap (λ (b : Bool). is_wanted families y && not b) (list_any-append test before (granted transport x lifetime now ∷ []))
     ∙ none_of_more (is_wanted families y) (has_family (family_of_socket y) before) (is_same_family (family_of_socket y) (family_of_socket x)) (are_of_one_family x y) (same_family_back (family_of_socket x) (family_of_socket y))
 
--- behind some allocations: those of the first address of each family that counts
-abbrev granted_behind : List AddressFamily → TransportType → ℕ → ℕ → List Allocation → List SocketAddr → List Allocation
-granted_behind families transport lifetime now before addresses =
+-- The given allocations, and after them those for the first address of each family that counts.
+abbrev granted_after : List AddressFamily → TransportType → ℕ → ℕ → List Allocation → List SocketAddr → List Allocation
+granted_after families transport lifetime now before addresses =
     before ++ map (λ a. granted transport a lifetime now) (first_of_each are_of_one_family (filter (counts families before) addresses))
 
 one_by_one : (families : List AddressFamily) (transport : TransportType) (lifetime now : ℕ) (before : List Allocation) (addresses : List SocketAddr)
-    → fold (with_address families transport lifetime now) before addresses ≡ granted_behind families transport lifetime now before addresses
+    → fold (with_address families transport lifetime now) before addresses ≡ granted_after families transport lifetime now before addresses
 unfolding first_of_each with_address
 one_by_one families transport lifetime now before [] = sym (append-nil before)
 one_by_one families transport lifetime now before (x ∷ rest) =
     let grant : SocketAddr → Allocation = λ a. granted transport a lifetime now in
     let more : List Allocation = before ++ grant x ∷ [] in
     let unlike : SocketAddr → Bool = λ y. not (are_of_one_family x y) in
-    let behind : filter unlike (first_of_each are_of_one_family (filter (counts families before) rest)) ≡ first_of_each are_of_one_family (filter (counts families more) rest) =
+    let following : filter unlike (first_of_each are_of_one_family (filter (counts families before) rest)) ≡ first_of_each are_of_one_family (filter (counts families more) rest) =
     first_passing unlike are_of_one_family (λ u v. same_family_alike (family_of_socket x) (family_of_socket u) (family_of_socket v)) (filter (counts families before) rest)
-    ∙ ap (first_of_each are_of_one_family) (filter_both unlike (counts families before) (counts families more) (counts_behind families transport lifetime now before x) rest) in
+    ∙ ap (first_of_each are_of_one_family) (filter_both unlike (counts families before) (counts families more) (counts_after families transport lifetime now before x) rest) in
     elim (cases_Bool (counts families before x)) [
       | inl is ↦ rw is (
           one_by_one families transport lifetime now more rest
           ∙ append_assoc before (grant x ∷ []) (map grant (first_of_each are_of_one_family (filter (counts families more) rest)))
-          ∙ ap (λ l. before ++ grant x ∷ map grant l) (sym behind))
+          ∙ ap (λ l. before ++ grant x ∷ map grant l) (sym following))
       | inr is ↦ rw is (one_by_one families transport lifetime now before rest)
     ]
 
@@ -165,11 +165,11 @@ wanted_alone : (families : List AddressFamily) (y : SocketAddr) → counts famil
 wanted_alone families y = swapped (is_wanted families y) true
 
 pub all_granted : (families : List AddressFamily) (transport : TransportType) (lifetime now number : ℕ) (all : List Attr)
-    → fold (with_address families transport lifetime now) [] (told_before number all) ≡ allocations_of families transport lifetime now (addresses_in number all)
+    → fold (with_address families transport lifetime now) [] (reported_before number all) ≡ allocations_of families transport lifetime now (addresses_in number all)
 all_granted families transport lifetime now number all =
-    one_by_one families transport lifetime now [] (told_before number all)
-    ∙ ap (λ l. map (λ a. granted transport a lifetime now) (first_of_each are_of_one_family l)) (filter_alike (counts families []) (is_wanted families) (wanted_alone families) (told_before number all))
+    one_by_one families transport lifetime now [] (reported_before number all)
+    ∙ ap (λ l. map (λ a. granted transport a lifetime now) (first_of_each are_of_one_family l)) (filter_alike (counts families []) (is_wanted families) (wanted_alone families) (reported_before number all))
     ∙ ap (allocations_of families transport lifetime now) (all_read number all)
 
--- one attribute more, and all of them
+-- One more attribute, and all of them.
 pub ruleset firsts = (map_numbered, all_granted)

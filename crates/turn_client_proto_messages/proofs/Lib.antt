@@ -10,10 +10,10 @@ pub mod Short
 pub mod Signed
 pub mod Signing
 pub mod Small
-pub mod ToldBytes
+pub mod ReportedBytes
 pub mod Writing
 pub mod Firsts
--- What stands above this crate has these through it.
+-- The crates above this one use these proofs through this file.
 pub use Rattle.turn_client_proto_allocation.proofs.TurnTypesFrame as TurnTypesFrame
 pub use Rattle.turn_client_proto_allocation.proofs.StunProtoTransaction as StunProtoTransaction
 pub use Rattle.turn_client_proto_api.proofs.StunProtoAgent as StunProtoAgent

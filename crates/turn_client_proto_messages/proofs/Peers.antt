@@ -1,4 +1,4 @@
--- An address is read back from XOR-PEER-ADDRESS.
+-- An address is decoded unchanged from XOR-PEER-ADDRESS.
 use Rattle.std.proofs.Common.{◌≡◌, ℕ, ◌+◌, ◌≤◌, List, [], ◌∷◌, ◌++◌, length, bit_xor, Some, None, refl, sym, ap, ◌∙◌, arith}
 use Rattle.std.specs.Net.Addr.{IsIpv4Addr, IsIpv6Addr, MatchIp, ipv4_octets, ipv6_octets, ipv6_segments, octets_of}
 use Rattle.std.specs.Net.Socket.{IsSocketAddr, socket_flowinfo, socket_scope_id, v4_ip, v4_port, v6_ip, v6_port}
@@ -13,7 +13,7 @@ use Rattle.stun_types_attributes.proofs.Masks.{port_xored, xored_again}
 use Rattle.turn_types_attributes.specs.TurnRegistry.{xor_peer_address_kind}
 use Rattle.turn_types_peer.specs.TurnShows.{unless_refused}
 use Rattle.turn_client_proto_messages.specs.Requests.{peer_of}
-use Rattle.turn_client_proto_messages.specs.ToldRequests.{IsReadBack}
+use Rattle.turn_client_proto_messages.specs.ReportedRequests.{IsReadBack}
 
 xor_length : (bytes mask : List ℕ) → length bytes ≤ length mask → length (xor_bytes bytes mask) ≡ length bytes
 xor_length [] mask enough = refl
@@ -28,7 +28,7 @@ octets_length : (segments : List ℕ) → length (octets_of segments) ≡ length
 octets_length [] = refl
 octets_length (s ∷ segments) = let rest = octets_length segments in omega (arith, rest)
 
--- an xored value is that of an xored port and xored octets
+-- The xored value consists of the xored port and the xored octets.
 xored_v4 : (number port : ℕ) (octets : List ℕ) → xored number (value_of_parts 1 port octets) ≡ value_of_parts 1 (bit_xor port 0x2112) (xor_bytes octets (octets_mask number))
 xored_v4 number port octets = ap (λ (l : List ℕ). 0 ∷ 1 ∷ (l ++ xor_bytes octets (octets_mask number))) (sym (port_xored port))
 
@@ -47,12 +47,12 @@ v6_accepted number port octets sixteen =
     let size = xor_length octets (octets_mask number) (omega (arith, mask, sixteen)) in
     ap address_refusal (xored_v6 number port octets) ∙ v6_is_accepted (bit_xor port 0x2112) (xor_bytes octets (octets_mask number)) (size ∙ sixteen)
 
--- an address whose value is read back
+-- An address whose value is decoded unchanged.
 record IsReadable (number : ℕ) (addr : SocketAddr) : Type 0 where
   accepted : address_refusal (xored number (address_value addr)) ≡ None
   same : address_again (xored number (address_value addr)) ≡ xored number (address_value addr)
   short : length (address_value addr) ≤ 20
-  told : address_of (address_value addr) ≡ Some addr
+  reported : address_of (address_value addr) ≡ Some addr
 
 read_again : (number : ℕ) (addr : SocketAddr) → IsReadable number addr → IsReadBack number addr
 read_again number addr r =
@@ -60,9 +60,9 @@ read_again number addr r =
     ap (λ refused. unless_refused refused (address_of (xored number (address_again value)))) (value_accepted xor_peer_address_kind value r.accepted)
     ∙ ap (λ (l : List ℕ). address_of (xored number l)) r.same
     ∙ ap address_of (xored_again number (address_value addr) r.short)
-    ∙ r.told
+    ∙ r.reported
 
--- an address without flow information and scope
+-- An address without flow information and scope is decoded unchanged.
 pub peer_read : (number : ℕ) (peer : SocketAddr) → IsSocketAddr peer → socket_flowinfo peer ≡ 0 → socket_scope_id peer ≡ 0 → IsReadBack number peer
 peer_read number (Socket.V4 a) own flow scope =
     let four = own.0.0 in
@@ -71,7 +71,7 @@ peer_read number (Socket.V4 a) own flow scope =
       accepted = v4_accepted number (v4_port a) octets four;
       same = refl;
       short = omega (arith, four);
-      told = rw (port_again (v4_port a) octets own.1) refl;
+      reported = rw (port_again (v4_port a) octets own.1) refl;
     })
 peer_read number (Socket.V6 a) own flow scope =
     let eight = own.0.0 in
@@ -81,10 +81,10 @@ peer_read number (Socket.V6 a) own flow scope =
       accepted = v6_accepted number (v6_port a) octets (omega (arith, eight, size));
       same = refl;
       short = omega (arith, eight, size);
-      told = rw (port_again (v6_port a) octets own.1, segments_again (ipv6_segments (v6_ip a)) own.0.1, flow, scope) refl;
+      reported = rw (port_again (v6_port a) octets own.1, segments_again (ipv6_segments (v6_ip a)) own.0.1, flow, scope) refl;
     })
 
--- and so the address of an IP
+-- So is the peer of an IP address.
 pub ip_read : (address : IpAddr) (number : ℕ) → MatchIp address IsIpv4Addr IsIpv6Addr → IsReadBack number (peer_of address)
 ip_read (Ip.V4 a) number own = peer_read number (peer_of (Ip.V4 a)) (own, omega arith) refl refl
 ip_read (Ip.V6 a) number own = peer_read number (peer_of (Ip.V6 a)) (own, omega arith, omega arith) refl refl

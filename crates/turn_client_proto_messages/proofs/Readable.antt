@@ -1,30 +1,30 @@
--- The texts of a client can be read: a challenge tells none that can't.
+-- The texts of a client stay well formed: malformed texts of a challenge are not used.
 use Rattle.std.specs.Prelude.{IfSome, MatchResult, Result, Ok, Err}
 use Rattle.std.proofs.Common.{◌≡◌, ℕ, Bool, true, false, eqb, if◌then◌else◌, List, Option, Some, None, refl, subst, inl, inr}
 use Rattle.std.proofs.lemmas.Bool.{cases_Bool}
 use Rattle.stun_types_write.specs.Adding.{attr_of}
 use Rattle.stun_types_wire.specs.Attributes.{Attr}
 use Rattle.stun_types_attributes.specs.AuthAttributes.Entries.{algorithms_read_refusal}
-use Rattle.stun_types_wire.specs.Grammar.{shown}
+use Rattle.stun_types_wire.specs.Grammar.{visible}
 use Rattle.stun_types_wire.specs.declared.algorithm.IntegrityAlgorithm.{IntegrityAlgorithm}
 use Rattle.stun_types_wire.specs.declared.error.StunParseError.{StunParseError}
 use Rattle.stun_types_wire.specs.RawBytes.{type_and_len_refusal}
 use Rattle.stun_types_wire.specs.Registry.{longest_text, nonce_kind, password_algorithms_kind, realm_kind}
 use Rattle.stun_types_write.specs.ValueReading.{text_read_refusal, utf8_refusal}
-use Rattle.stun_proto_auth.specs.Claims.{algorithms_told, claimed, last_of_kind, text_told, unless_refused}
-use Rattle.stun_proto_client.specs.Challenges.{Told, asks_again, challenge_shown, told_by, told_of}
+use Rattle.stun_proto_auth.specs.Claims.{algorithms_decoded, claimed, last_of_kind, text_decoded, unless_refused}
+use Rattle.stun_proto_client.specs.Challenges.{ChallengeFields, asks_again, challenge_visible, decoded_by, reported_of}
 use Rattle.stun_proto_client.specs.Client.{Client}
-use Rattle.stun_proto_client.specs.ClientValidation.{IsTaken, IsTurnedDown, keeping}
+use Rattle.stun_proto_client.specs.ClientValidation.{IsTaken, IsRejected, keeping}
 use Rattle.stun_proto_client.specs.declared.error.LongTermClientAuthError.{LongTermClientAuthError}
 use Rattle.stun_proto_client.specs.declared.error.LongTermClientAuthError.TheVariants.{Unauthorized, IntegrityFailed, UnsupportedFeature, NoMemory}
 use Rattle.stun_proto_client.specs.declared.validation.LongTermClientValidation.{LongTermClientValidation}
 use Rattle.stun_proto_client.specs.declared.validation.LongTermClientValidation.TheVariants.{ResendRequest, Validated}
 use Rattle.turn_client_proto_messages.specs.ReadTexts.{HasReadTexts}
-use Rattle.turn_client_proto_messages.proofs.Short.{or_second, same_told}
+use Rattle.turn_client_proto_messages.proofs.Short.{or_second, same_decoded}
 
--- ---- what is told can be read
+-- ---- what is reported can be read
 
--- a text in UTF-8, and a list of known algorithms
+-- A text in UTF-8, and a list of known algorithms.
 abbrev IsText : List ℕ → Type 0
 IsText text = utf8_refusal text ≡ None
 
@@ -47,49 +47,49 @@ unless_reads : (P : List ℕ → Type 0) (refused : Option StunParseError) (valu
 unless_reads P None value h = h refl
 unless_reads P (Some e) value h = tt
 
-text_told_reads : (kind most : ℕ) (a : Option Attr) → IfSome (text_told kind most a) IsText
-unfolding text_told
-text_told_reads kind most None = tt
-text_told_reads kind most (Some a) = unless_reads IsText (text_read_refusal kind most a) a.value (text_reads kind most a)
+text_reported_reads : (kind most : ℕ) (a : Option Attr) → IfSome (text_decoded kind most a) IsText
+unfolding text_decoded
+text_reported_reads kind most None = tt
+text_reported_reads kind most (Some a) = unless_reads IsText (text_read_refusal kind most a) a.value (text_reads kind most a)
 
-list_told_reads : (a : Option Attr) → IfSome (algorithms_told a) IsKnownList
-unfolding algorithms_told
-list_told_reads None = tt
-list_told_reads (Some a) = unless_reads IsKnownList (algorithms_read_refusal a) a.value (list_reads a)
+list_reported_reads : (a : Option Attr) → IfSome (algorithms_decoded a) IsKnownList
+unfolding algorithms_decoded
+list_reported_reads None = tt
+list_reported_reads (Some a) = unless_reads IsKnownList (algorithms_read_refusal a) a.value (list_reads a)
 
 -- ---- a challenge
 
--- what a challenge tells can be read
-record IsReadTold (told : Told) : Type 0 where
-  realm : IsText told.realm
-  nonce : IsText told.nonce
-  offered : IfSome told.offered IsKnownList
+-- The texts decoded from a challenge are well formed.
+record IsReadReported (reported : ChallengeFields) : Type 0 where
+  realm : IsText reported.realm
+  nonce : IsText reported.nonce
+  offered : IfSome reported.offered IsKnownList
 
 list_counts : (list : Option (List ℕ)) (counts : Bool) → IfSome list IsKnownList → IfSome (if counts then list else None) IsKnownList
 list_counts list true reads = reads
 list_counts list false reads = tt
 
-told_reads : (realm nonce list : Option (List ℕ)) (told : Told) → IfSome realm IsText → IfSome nonce IsText → IfSome list IsKnownList → told_by realm nonce list ≡ Some told → IsReadTold told
-told_reads None _ list told r n l is = absurd (Prim.cc is)
-told_reads (Some realm) None list told r n l is = absurd (Prim.cc is)
-told_reads (Some realm) (Some nonce) list told r n l is =
-    subst IsReadTold (same_told is) (record { realm = r; nonce = n; offered = list_counts list _ l })
+reported_reads : (realm nonce list : Option (List ℕ)) (reported : ChallengeFields) → IfSome realm IsText → IfSome nonce IsText → IfSome list IsKnownList → decoded_by realm nonce list ≡ Some reported → IsReadReported reported
+reported_reads None _ list reported r n l is = absurd (Prim.cc is)
+reported_reads (Some realm) None list reported r n l is = absurd (Prim.cc is)
+reported_reads (Some realm) (Some nonce) list reported r n l is =
+    subst IsReadReported (same_decoded is) (record { realm = r; nonce = n; offered = list_counts list _ l })
 
-challenge_reads : (bytes : List ℕ) (told : Told) → challenge_shown bytes ≡ Some told → IsReadTold told
-challenge_reads bytes told is = by (asks_again bytes) is
+challenge_reads : (bytes : List ℕ) (reported : ChallengeFields) → challenge_visible bytes ≡ Some reported → IsReadReported reported
+challenge_reads bytes reported is = by (asks_again bytes) is
   where
-    by : (asks : Bool) → (if asks then told_of (claimed bytes) else None) ≡ Some told → IsReadTold told
+    by : (asks : Bool) → (if asks then reported_of (claimed bytes) else None) ≡ Some reported → IsReadReported reported
     by true h =
-        told_reads (claimed bytes).realm (claimed bytes).nonce (claimed bytes).algorithms told
-        (text_told_reads realm_kind longest_text (last_of_kind realm_kind (shown bytes)))
-        (text_told_reads nonce_kind longest_text (last_of_kind nonce_kind (shown bytes)))
-        (list_told_reads (last_of_kind password_algorithms_kind (shown bytes))) h
+        reported_reads (claimed bytes).realm (claimed bytes).nonce (claimed bytes).algorithms reported
+        (text_reported_reads realm_kind longest_text (last_of_kind realm_kind (visible bytes)))
+        (text_reported_reads nonce_kind longest_text (last_of_kind nonce_kind (visible bytes)))
+        (list_reported_reads (last_of_kind password_algorithms_kind (visible bytes))) h
     by false h = absurd (Prim.cc h)
 
 -- ---- a validation
 
-kept_reads : (old new : Client) (told : Told) (choice : IntegrityAlgorithm) → new ≡ keeping old told choice → IsReadTold told → HasReadTexts old → HasReadTexts new
-kept_reads old new told choice is reads own = rw is (record {
+stored_reads : (old new : Client) (reported : ChallengeFields) (choice : IntegrityAlgorithm) → new ≡ keeping old reported choice → IsReadReported reported → HasReadTexts old → HasReadTexts new
+stored_reads old new reported choice is reads own = rw is (record {
   username = own.username;
   challenge = record { realm = reads.realm; nonce = reads.nonce; offered = reads.offered };
 })
@@ -101,17 +101,17 @@ same_reads : (old new : Client) → new ≡ old → HasReadTexts old → HasRead
 same_reads old new is own = rw is own
 
 taken_reads : (old : Client) (bytes : List ℕ) (answer : LongTermClientValidation) (new : Client) → IsTaken old bytes answer new → HasReadTexts old → HasReadTexts new
-taken_reads old bytes (ResendRequest choice) new taken own = kept_reads old new taken.told choice taken.kept (challenge_reads bytes taken.told taken.shown) own
-taken_reads old bytes (Validated algorithm) new taken own = going_reads old new (Some algorithm) taken.kept own
+taken_reads old bytes (ResendRequest choice) new taken own = stored_reads old new taken.reported choice taken.stored (challenge_reads bytes taken.reported taken.visible) own
+taken_reads old bytes (Validated algorithm) new taken own = going_reads old new (Some algorithm) taken.stored own
 
-turned_reads : (old : Client) (bytes : List ℕ) (error : LongTermClientAuthError) (new : Client) → IsTurnedDown old bytes error new → HasReadTexts old → HasReadTexts new
-turned_reads old bytes Unauthorized new down own = going_reads old new None down.kept own
-turned_reads old bytes (IntegrityFailed algorithm) new down own = going_reads old new (Some down.standing.challenge.choice) down.kept own
+turned_reads : (old : Client) (bytes : List ℕ) (error : LongTermClientAuthError) (new : Client) → IsRejected old bytes error new → HasReadTexts old → HasReadTexts new
+turned_reads old bytes Unauthorized new down own = going_reads old new None down.stored own
+turned_reads old bytes (IntegrityFailed algorithm) new down own = going_reads old new (Some down.standing.challenge.choice) down.stored own
 turned_reads old bytes UnsupportedFeature new down own = same_reads old new down.unchanged own
 turned_reads old bytes NoMemory new down own = same_reads old new down.unchanged own
 
 pub stay_readable : (old new : Client) (bytes : List ℕ) (result : Result LongTermClientValidation LongTermClientAuthError)
-    → MatchResult result (λ answer. IsTaken old bytes answer new) (λ error. IsTurnedDown old bytes error new) → HasReadTexts old → HasReadTexts new
+    → MatchResult result (λ answer. IsTaken old bytes answer new) (λ error. IsRejected old bytes error new) → HasReadTexts old → HasReadTexts new
 stay_readable old new bytes (Ok answer) outcome own = taken_reads old bytes answer new outcome own
 stay_readable old new bytes (Err error) outcome own = turned_reads old bytes error new outcome own
 

@@ -1,4 +1,4 @@
--- The text of a request is read as the request.
+-- The bytes of a request are decoded as the request.
 use Rattle.std.proofs.Common.{◌≡◌, ℕ, ◌+◌, ◌*◌, ◌<◌, ◌≤◌, ◌^◌, Bool, true, false, if◌then◌else◌, List, [], ◌∷◌, ◌++◌, length, map, Option, Some, None, refl, sym, ap, ◌∙◌, subst, append_assoc, arith}
 use Rattle.std.specs.List.{AllByRecursion, flat_map}
 use Rattle.std.proofs.lemmas.List.{append-nil}
@@ -10,30 +10,30 @@ use Rattle.stun_types_write.specs.Drafts.{Draft, empty, none_ended}
 use Rattle.stun_types_wire.specs.Grammar.{number_at, refusal}
 use Rattle.stun_types_wire.specs.declared.class.MessageClass.TheVariants.{Request}
 use Rattle.stun_types_wire.specs.MessageReading.{IsReadAs}
-use Rattle.stun_types_write.specs.Outcomes.{IsBegunAs, added}
+use Rattle.stun_types_write.specs.Outcomes.{IsStartedAs, added}
 use Rattle.stun_types_integrity.specs.Signing.{signature}
 use Rattle.stun_types_wire.specs.Text.{body_text, header_text, message_text}
 use Rattle.stun_types_base.specs.declared.family.AddressFamily.{AddressFamily}
 use Rattle.stun_types_base.specs.declared.family.AddressFamily.TheVariants.{IPV4, IPV6}
-use Rattle.stun_types_add.proofs.Adds.{length-after_add, text_begun}
+use Rattle.stun_types_add.proofs.Adds.{length-after_add, text_started}
 use Rattle.stun_types_add.proofs.Taken.{both_accepted}
 use Rattle.stun_types_message.proofs.Composed.{calls_read, written_text}
 use Rattle.turn_client_proto_api.specs.StunProtoAgent.Sending.{is_request, is_request_class}
 use Rattle.stun_proto_auth.specs.Addition.{Addition, PartOf, attrs, calls_of, calls_of_parts, calls_of_signer, no_addition}
 use Rattle.stun_proto_client.specs.Client.{Client}
 use Rattle.stun_proto_client.specs.ClientSigning.{addition_for}
-use Rattle.turn_runs.specs.StunWire.{told_by}
+use Rattle.turn_runs.specs.StunWire.{decoded_by}
 use Rattle.turn_client_proto_messages.specs.Composing.{IsOpen, IsSmall}
 use Rattle.turn_client_proto_messages.specs.Requests.{additional_family, addition_of, families_attributes, is_signed, request_attributes, request_calls, request_text, request_type}
 use Rattle.turn_client_proto_messages.specs.ShortTexts.{HasShortTexts}
-use Rattle.turn_client_proto_messages.specs.ToldRequests.{CanBeRead, IsLawfulRequest, told_request}
+use Rattle.turn_client_proto_messages.specs.ReportedRequests.{CanBeRead, IsLawfulRequest, reported_request}
 use Rattle.turn_client_proto_messages.specs.declared.request.TurnRequest.{TurnRequest}
 use Rattle.turn_client_proto_messages.specs.declared.request.TurnRequest.TheVariants.{FirstAllocate, Allocate, Refresh, CreatePermission, ChannelBind, Connect, ConnectionBind}
 use Rattle.turn_client_proto_messages.proofs.Beside.{AreOther, client_other, other_both, signature_other}
 use Rattle.turn_client_proto_messages.proofs.Growing.{open_added, open_room}
 use Rattle.turn_client_proto_messages.proofs.Signing.{IsShortAddition, IsShortPart, client_short, nothing_short, parts_left, signer_calls}
 use Rattle.turn_client_proto_messages.proofs.Small.{additional_small, channel_small, connection_small, dont_fragment_small, lifetime_small, peer_small, requested_small, transport_small}
-use Rattle.turn_client_proto_messages.proofs.ToldBytes.{request_told, told_shown}
+use Rattle.turn_client_proto_messages.proofs.ReportedBytes.{request_reported, reported_listed}
 use Rattle.turn_client_proto_messages.proofs.Writing.{text_class}
 
 -- ---- the attributes of a request
@@ -43,15 +43,15 @@ families_small [] = tt
 families_small (IPV4 ∷ families) = families_small families
 families_small (IPV6 ∷ families) = (additional_small IPV6, families_small families)
 
-asked_small : (families : List AddressFamily) → AllByRecursion IsSmall (families_attributes families)
-asked_small [] = tt
-asked_small (IPV4 ∷ []) = tt
-asked_small (IPV6 ∷ []) = (requested_small IPV6, tt)
-asked_small (a ∷ b ∷ rest) = families_small (a ∷ b ∷ rest)
+requested_is_small : (families : List AddressFamily) → AllByRecursion IsSmall (families_attributes families)
+requested_is_small [] = tt
+requested_is_small (IPV4 ∷ []) = tt
+requested_is_small (IPV6 ∷ []) = (requested_small IPV6, tt)
+requested_is_small (a ∷ b ∷ rest) = families_small (a ∷ b ∷ rest)
 
 pub attributes_small : (request : TurnRequest) (number : ℕ) → AllByRecursion IsSmall (request_attributes request number)
-attributes_small (FirstAllocate transport families) number = (lifetime_small 1800, (transport_small _, (dont_fragment_small, asked_small families)))
-attributes_small (Allocate transport families) number = (transport_small _, (lifetime_small 1800, asked_small families))
+attributes_small (FirstAllocate transport families) number = (lifetime_small 1800, (transport_small _, (dont_fragment_small, requested_is_small families)))
+attributes_small (Allocate transport families) number = (transport_small _, (lifetime_small 1800, requested_is_small families))
 attributes_small (Refresh lifetime) number = (lifetime_small lifetime, tt)
 attributes_small (CreatePermission ip) number = (peer_small number _, tt)
 attributes_small (ChannelBind channel peer) number = (channel_small channel, (peer_small number _, tt))
@@ -63,15 +63,15 @@ families_few [] = omega arith
 families_few (IPV4 ∷ families) = let rest = families_few families in omega (arith, rest)
 families_few (IPV6 ∷ families) = let rest = families_few families in omega (arith, rest)
 
-asked_few : (families : List AddressFamily) → length (families_attributes families) ≤ length families
-asked_few [] = omega arith
-asked_few (IPV4 ∷ []) = omega arith
-asked_few (IPV6 ∷ []) = omega arith
-asked_few (a ∷ b ∷ rest) = families_few (a ∷ b ∷ rest)
+requested_few : (families : List AddressFamily) → length (families_attributes families) ≤ length families
+requested_few [] = omega arith
+requested_few (IPV4 ∷ []) = omega arith
+requested_few (IPV6 ∷ []) = omega arith
+requested_few (a ∷ b ∷ rest) = families_few (a ∷ b ∷ rest)
 
 pub attributes_few : (request : TurnRequest) (number : ℕ) → IsLawfulRequest request → length (request_attributes request number) ≤ 5
-attributes_few (FirstAllocate transport families) number lawful = let few = asked_few families in omega (arith, few, lawful)
-attributes_few (Allocate transport families) number lawful = let few = asked_few families in omega (arith, few, lawful)
+attributes_few (FirstAllocate transport families) number lawful = let few = requested_few families in omega (arith, few, lawful)
+attributes_few (Allocate transport families) number lawful = let few = requested_few families in omega (arith, few, lawful)
 attributes_few (Refresh lifetime) number lawful = omega arith
 attributes_few (CreatePermission ip) number lawful = omega arith
 attributes_few (ChannelBind channel peer) number lawful = omega arith
@@ -80,7 +80,7 @@ attributes_few (ConnectionBind connection) number lawful = omega arith
 
 -- ---- its calls are accepted
 
--- what small attributes leave of an open message
+-- What holds of an open message after short attributes were added.
 record IsLeft (attributes : List Attr) (draft : Draft) : Type 0 where
   calls : AreAccepted (map Ordinary attributes) draft
   still : IsOpen (after_calls (map Ordinary attributes) draft)
@@ -93,54 +93,54 @@ attributes_left (a ∷ rest) draft small o fits =
     let few = small.0.short in
     let room : add_refusal draft (attr_size a) ≡ None = open_room draft (attr_size a) o (omega (arith, few, fits)) in
     let next = open_added a draft o small.0.ordinary.ordinary (omega (arith, few, fits)) in
-    let grown = length-after_add draft.bytes a o.begun in
+    let grown = length-after_add draft.bytes a o.started in
     let left = attributes_left rest (added a draft) small.1 next (omega (arith, few, fits, grown)) in
     let size = left.size in
     record { calls = (room, left.calls); still = left.still; size = omega (arith, size, few, grown) }
 
--- a header alone
+-- A message without attributes.
 abbrev pub header_alone : ℕ → ℕ → Draft
-header_alone kind number = record { bytes = message_text kind number []; behind = []; ended = none_ended; limit = None }
+header_alone kind number = record { bytes = message_text kind number []; following = []; ended = none_ended; limit = None }
 
 header_length : (kind number : ℕ) → length (message_text kind number []) ≡ 20
 unfolding message_text body_text header_text
 header_length kind number = refl
 
-header_begun : (kind number : ℕ) → kind < 2 ^ 14 → IsBegunAs kind number (empty [] None) (header_alone kind number)
-header_begun kind number k = record {
+header_started : (kind number : ℕ) → kind < 2 ^ 14 → IsStartedAs kind number (empty [] None) (header_alone kind number)
+header_started kind number k = record {
   text = refl;
   size = header_length kind number;
-  behind = refl;
+  following = refl;
   ended = refl;
   limit = refl;
-  begun = text_begun kind number k;
+  started = text_started kind number k;
 }
 
 header_open : (kind number : ℕ) → kind < 2 ^ 14 → IsOpen (header_alone kind number)
-header_open kind number k = record { begun = text_begun kind number k; ended = refl; limit = refl }
+header_open kind number k = record { started = text_started kind number k; ended = refl; limit = refl }
 
--- a message that was begun, and took small attributes and a short addition
+-- A message that was started and took short attributes and a short addition.
 pub all_written : (kind number : ℕ) (attributes : List Attr) (made : Addition) → kind < 2 ^ 14 → AllByRecursion IsSmall attributes → length attributes ≤ 5 → IsShortAddition made
     → IsWritten kind number (map Ordinary attributes ++ calls_of made) (after_calls (map Ordinary attributes ++ calls_of made) (header_alone kind number))
 all_written kind number attributes made k small few short =
     let header = header_alone kind number in
     let size = header_length kind number in
-    let front = attributes_left attributes header small (header_open kind number k) (omega (arith, size, few)) in
+    let head = attributes_left attributes header small (header_open kind number k) (omega (arith, size, few)) in
     let middle = after_calls (map Ordinary attributes) header in
-    let long = front.size in
-    let parts = parts_left made.parts middle short.each front.still (let most = short.few in omega (arith, long, size, few, most)) in
+    let long = head.size in
+    let parts = parts_left made.parts middle short.each head.still (let most = short.few in omega (arith, long, size, few, most)) in
     let end = after_calls (calls_of_parts made.parts) middle in
     let longer = parts.size in
     let signer = signer_calls end made.signer parts.still (let most = short.few in omega (arith, longer, long, size, few, most)) in
     record {
       empty = empty [] None;
       header = header;
-      begun = header_begun kind number k;
-      accepted = both_accepted (map Ordinary attributes) (calls_of made) header front.calls (both_accepted (calls_of_parts made.parts) (calls_of_signer made.signer) middle parts.calls signer);
+      started = header_started kind number k;
+      accepted = both_accepted (map Ordinary attributes) (calls_of made) header head.calls (both_accepted (calls_of_parts made.parts) (calls_of_signer made.signer) middle parts.calls signer);
       is = refl;
     }
 
--- ---- and lawful
+-- ---- and valid
 
 pub lawful_both : (xs ys : List Add) → AllByRecursion IsLawful xs → AllByRecursion IsLawful ys → AllByRecursion IsLawful (xs ++ ys)
 lawful_both [] ys h k = k
@@ -167,24 +167,24 @@ ordinary_then mtype number (a ∷ all) more before =
     ordinary_then mtype number all more (before ++ a ∷ [])
     ∙ ap (λ (l : List Attr). attributes_after mtype number more l) (append_assoc before (a ∷ []) all)
 
--- behind some attributes there are others, which tell of nothing
-record HasBehind (all attributes : List Attr) : Type 0 where
+-- After the given attributes there are only others that tell nothing of allocations and peers.
+record HasAfter (all attributes : List Attr) : Type 0 where
   rest : List Attr
   parts : all ≡ attributes ++ rest
   other : AreOther rest
 
-signer_behind : (mtype number : ℕ) (signer : Option Key) (before : List Attr) → HasBehind (attributes_after mtype number (calls_of_signer signer) before) before
+signer_after : (mtype number : ℕ) (signer : Option Key) (before : List Attr) → HasAfter (attributes_after mtype number (calls_of_signer signer) before) before
 unfolding attributes_after
-signer_behind mtype number None before = record { rest = []; parts = sym (append-nil before); other = tt }
-signer_behind mtype number (Some key) before = record {
+signer_after mtype number None before = record { rest = []; parts = sym (append-nil before); other = tt }
+signer_after mtype number (Some key) before = record {
   rest = signature key.algorithm key.bytes (message_text mtype number before) ∷ [];
   parts = refl;
   other = (signature_other key.algorithm key.bytes (message_text mtype number before), tt);
 }
 
-calls_behind : (mtype number : ℕ) (attributes : List Attr) (made : Addition) → AreOther (attrs made.parts) → HasBehind (attributes_of mtype number (map Ordinary attributes ++ calls_of made)) attributes
-calls_behind mtype number attributes made other =
-    let end = signer_behind mtype number made.signer (attributes ++ attrs made.parts) in
+calls_after : (mtype number : ℕ) (attributes : List Attr) (made : Addition) → AreOther (attrs made.parts) → HasAfter (attributes_of mtype number (map Ordinary attributes ++ calls_of made)) attributes
+calls_after mtype number attributes made other =
+    let end = signer_after mtype number made.signer (attributes ++ attrs made.parts) in
     record {
       rest = attrs made.parts ++ end.rest;
       parts = ordinary_then mtype number attributes (calls_of made) []
@@ -221,7 +221,7 @@ type_small (ConnectionBind connection) = omega arith
 
 -- ---- what is read
 
--- a message of small attributes and a short addition is read as it was written
+-- A message of short attributes and a short addition is decoded as it was written.
 pub whole_read : (kind number : ℕ) (attributes : List Attr) (made : Addition) → kind < 2 ^ 14 → number < 2 ^ 96 → AllByRecursion IsSmall attributes → length attributes ≤ 5 → IsShortAddition made
     → IsReadAs kind number (attributes_of kind number (map Ordinary attributes ++ calls_of made)) (message_text kind number (attributes_of kind number (map Ordinary attributes ++ calls_of made)))
 whole_read kind number attributes made k n small few short =
@@ -243,15 +243,15 @@ message_law client request number short lawful n = (request_read client request 
 pub number_law : (client : Client) (request : TurnRequest) (number : ℕ) → HasShortTexts client → IsLawfulRequest request → number < 2 ^ 96 → number_at (request_text client request number) ≡ number
 number_law client request number short lawful n = (request_read client request number short lawful n).number
 
-pub told_law : (client : Client) (request : TurnRequest) (number : ℕ) → HasShortTexts client → IsLawfulRequest request → number < 2 ^ 96 → CanBeRead request number
-    → told_by (request_text client request number) ≡ told_request request number
-told_law client request number short lawful n read =
+pub reported_law : (client : Client) (request : TurnRequest) (number : ℕ) → HasShortTexts client → IsLawfulRequest request → number < 2 ^ 96 → CanBeRead request number
+    → decoded_by (request_text client request number) ≡ reported_request request number
+reported_law client request number short lawful n read =
     let kind = request_type request in
     let text = request_text client request number in
-    let behind = calls_behind kind number (request_attributes request number) (addition_of client request) (addition_other client request) in
-    let shows = subst (λ (all : List Attr). IsReadAs kind number all text) behind.parts (request_read client request number short lawful n) in
-    told_shown kind number (request_attributes request number ++ behind.rest) text shows
-    ∙ request_told request number behind.rest lawful read behind.other
+    let following = calls_after kind number (request_attributes request number) (addition_of client request) (addition_other client request) in
+    let shows = subst (λ (all : List Attr). IsReadAs kind number all text) following.parts (request_read client request number short lawful n) in
+    reported_listed kind number (request_attributes request number ++ following.rest) text shows
+    ∙ request_reported request number following.rest lawful read following.other
 
 pub request_law : (client : Client) (request : TurnRequest) (number : ℕ) → is_request (request_text client request number) ≡ true
 unfolding request_text

@@ -1,4 +1,4 @@
--- The texts of a client stay short: a challenge tells none that is long.
+-- The texts of a client stay short: texts of a challenge that are too long are not used.
 use Rattle.std.specs.Prelude.{IfSome, MatchResult, Result, Ok, Err}
 use Rattle.std.proofs.Common.{◌≡◌, ℕ, ◌≤◌, Bool, true, false, ltb, eqb, if◌then◌else◌, List, length, Option, Some, None, refl, subst, inl, inr}
 use Rattle.std.proofs.lemmas.Bool.{cases_Bool, ltb-false}
@@ -6,16 +6,16 @@ use Rattle.std.specs.Option.{option_or}
 use Rattle.std.specs.declared.ops.Bound.TheVariants.{Included}
 use Rattle.stun_types_wire.specs.Attributes.{Attr}
 use Rattle.stun_types_attributes.specs.AuthAttributes.Entries.{algorithms_read_refusal}
-use Rattle.stun_types_wire.specs.Grammar.{shown}
+use Rattle.stun_types_wire.specs.Grammar.{visible}
 use Rattle.stun_types_wire.specs.declared.algorithm.IntegrityAlgorithm.{IntegrityAlgorithm}
 use Rattle.stun_types_wire.specs.declared.error.StunParseError.{StunParseError}
 use Rattle.stun_types_wire.specs.RawBytes.{above_refusal, below_refusal, type_and_len_refusal}
 use Rattle.stun_types_wire.specs.Registry.{nonce_kind, password_algorithms_kind, realm_kind}
 use Rattle.stun_types_write.specs.ValueReading.{text_read_refusal, value_refusal}
-use Rattle.stun_proto_auth.specs.Claims.{algorithms_told, claimed, last_of_kind, text_told, unless_refused}
-use Rattle.stun_proto_client.specs.Challenges.{Told, asks_again, challenge_shown, told_by, told_of}
+use Rattle.stun_proto_auth.specs.Claims.{algorithms_decoded, claimed, last_of_kind, text_decoded, unless_refused}
+use Rattle.stun_proto_client.specs.Challenges.{ChallengeFields, asks_again, challenge_visible, decoded_by, reported_of}
 use Rattle.stun_proto_client.specs.Client.{Client}
-use Rattle.stun_proto_client.specs.ClientValidation.{IsTaken, IsTurnedDown, keeping}
+use Rattle.stun_proto_client.specs.ClientValidation.{IsTaken, IsRejected, keeping}
 use Rattle.stun_proto_client.specs.declared.error.LongTermClientAuthError.{LongTermClientAuthError}
 use Rattle.stun_proto_client.specs.declared.error.LongTermClientAuthError.TheVariants.{Unauthorized, IntegrityFailed, UnsupportedFeature, NoMemory}
 use Rattle.stun_proto_client.specs.declared.validation.LongTermClientValidation.{LongTermClientValidation}
@@ -32,7 +32,7 @@ pub or_second : (a b : Option StunParseError) → option_or a b ≡ None → b �
 or_second None b h = h
 or_second (Some e) b h = absurd (Prim.cc h)
 
--- a value that is accepted is within its limit
+-- A value that is accepted is within its limit.
 above_within : (most len : ℕ) → above_refusal (Included most) len ≡ None → len ≤ most
 above_within most len h =
     elim (cases_Bool (ltb most len)) [
@@ -62,49 +62,49 @@ unless_short : (refused : Option StunParseError) (value : List ℕ) (most : ℕ)
 unless_short None value most h = h refl
 unless_short (Some e) value most h = tt
 
-text_told_short : (kind most : ℕ) (a : Option Attr) → IfSome (text_told kind most a) (λ text. length text ≤ most)
-unfolding text_told
-text_told_short kind most None = tt
-text_told_short kind most (Some a) = unless_short (text_read_refusal kind most a) a.value most (text_within kind most a)
+text_reported_short : (kind most : ℕ) (a : Option Attr) → IfSome (text_decoded kind most a) (λ text. length text ≤ most)
+unfolding text_decoded
+text_reported_short kind most None = tt
+text_reported_short kind most (Some a) = unless_short (text_read_refusal kind most a) a.value most (text_within kind most a)
 
-list_told_short : (a : Option Attr) → IfSome (algorithms_told a) (λ list. length list ≤ 32)
-unfolding algorithms_told
-list_told_short None = tt
-list_told_short (Some a) = unless_short (algorithms_read_refusal a) a.value 32 (list_within a)
+list_reported_short : (a : Option Attr) → IfSome (algorithms_decoded a) (λ list. length list ≤ 32)
+unfolding algorithms_decoded
+list_reported_short None = tt
+list_reported_short (Some a) = unless_short (algorithms_read_refusal a) a.value 32 (list_within a)
 
 -- ---- a challenge
 
--- what a challenge tells is short
-record IsShortTold (told : Told) : Type 0 where
-  realm : length told.realm ≤ 763
-  nonce : length told.nonce ≤ 763
-  offered : IfSome told.offered (λ list. length list ≤ 32)
+-- The texts decoded from a challenge are short.
+record IsShortReported (reported : ChallengeFields) : Type 0 where
+  realm : length reported.realm ≤ 763
+  nonce : length reported.nonce ≤ 763
+  offered : IfSome reported.offered (λ list. length list ≤ 32)
 
 list_short : (nonce : List ℕ) (list : Option (List ℕ)) (counts : Bool) → IfSome list (λ l. length l ≤ 32) → IfSome (if counts then list else None) (λ l. length l ≤ 32)
 list_short nonce list true short = short
 list_short nonce list false short = tt
 
-pub same_told : {a b : Told} → Some a ≡ Some b → a ≡ b
-same_told p = Prim.cc p
+pub same_decoded : {a b : ChallengeFields} → Some a ≡ Some b → a ≡ b
+same_decoded p = Prim.cc p
 
-told_short : (realm nonce list : Option (List ℕ)) (told : Told) → IfSome realm (λ l. length l ≤ 763) → IfSome nonce (λ l. length l ≤ 763) → IfSome list (λ l. length l ≤ 32) → told_by realm nonce list ≡ Some told → IsShortTold told
-told_short None _ list told r n l is = absurd (Prim.cc is)
-told_short (Some realm) None list told r n l is = absurd (Prim.cc is)
-told_short (Some realm) (Some nonce) list told r n l is =
-    subst IsShortTold (same_told is) (record { realm = r; nonce = n; offered = list_short nonce list _ l })
+decoded_short : (realm nonce list : Option (List ℕ)) (reported : ChallengeFields) → IfSome realm (λ l. length l ≤ 763) → IfSome nonce (λ l. length l ≤ 763) → IfSome list (λ l. length l ≤ 32) → decoded_by realm nonce list ≡ Some reported → IsShortReported reported
+decoded_short None _ list reported r n l is = absurd (Prim.cc is)
+decoded_short (Some realm) None list reported r n l is = absurd (Prim.cc is)
+decoded_short (Some realm) (Some nonce) list reported r n l is =
+    subst IsShortReported (same_decoded is) (record { realm = r; nonce = n; offered = list_short nonce list _ l })
 
-challenge_short : (bytes : List ℕ) (told : Told) → challenge_shown bytes ≡ Some told → IsShortTold told
-challenge_short bytes told is = by (asks_again bytes) is
+challenge_short : (bytes : List ℕ) (reported : ChallengeFields) → challenge_visible bytes ≡ Some reported → IsShortReported reported
+challenge_short bytes reported is = by (asks_again bytes) is
   where
-    by : (asks : Bool) → (if asks then told_of (claimed bytes) else None) ≡ Some told → IsShortTold told
-    by true h = told_short (claimed bytes).realm (claimed bytes).nonce (claimed bytes).algorithms told (text_told_short realm_kind 763 (last_of_kind realm_kind (shown bytes))) (text_told_short nonce_kind 763 (last_of_kind nonce_kind (shown bytes)))
-        (list_told_short (last_of_kind password_algorithms_kind (shown bytes))) h
+    by : (asks : Bool) → (if asks then reported_of (claimed bytes) else None) ≡ Some reported → IsShortReported reported
+    by true h = decoded_short (claimed bytes).realm (claimed bytes).nonce (claimed bytes).algorithms reported (text_reported_short realm_kind 763 (last_of_kind realm_kind (visible bytes))) (text_reported_short nonce_kind 763 (last_of_kind nonce_kind (visible bytes)))
+        (list_reported_short (last_of_kind password_algorithms_kind (visible bytes))) h
     by false h = absurd (Prim.cc h)
 
 -- ---- a validation
 
-kept_short : (old new : Client) (told : Told) (choice : IntegrityAlgorithm) → new ≡ keeping old told choice → IsShortTold told → HasShortTexts old → HasShortTexts new
-kept_short old new told choice is short own = rw is (record {
+stored_short : (old new : Client) (reported : ChallengeFields) (choice : IntegrityAlgorithm) → new ≡ keeping old reported choice → IsShortReported reported → HasShortTexts old → HasShortTexts new
+stored_short old new reported choice is short own = rw is (record {
   username = own.username;
   challenge = record { realm = short.realm; nonce = short.nonce; offered = short.offered };
 })
@@ -116,17 +116,17 @@ same_short : (old new : Client) → new ≡ old → HasShortTexts old → HasSho
 same_short old new is own = rw is own
 
 taken_short : (old : Client) (bytes : List ℕ) (answer : LongTermClientValidation) (new : Client) → IsTaken old bytes answer new → HasShortTexts old → HasShortTexts new
-taken_short old bytes (ResendRequest choice) new taken own = kept_short old new taken.told choice taken.kept (challenge_short bytes taken.told taken.shown) own
-taken_short old bytes (Validated algorithm) new taken own = going_short old new (Some algorithm) taken.kept own
+taken_short old bytes (ResendRequest choice) new taken own = stored_short old new taken.reported choice taken.stored (challenge_short bytes taken.reported taken.visible) own
+taken_short old bytes (Validated algorithm) new taken own = going_short old new (Some algorithm) taken.stored own
 
-turned_short : (old : Client) (bytes : List ℕ) (error : LongTermClientAuthError) (new : Client) → IsTurnedDown old bytes error new → HasShortTexts old → HasShortTexts new
-turned_short old bytes Unauthorized new down own = going_short old new None down.kept own
-turned_short old bytes (IntegrityFailed algorithm) new down own = going_short old new (Some down.standing.challenge.choice) down.kept own
+turned_short : (old : Client) (bytes : List ℕ) (error : LongTermClientAuthError) (new : Client) → IsRejected old bytes error new → HasShortTexts old → HasShortTexts new
+turned_short old bytes Unauthorized new down own = going_short old new None down.stored own
+turned_short old bytes (IntegrityFailed algorithm) new down own = going_short old new (Some down.standing.challenge.choice) down.stored own
 turned_short old bytes UnsupportedFeature new down own = same_short old new down.unchanged own
 turned_short old bytes NoMemory new down own = same_short old new down.unchanged own
 
 pub stay_short : (old new : Client) (bytes : List ℕ) (result : Result LongTermClientValidation LongTermClientAuthError)
-    → MatchResult result (λ answer. IsTaken old bytes answer new) (λ error. IsTurnedDown old bytes error new) → HasShortTexts old → HasShortTexts new
+    → MatchResult result (λ answer. IsTaken old bytes answer new) (λ error. IsRejected old bytes error new) → HasShortTexts old → HasShortTexts new
 stay_short old new bytes (Ok answer) outcome own = taken_short old bytes answer new outcome own
 stay_short old new bytes (Err error) outcome own = turned_short old bytes error new outcome own
 

@@ -1,4 +1,4 @@
--- Nothing but want of memory refuses the signing of a request.
+-- Signing a request fails only if memory runs out.
 use Rattle.std.specs.Prelude.{IfSome}
 use Rattle.std.proofs.Common.{◌≡◌, ℕ, ◌+◌, ◌*◌, ◌≤◌, Bool, true, false, List, [], ◌∷◌, length, Option, Some, None, refl, arith}
 use Rattle.std.specs.List.{AllByRecursion}
@@ -27,13 +27,13 @@ use Rattle.turn_client_proto_messages.proofs.Growing.{open_added, open_room}
 
 -- ---- parts
 
--- a part within its limit, of at most 768 bytes beside its header, that ends no message
+-- A part within its limit, of at most 768 bytes after its header, that ends no message.
 pub record IsShortPart (p : PartOf) : Type 0 where
   pub within : length p.value ≤ p.most
   pub ordinary : IsOrdinary (attr_of_part p)
   pub short : size_of_part p ≤ 772
 
--- what parts leave of an open message
+-- What holds of an open message after the parts were added.
 pub record IsLeftOpen (parts : List PartOf) (draft : Draft) : Type 0 where
   pub accepted : parts_refusal draft parts ≡ None
   pub calls : AreAccepted (calls_of_parts parts) draft
@@ -54,7 +54,7 @@ parts_left (p ∷ rest) draft short o fits =
     let few = short.0.short in
     let room : add_refusal draft (size_of_part p) ≡ None = open_room draft (size_of_part p) o (omega (arith, few, fits)) in
     let next = open_added a draft o short.0.ordinary.ordinary (omega (arith, few, fits)) in
-    let grown = length-after_add draft.bytes a o.begun in
+    let grown = length-after_add draft.bytes a o.started in
     let left = parts_left rest (added a draft) short.1 next (omega (arith, few, fits, grown)) in
     let size = left.size in
     let whole = one_accepted p draft short.0.within room in
@@ -116,7 +116,7 @@ choice_short (Some list) choice short = (
   ),
 )
 
--- a name, a realm, a nonce and a list that are short
+-- The user name, realm, nonce and list are short.
 record IsShortStanding (s : Standing) : Type 0 where
   name : length s.account.username ≤ 513
   challenge : IsShortChallenge s.challenge
@@ -147,7 +147,7 @@ few_choices : (offered : Option (List ℕ)) (choice : IntegrityAlgorithm) → le
 few_choices None choice = omega arith
 few_choices (Some list) choice = omega arith
 
--- at most five parts, each of them short
+-- At most five parts, each of them short.
 pub record IsShortAddition (a : Addition) : Type 0 where
   pub each : AllByRecursion IsShortPart a.parts
   pub few : length a.parts ≤ 5
@@ -157,20 +157,20 @@ nothing_short = record { each = tt; few = omega arith }
 
 short_by : (anonymous : Feature) (account : Option NameAndPassword) (challenge : Option Challenge) → IfSome account (λ a. length a.username ≤ 513) → IfSome challenge IsShortChallenge
     → IsShortAddition (addition_by anonymous (standing_by account challenge) Request)
-short_by anonymous None challenge short kept = nothing_short
-short_by anonymous (Some account) None short kept = nothing_short
-short_by anonymous (Some account) (Some challenge) short kept =
+short_by anonymous None challenge short stored = nothing_short
+short_by anonymous (Some account) None short stored = nothing_short
+short_by anonymous (Some account) (Some challenge) short stored =
     let few = few_choices challenge.offered challenge.choice in
     record {
-      each = request_short (hides_name anonymous challenge.nonce) (record { account = account; challenge = challenge }) (record { name = short; challenge = kept });
+      each = request_short (hides_name anonymous challenge.nonce) (record { account = account; challenge = challenge }) (record { name = short; challenge = stored });
       few = omega (arith, few);
     }
 
--- what a client adds to a request is short
+-- What a client adds to a request is short.
 pub client_short : (client : Client) → HasShortTexts client → IsShortAddition (addition_for client Request)
 client_short client short = short_by client.anonymous_username client.account client.challenge short.username short.challenge
 
--- what is short is added to an open message
+-- What is short is accepted by an open message.
 pub short_accepted : (a : Addition) (draft : Draft) → IsShortAddition a → IsOpen draft → length draft.bytes ≤ 4096 → addition_refusal a draft ≡ None
 short_accepted a draft short o fits =
     let few = short.few in
@@ -178,6 +178,6 @@ short_accepted a draft short o fits =
     let size = left.size in
     rw left.accepted (signer_accepted (after_calls (calls_of_parts a.parts) draft) a.signer left.still (omega (arith, few, fits, size)))
 
--- the same of a client whose texts are short
+-- What a client with short texts adds is accepted by an open message.
 pub client_accepted : (client : Client) (draft : Draft) → HasShortTexts client → IsOpen draft → length draft.bytes ≤ 4096 → addition_refusal (addition_for client Request) draft ≡ None
 client_accepted client draft short o fits = short_accepted (addition_for client Request) draft (client_short client short) o fits

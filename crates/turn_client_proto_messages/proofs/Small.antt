@@ -1,4 +1,4 @@
--- The attributes of a request are ordinary, and take few bytes.
+-- The attributes of a request are ordinary and short.
 use Rattle.std.proofs.Common.{ℕ, ◌≤◌, List, [], ◌∷◌, length, refl, arith}
 use Rattle.byteorder.specs.Endian.{big_bytes}
 use Rattle.stun_types_write.specs.Adding.{attr_of}
@@ -10,13 +10,13 @@ use Rattle.turn_types_peer.specs.PeerValues.{channel_value}
 use Rattle.turn_types_attributes.specs.TurnRegistry.{additional_address_family_kind, channel_number_kind, connection_id_kind, dont_fragment_kind, lifetime_kind, requested_address_family_kind, requested_transport_kind, xor_peer_address_kind}
 use Rattle.turn_client_proto_messages.specs.Composing.{IsSmall}
 
--- an xor is no longer than what it is made with
+-- An xored value is no longer than its mask.
 xor_short : (bytes mask : List ℕ) → length (xor_bytes bytes mask) ≤ length mask
 xor_short [] mask = omega arith
 xor_short (b ∷ bytes) [] = omega arith
 xor_short (b ∷ bytes) (m ∷ mask) = let shorter = xor_short bytes mask in omega (arith, shorter)
 
--- an xored address has at most twenty bytes
+-- An xored address has at most twenty bytes.
 pub xored_short : (number : ℕ) (value : List ℕ) → length (xored number value) ≤ 20
 unfolding octets_mask
 xored_short number value = let short = xor_short value (0 ∷ 0 ∷ 0x21 ∷ 0x12 ∷ octets_mask number) in omega (arith, short)

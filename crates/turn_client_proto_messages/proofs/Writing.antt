@@ -1,4 +1,4 @@
--- What is written is the text of the request.
+-- What is written are the bytes of the request.
 use Rattle.std.proofs.Common.{◌≡◌, ℕ, ◌≤◌, true, false, List, ◌++◌, length, map, None, refl, sym, ap, ◌∙◌, subst}
 use Rattle.std.proofs.lemmas.List.{append-nil}
 use Rattle.stun_types_wire.specs.Attributes.{Attr, kind_at}
@@ -22,9 +22,9 @@ use Rattle.turn_client_proto_messages.specs.declared.request.TurnRequest.TheVari
 use Rattle.turn_client_proto_messages.proofs.Signing.{client_accepted}
 
 pub unsigned_open : (mtype number : ℕ) (attributes : List Attr) (draft : Draft) → IsUnsigned mtype number attributes draft → IsOpen draft
-unsigned_open mtype number attributes draft is = record { begun = is.composed.begun; ended = is.composed.ended; limit = is.composed.limit }
+unsigned_open mtype number attributes draft is = record { started = is.composed.started; ended = is.composed.ended; limit = is.composed.limit }
 
--- a request is of its class
+-- The bytes of a request have its class.
 pub text_class : (request : TurnRequest) (number : ℕ) (attributes : List Attr) → class_of (kind_at (message_text (request_type request) number attributes)) ≡ Request
 unfolding message_text header_text
 text_class (FirstAllocate transport families) number attributes = refl
@@ -44,7 +44,7 @@ signed_addition client request is = rw is refl
 unsigned_addition : (client : Client) (request : TurnRequest) → is_signed request ≡ false → addition_of client request ≡ no_addition
 unsigned_addition client request is = rw is refl
 
--- what calls made of a message
+-- The bytes of a message after these calls are those of the request.
 text_of : (client : Client) (request : TurnRequest) (number : ℕ) (made : Addition) (draft : Draft) → addition_of client request ≡ made
     → IsWritten (request_type request) number (map Ordinary (request_attributes request number) ++ calls_of made) draft → draft.bytes ≡ request_text client request number
 unfolding request_text
@@ -53,13 +53,13 @@ text_of client request number made draft is written =
     written_text (request_type request) number calls draft written
     ∙ ap (λ (a : Addition). message_text (request_type request) number (attributes_of (request_type request) number (map Ordinary (request_attributes request number) ++ calls_of a))) (sym is)
 
--- the first ALLOCATE is left as it is
+-- The first ALLOCATE is not signed.
 pub unsigned_text : (client : Client) (request : TurnRequest) (number : ℕ) (draft : Draft) → is_signed request ≡ false → IsRequest request number draft → draft.bytes ≡ request_text client request number
 unsigned_text client request number draft plain is =
     text_of client request number no_addition draft (unsigned_addition client request plain)
     (subst (λ (calls : List Add). IsWritten (request_type request) number calls draft) (sym (append-nil (map Ordinary (request_attributes request number)))) is.composed.written)
 
--- any other is signed
+-- Any other request is signed.
 pub signed_text : (client : Client) (request : TurnRequest) (number : ℕ) (old new : Draft) → is_signed request ≡ true → IsRequest request number old
     → IsMade (addition_for client (class_of (kind_at old.bytes))) old new → new.bytes ≡ request_text client request number
 signed_text client request number old new signed is made =
@@ -67,7 +67,7 @@ signed_text client request number old new signed is made =
     text_of client request number (addition_for client Request) new (signed_addition client request signed)
     (written_more (request_type request) number (map Ordinary (request_attributes request number)) (calls_of (addition_for client Request)) old new is.composed.written own.accepted own.is)
 
--- nothing but want of memory refuses that
+-- Signing it fails only if memory runs out.
 pub request_accepted : (client : Client) (request : TurnRequest) (number : ℕ) (draft : Draft) → HasShortTexts client → IsRequest request number draft → length draft.bytes ≤ 4096
     → addition_refusal (addition_for client (class_of (kind_at draft.bytes))) draft ≡ None
 request_accepted client request number draft short is fits =

@@ -1,4 +1,4 @@
--- What a client answers a CONNECTION_ATTEMPT, as it is written (RFC 6062, section 4.4).
+-- The client's responses to a CONNECTION_ATTEMPT, as they are written (RFC 6062, section 4.4).
 use Rattle.std.specs.Prelude.{◌≡◌, ◌⊎◌, ℕ, List, [], ◌∷◌, ◌++◌, map}
 use Rattle.stun_types_wire.specs.Attributes.{Attr}
 use Rattle.stun_types_add.specs.Calls.{Ordinary, attributes_of}
@@ -17,7 +17,7 @@ use Rattle.turn_client_proto_messages.specs.Composing.{IsUnsigned}
 use Rattle.turn_client_proto_messages.specs.declared.answer.AttemptAnswer.{AttemptAnswer}
 use Rattle.turn_client_proto_messages.specs.declared.answer.AttemptAnswer.TheVariants.{Accepted, AlreadyExists, BadRequest, Failed}
 
--- a success response, or an error response
+-- The class of the response: success or error.
 abbrev pub answer_class : AttemptAnswer → MessageClass
 answer_class Accepted = Success
 answer_class BadRequest = Error
@@ -27,23 +27,23 @@ answer_class Failed = Error
 abbrev pub answer_type : AttemptAnswer → ℕ
 answer_type answer = type_of (answer_class answer) connection_attempt_method
 
--- one of the codes of errors that answers have
+-- The code is one of the error codes of these responses.
 abbrev pub is_answer_code : ℕ → Type 0
 is_answer_code code = (code ≡ bad_request_code) ⊎ ((code ≡ connection_exists_code) ⊎ (code ≡ connection_failure_code))
 
--- what an answer shows before it is signed: nothing, or ERROR-CODE
+-- The attributes of the response before it is signed: none, or ERROR-CODE.
 abbrev pub answer_attributes : AttemptAnswer → List Attr
 answer_attributes Accepted = []
 answer_attributes BadRequest = error_attribute bad_request_code ∷ []
 answer_attributes AlreadyExists = error_attribute connection_exists_code ∷ []
 answer_attributes Failed = error_attribute connection_failure_code ∷ []
 
--- an answer as it is before it is signed
+-- The draft is the response before it is signed.
 abbrev pub IsAnswer : AttemptAnswer → ℕ → Draft → Type 0
-IsAnswer answer number draft = IsUnsigned (answer_type answer) number (answer_attributes answer) draft
+IsAnswer answer transaction_id draft = IsUnsigned (answer_type answer) transaction_id (answer_attributes answer) draft
 
--- the text of an answer to the request of a number
+-- The bytes of the response to the request with this transaction ID.
 unfoldable pub answer_text : auth.Client → AttemptAnswer → ℕ → List ℕ
-answer_text client answer number = message_text (answer_type answer) number
-    (attributes_of (answer_type answer) number
+answer_text client answer transaction_id = message_text (answer_type answer) transaction_id
+    (attributes_of (answer_type answer) transaction_id
     (map Ordinary (answer_attributes answer) ++ calls_of (addition_for client (answer_class answer))))

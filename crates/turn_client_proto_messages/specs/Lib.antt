@@ -5,12 +5,12 @@ pub mod OwnClaims
 pub mod ReadTexts
 pub mod Requests
 pub mod ShortTexts
-pub mod ToldRequests
+pub mod ReportedRequests
 pub mod Waiting
 pub mod Granting
-pub mod Telling
-pub mod Told
--- What stands above this crate has these through it.
+pub mod Reporting
+pub mod Reported
+-- The crates above this one use these definitions through this file.
 pub use Rattle.stun_types_base.specs as StunTypesBase
 pub use Rattle.stun_types_wire.specs as StunTypesWire
 pub use Rattle.stun_types_write.specs as StunTypesWrite

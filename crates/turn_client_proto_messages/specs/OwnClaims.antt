@@ -1,4 +1,4 @@
--- What a client claims of itself in a request that it signs (RFC 8489, sections 9.2.3 and 9.2.5).
+-- The authentication attributes of a request that the client signs (RFC 8489, sections 9.2.3 and 9.2.5).
 use Rattle.std.specs.Prelude.{ℕ, if◌then◌else◌, List, Some, None}
 use Rattle.std.specs.Option.{option_map}
 use Rattle.stun_types_attributes.specs.AuthAttributes.Userhashes.{userhash_of}
@@ -8,8 +8,9 @@ use Rattle.stun_proto_client.specs.ClientSigning.{hides_name}
 use Rattle.stun_proto_auth.specs.declared.feature.Feature.{Feature}
 use Rattle.stun_proto_auth.specs.SupportedAlgorithms.{number_by}
 
--- the algorithm that was chosen; the name, or its hash in the realm where the name is hidden; realm and nonce of the
--- challenge; and the list of algorithms as it was given, with the choice, where there is one
+-- They are: the chosen algorithm; the user name, or its hash in the realm if the name is hidden; realm and
+-- nonce of the challenge; and, if the challenge has a list of algorithms, that list as it was received and
+-- the choice.
 abbrev pub own_claim : Feature → Standing → Claimed
 own_claim anonymous s = record {
   integrity = Some s.challenge.choice;

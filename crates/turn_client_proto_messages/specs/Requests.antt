@@ -1,5 +1,5 @@
--- The requests of a TURN client, as they are written (RFC 8656, sections 7.1, 8.1, 10.1 and 12.1; RFC
--- 6062, sections 4.3 and 4.4).
+-- The requests of a TURN client, as they are written (RFC 8656, sections 7.1, 8.1, 10.1 and 12.1; RFC 6062,
+-- sections 4.3 and 4.4).
 use Rattle.std.specs.Prelude.{ℕ, Bool, true, false, if◌then◌else◌, List, [], ◌∷◌, ◌++◌, map}
 use Rattle.std.specs.List.{flat_map}
 use Rattle.std.specs.declared.net.ip_addr.IpAddr.{IpAddr}
@@ -46,91 +46,91 @@ request_type request = type_of Request (request_method request)
 
 -- ---- single attributes
 
--- for how many seconds a client asks for an allocation: half an hour
+-- The lifetime, in seconds, that a client requests for an allocation: half an hour.
 abbrev pub allocation_lifetime : ℕ
 allocation_lifetime = 1800
 
--- LIFETIME
+-- LIFETIME.
 abbrev pub lifetime_attribute : ℕ → Attr
 lifetime_attribute seconds = record { kind = lifetime_kind; value = big_bytes 4 seconds }
 
--- the number of a transport
+-- The protocol number of a transport.
 abbrev pub protocol_of : TransportType → ℕ
 protocol_of Udp = udp_protocol
 protocol_of Tcp = tcp_protocol
 
--- REQUESTED-TRANSPORT
+-- REQUESTED-TRANSPORT.
 abbrev pub transport_attribute : TransportType → Attr
 transport_attribute transport =
     record { kind = requested_transport_kind; value = transport_value (protocol_of transport) }
 
--- DONT-FRAGMENT, which has no value
+-- DONT-FRAGMENT, which has no value.
 abbrev pub dont_fragment_attribute : Attr
 dont_fragment_attribute = record { kind = dont_fragment_kind; value = [] }
 
--- ADDITIONAL-ADDRESS-FAMILY of a family other than IPv4, of which an address is given anyway
+-- ADDITIONAL-ADDRESS-FAMILY, for a family other than IPv4. An IPv4 address is allocated anyway.
 abbrev pub additional_family : AddressFamily → List Attr
 additional_family IPV4 = []
 additional_family IPV6 = record { kind = additional_address_family_kind; value = family_value IPV6 } ∷ []
 
--- REQUESTED-ADDRESS-FAMILY of a family that is asked for alone; without it, IPv4 is
+-- REQUESTED-ADDRESS-FAMILY, for a single family other than IPv4. Without the attribute, IPv4 is requested.
 abbrev pub requested_family : AddressFamily → List Attr
 requested_family IPV4 = []
 requested_family IPV6 = record { kind = requested_address_family_kind; value = family_value IPV6 } ∷ []
 
--- the families of the addresses that are asked for
+-- The attributes for the requested address families.
 abbrev pub families_attributes : List AddressFamily → List Attr
 families_attributes [] = []
 families_attributes (family ∷ []) = requested_family family
 families_attributes (first ∷ second ∷ others) = flat_map additional_family (first ∷ second ∷ others)
 
--- XOR-PEER-ADDRESS, in a message of this number
+-- XOR-PEER-ADDRESS, in a message with this transaction ID.
 abbrev pub peer_attribute : ℕ → SocketAddr → Attr
-peer_attribute number peer = record { kind = xor_peer_address_kind; value = xored number (address_value peer) }
+peer_attribute transaction_id peer = record { kind = xor_peer_address_kind; value = xored transaction_id (address_value peer) }
 
--- the peer of an IP, with a port that is not looked at (RFC 8656, section 10.1)
+-- The peer with this IP address, with a port that the server ignores (RFC 8656, section 10.1).
 abbrev pub peer_of : IpAddr → SocketAddr
 peer_of (Ip.V4 address) = Socket.V4 (record { ip = address; port = 0 })
 peer_of (Ip.V6 address) = Socket.V6 (record { ip = address; port = 0; flowinfo = 0; scope_id = 0 })
 
--- CHANNEL-NUMBER
+-- CHANNEL-NUMBER.
 abbrev pub channel_attribute : ℕ → Attr
 channel_attribute channel = record { kind = channel_number_kind; value = channel_value channel }
 
--- CONNECTION-ID
+-- CONNECTION-ID.
 abbrev pub connection_attribute : ℕ → Attr
 connection_attribute connection = record { kind = connection_id_kind; value = big_bytes 4 connection }
 
 -- ---- all of them
 
--- what a request of this number shows before it is signed
+-- The attributes of a request with this transaction ID before it is signed.
 abbrev pub request_attributes : TurnRequest → ℕ → List Attr
-request_attributes (FirstAllocate transport families) number =
+request_attributes (FirstAllocate transport families) transaction_id =
     lifetime_attribute allocation_lifetime ∷ transport_attribute transport ∷ dont_fragment_attribute
     ∷ families_attributes families
-request_attributes (Allocate transport families) number =
+request_attributes (Allocate transport families) transaction_id =
     transport_attribute transport ∷ lifetime_attribute allocation_lifetime ∷ families_attributes families
-request_attributes (Refresh lifetime) number = lifetime_attribute lifetime ∷ []
-request_attributes (CreatePermission ip) number = peer_attribute number (peer_of ip) ∷ []
-request_attributes (ChannelBind channel peer) number = channel_attribute channel ∷ peer_attribute number peer ∷ []
-request_attributes (Connect peer) number = peer_attribute number peer ∷ []
-request_attributes (ConnectionBind connection) number = connection_attribute connection ∷ []
+request_attributes (Refresh lifetime) transaction_id = lifetime_attribute lifetime ∷ []
+request_attributes (CreatePermission ip) transaction_id = peer_attribute transaction_id (peer_of ip) ∷ []
+request_attributes (ChannelBind channel peer) transaction_id = channel_attribute channel ∷ peer_attribute transaction_id peer ∷ []
+request_attributes (Connect peer) transaction_id = peer_attribute transaction_id peer ∷ []
+request_attributes (ConnectionBind connection) transaction_id = connection_attribute connection ∷ []
 
--- whether a request is signed: all but the first ALLOCATE
+-- The request is signed: all but the first ALLOCATE are.
 abbrev pub is_signed : TurnRequest → Bool
 is_signed (FirstAllocate transport families) = false
 is_signed _ = true
 
--- what the client's authenticator adds
+-- What the client's authenticator adds to the request.
 abbrev pub addition_of : auth.Client → TurnRequest → Addition
 addition_of client request = if is_signed request then addition_for client Request else no_addition
 
--- the calls that make a request of its header
+-- The calls on a writer that add the attributes of the request after its header.
 abbrev pub request_calls : auth.Client → TurnRequest → ℕ → List Add
-request_calls client request number =
-    map Ordinary (request_attributes request number) ++ calls_of (addition_of client request)
+request_calls client request transaction_id =
+    map Ordinary (request_attributes request transaction_id) ++ calls_of (addition_of client request)
 
--- the text of a request
+-- The bytes of the request.
 unfoldable pub request_text : auth.Client → TurnRequest → ℕ → List ℕ
-request_text client request number = message_text (request_type request) number
-    (attributes_of (request_type request) number (request_calls client request number))
+request_text client request transaction_id = message_text (request_type request) transaction_id
+    (attributes_of (request_type request) transaction_id (request_calls client request transaction_id))

@@ -1,4 +1,5 @@
-//! What a client answers the server's own requests, written and signed (RFC 6062, section 4.4).
+//! The client's responses to the server's own requests: writing and signing them (RFC 6062, section
+//! 4.4).
 
 ghost use Rattle.std.specs.Prelude.{◌≡◌, ◌∷◌, [], IfOk, OnOk, length, ◌≤◌};
 ghost use Rattle.stun_types_write.specs.Lent.{own_draft};
@@ -19,20 +20,22 @@ use stun_types_write::vec::MessageWriteVec;
 use stun_types_write::writer::MessageWrite;
 use turn_types_attributes::registry::CONNECTION_ATTEMPT;
 
-/// What a client answers a CONNECTION_ATTEMPT.
+/// The client's response to a CONNECTION_ATTEMPT.
 #[derive(Clone, Copy, Debug, PartialEq, Eq)]
 pub enum AttemptAnswer {
-    /// The caller has opened a socket for the connection.
+    /// Success: the caller has opened a socket for the connection.
     Accepted,
-    /// Error 400: no connection or no peer is named, or no allocation could have it.
+    /// Error 400: the request names no connection ID or no peer, or no allocation could have the
+    /// connection.
     BadRequest,
-    /// Error 446: there is a connection to the peer already, or one that waits for its socket.
+    /// Error 446: the client already has a connection to the peer, or one that waits for its
+    /// socket.
     AlreadyExists,
     /// Error 447: the caller has no socket for the connection.
     Failed,
 }
 
-/// The class of an answer.
+/// Returns the message class of the response.
 fn class_of(answer: AttemptAnswer) -> MessageClass
     ensures { result ≡ answer_class answer }
 {
@@ -42,8 +45,8 @@ fn class_of(answer: AttemptAnswer) -> MessageClass
     }
 }
 
-/// Adds ERROR-CODE of one of the codes that answers have, with the reason that goes with it. Where memory
-/// is refused, `NoMemory`.
+/// Adds an ERROR-CODE with one of the codes of these responses and the reason phrase of that code.
+/// Fails with `NoMemory` if memory runs out.
 fn add_code(alloc: Global, draft: &mut MessageWriteVec, code: u16) -> Result<(), NoMemory>
     requires is_open { IsOpen (own_draft draft.old) }
     requires room { length (own_draft draft.old).bytes ≤ most_before }
@@ -55,23 +58,24 @@ fn add_code(alloc: Global, draft: &mut MessageWriteVec, code: u16) -> Result<(),
         Ok(code) => code,
         Err(e) => match e {
             StunWriteError::NoMemory => return Err(NoMemory),
-            // It is a code of an error, and its reason is short.
+            // Not reached: the code is one of an error, and its reason is short.
             _ => unreachable!(),
         },
     };
     add(draft, &code, &code)
 }
 
-/// An answer to the request of this number that is not signed yet. Where memory is refused, `NoMemory`.
+/// Returns the response to the request with this transaction ID, not signed yet. Fails with
+/// `NoMemory` if memory runs out.
 fn write_plain(
     alloc: Global,
-    number: TransactionId,
+    transaction_id: TransactionId,
     answer: AttemptAnswer,
 ) -> Result<MessageWriteVec, NoMemory>
-    ensures answer { IfOk result (λ draft. IsAnswer answer number (own_draft draft)) }
+    ensures answer { IfOk result (λ draft. IsAnswer answer transaction_id (own_draft draft)) }
     ensures short { IfOk result (λ draft. length (own_draft draft).bytes ≤ most_before) }
 {
-    let mut draft = begin(alloc, class_of(answer), CONNECTION_ATTEMPT, number)?;
+    let mut draft = begin(alloc, class_of(answer), CONNECTION_ATTEMPT, transaction_id)?;
     match answer {
         AttemptAnswer::Accepted => {}
         AttemptAnswer::BadRequest => add_code(alloc, &mut draft, ErrorCode::BAD_REQUEST)?,
@@ -85,18 +89,18 @@ fn write_plain(
     Ok(draft)
 }
 
-/// The text of an answer to the CONNECTION_ATTEMPT of this number, signed by the client's authenticator
-/// (RFC 8489, section 9.2.5). Where memory is refused, `NoMemory`.
+/// Returns the bytes of the response to the CONNECTION_ATTEMPT with this transaction ID, signed by
+/// the client's authenticator (RFC 8489, section 9.2.5). Fails with `NoMemory` if memory runs out.
 pub fn write_answer(
     alloc: Global,
     auth: &LongTermClientAuth,
-    number: TransactionId,
+    transaction_id: TransactionId,
     answer: AttemptAnswer,
 ) -> Result<Vec<u8>, NoMemory>
     requires { HasShortTexts auth.now }
-    ensures { IfOk result (λ bytes. bytes.items ≡ answer_text auth.now answer number) }
+    ensures { IfOk result (λ bytes. bytes.items ≡ answer_text auth.now answer transaction_id) }
 {
-    let draft = write_plain(alloc, number, answer)?;
+    let draft = write_plain(alloc, transaction_id, answer)?;
     let signed = auth.sign_outgoing_message_unchecked(draft)?;
     Ok(signed.finish())
 }

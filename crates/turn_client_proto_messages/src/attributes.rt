@@ -1,4 +1,4 @@
-//! A request is begun, and its attributes are added to it.
+//! Starting a message and adding attributes to it.
 
 ghost use Rattle.std.specs.Prelude.{◌≡◌, ◌+◌, ◌≤◌, ◌<◌, ◌^◌, [], ◌∷◌, length, IfOk, OnOk};
 ghost use Rattle.stun_types_write.specs.Adding.{attr_of};
@@ -29,26 +29,27 @@ use turn_types_peer::channel_number::ChannelNumber;
 use turn_types_peer::connection_id::ConnectionId;
 use turn_types_peer::xor_peer_address::XorPeerAddress;
 
-/// A message of this class, method and number that shows nothing yet. Where memory is refused,
-/// `NoMemory`.
+/// Returns a message of this class, method and transaction ID without attributes. Fails with
+/// `NoMemory` if memory runs out.
 pub(crate) fn begin(
     alloc: Global,
     class: MessageClass,
     method: Method,
-    number: TransactionId,
+    transaction_id: TransactionId,
 ) -> Result<MessageWriteVec, NoMemory>
     requires { method.0 < 2 ^ 12 }
-    ensures unsigned { IfOk result (λ draft. IsUnsigned (type_of class method.0) number []
+    ensures unsigned { IfOk result (λ draft. IsUnsigned (type_of class method.0) transaction_id []
         (own_draft draft)) }
     ensures is_open { IfOk result (λ draft. IsOpen (own_draft draft)) }
     ensures size { IfOk result (λ draft. length (own_draft draft).bytes ≤ 20) }
 {
     let mtype = MessageType::from_class_method(class, method);
-    let draft = Message::builder(mtype, number, MessageWriteVec::new(alloc))?;
+    let draft = Message::builder(mtype, transaction_id, MessageWriteVec::new(alloc))?;
     Ok(draft)
 }
 
-/// Adds an attribute, for which there is room. Where memory is refused, `NoMemory`.
+/// Adds an attribute, for which the message has room. `attribute` and `same` are the same
+/// attribute. Fails with `NoMemory` if memory runs out.
 #[tactic(auto, using(crate::proofs::Growing::open_room))]
 pub(crate) fn add<A: AttributeWrite>(
     draft: &mut MessageWriteVec,
@@ -72,7 +73,7 @@ pub(crate) fn add<A: AttributeWrite>(
     }
 }
 
-/// Adds LIFETIME, in seconds (RFC 8656, section 18.2). Where memory is refused, `NoMemory`.
+/// Adds LIFETIME, in seconds (RFC 8656, section 18.2). Fails with `NoMemory` if memory runs out.
 pub(crate) fn add_lifetime(draft: &mut MessageWriteVec, seconds: u32) -> Result<(), NoMemory>
     requires is_open { IsOpen (own_draft draft.old) }
     requires room { length (own_draft draft.old).bytes ≤ most_before }
@@ -83,7 +84,7 @@ pub(crate) fn add_lifetime(draft: &mut MessageWriteVec, seconds: u32) -> Result<
     add(draft, &lifetime, &lifetime)
 }
 
-/// Adds REQUESTED-TRANSPORT (RFC 8656, section 18.8). Where memory is refused, `NoMemory`.
+/// Adds REQUESTED-TRANSPORT (RFC 8656, section 18.8). Fails with `NoMemory` if memory runs out.
 pub(crate) fn add_transport(
     draft: &mut MessageWriteVec,
     transport: TransportType,
@@ -97,7 +98,7 @@ pub(crate) fn add_transport(
     add(draft, &requested, &requested)
 }
 
-/// The number of a transport (RFC 8656, section 18.8; RFC 6062, section 4.1).
+/// Returns the protocol number of a transport (RFC 8656, section 18.8; RFC 6062, section 4.1).
 fn protocol_of(transport: TransportType) -> u8
     ensures { result ≡ protocol_of transport }
 {
@@ -107,7 +108,7 @@ fn protocol_of(transport: TransportType) -> u8
     }
 }
 
-/// Adds DONT-FRAGMENT (RFC 8656, section 18.9). Where memory is refused, `NoMemory`.
+/// Adds DONT-FRAGMENT (RFC 8656, section 18.9). Fails with `NoMemory` if memory runs out.
 pub(crate) fn add_dont_fragment(draft: &mut MessageWriteVec) -> Result<(), NoMemory>
     requires is_open { IsOpen (own_draft draft.old) }
     requires room { length (own_draft draft.old).bytes ≤ most_before }
@@ -118,9 +119,12 @@ pub(crate) fn add_dont_fragment(draft: &mut MessageWriteVec) -> Result<(), NoMem
     add(draft, &dont_fragment, &dont_fragment)
 }
 
-/// Adds the families that are asked for: nothing for IPv4 alone, REQUESTED-ADDRESS-FAMILY for IPv6
-/// alone, and for both ADDITIONAL-ADDRESS-FAMILY of IPv6 (RFC 8656, sections 18.6 and 18.11). Where
-/// memory is refused, `NoMemory`.
+/// Adds the requested address families (RFC 8656, sections 18.6 and 18.11). Fails with `NoMemory`
+/// if memory runs out.
+///
+/// - IPv4 alone: adds nothing.
+/// - IPv6 alone: adds REQUESTED-ADDRESS-FAMILY of IPv6.
+/// - Both: adds ADDITIONAL-ADDRESS-FAMILY of IPv6.
 pub(crate) fn add_families(
     draft: &mut MessageWriteVec,
     families: RequestedFamilies,
@@ -135,8 +139,8 @@ pub(crate) fn add_families(
     if !families.contains(AddressFamily::IPV6) {
         return Ok(());
     }
-    let asked = families.as_slice();
-    if asked.len() == 1 {
+    let requested = families.as_slice();
+    if requested.len() == 1 {
         let requested = RequestedAddressFamily::new(AddressFamily::IPV6);
         add(draft, &requested, &requested)
     } else {
@@ -145,23 +149,23 @@ pub(crate) fn add_families(
     }
 }
 
-/// Adds XOR-PEER-ADDRESS to a message of this number (RFC 8656, section 18.3). Where memory is
-/// refused, `NoMemory`.
+/// Adds XOR-PEER-ADDRESS to a message with this transaction ID (RFC 8656, section 18.3). Fails with
+/// `NoMemory` if memory runs out.
 pub(crate) fn add_peer(
     draft: &mut MessageWriteVec,
-    number: TransactionId,
+    transaction_id: TransactionId,
     peer: SocketAddr,
 ) -> Result<(), NoMemory>
     requires is_open { IsOpen (own_draft draft.old) }
     requires room { length (own_draft draft.old).bytes ≤ most_before }
-    ensures { OnOk result (IsGrown (peer_attribute number peer ∷ [])
+    ensures { OnOk result (IsGrown (peer_attribute transaction_id peer ∷ [])
         (own_draft draft.old) (own_draft draft.new)) }
 {
-    let peer = XorPeerAddress::new(peer, number);
+    let peer = XorPeerAddress::new(peer, transaction_id);
     add(draft, &peer, &peer)
 }
 
-/// Adds CHANNEL-NUMBER (RFC 8656, section 18.1). Where memory is refused, `NoMemory`.
+/// Adds CHANNEL-NUMBER (RFC 8656, section 18.1). Fails with `NoMemory` if memory runs out.
 pub(crate) fn add_channel(draft: &mut MessageWriteVec, channel: u16) -> Result<(), NoMemory>
     requires is_open { IsOpen (own_draft draft.old) }
     requires room { length (own_draft draft.old).bytes ≤ most_before }
@@ -172,7 +176,7 @@ pub(crate) fn add_channel(draft: &mut MessageWriteVec, channel: u16) -> Result<(
     add(draft, &channel, &channel)
 }
 
-/// Adds CONNECTION-ID (RFC 6062, section 6.2.1). Where memory is refused, `NoMemory`.
+/// Adds CONNECTION-ID (RFC 6062, section 6.2.1). Fails with `NoMemory` if memory runs out.
 pub(crate) fn add_connection(draft: &mut MessageWriteVec, connection: u32) -> Result<(), NoMemory>
     requires is_open { IsOpen (own_draft draft.old) }
     requires room { length (own_draft draft.old).bytes ≤ most_before }

@@ -1,10 +1,10 @@
-//! The allocations that a success response to an ALLOCATE brings (RFC 8656, section 7.3).
+//! The allocations that a success response to an ALLOCATE grants (RFC 8656, section 7.3).
 
 ghost use Rattle.std.specs.Prelude.{◌≡◌, IfOk, OnOk};
 ghost use Rattle.turn_client_proto_messages.specs.Granting.{allocations_of, counts, has_family, with_address};
-ghost use Rattle.turn_client_proto_messages.specs.Told.{relayed_told};
+ghost use Rattle.turn_client_proto_messages.specs.Reported.{relayed_reported};
 
-use crate::told::relayed_in;
+use crate::reported::relayed_in;
 use std::alloc::Global;
 use std::net::SocketAddr;
 use stun_types_base::family::AddressFamily;
@@ -18,20 +18,20 @@ use turn_client_proto_allocation::listed::Allocations;
 use turn_client_proto_api::families::RequestedFamilies;
 use turn_types_attributes::xor_relayed_address::XorRelayedAddress;
 
-/// What allocations are made of, beside their addresses.
+/// What allocations have in common, besides their addresses.
 #[derive(Debug, Drop)]
 pub struct Terms {
-    /// The families of addresses that were asked for.
+    /// The requested address families.
     pub families: RequestedFamilies,
     /// The transport between the server and the peers.
     pub transport: TransportType,
-    /// For how many seconds the server has allocated.
+    /// The granted lifetime, in seconds.
     pub lifetime: u32,
-    /// The moment at which the response came.
-    pub moment: Instant,
+    /// The time at which the response was received.
+    pub time: Instant,
 }
 
-/// Whether one of the allocations has an address of a family.
+/// Returns whether one of the allocations has a relayed address of this family.
 pub fn has_family(allocations: &[Allocation], family: AddressFamily) -> bool
     ensures { result ≡ has_family family allocations.now }
 {
@@ -40,7 +40,8 @@ pub fn has_family(allocations: &[Allocation], family: AddressFamily) -> bool
         .any(|a| family == AddressFamily::from(&a.address))
 }
 
-/// Whether an address counts: its family is asked for, and no allocation has one of it.
+/// Returns whether an address makes a new allocation: its family is requested, and no allocation
+/// has an address of it yet.
 fn counts(families: RequestedFamilies, allocations: &[Allocation], address: SocketAddr) -> bool
     ensures { result ≡ counts families allocations.now address }
 {
@@ -48,7 +49,8 @@ fn counts(families: RequestedFamilies, allocations: &[Allocation], address: Sock
     families.contains(family) && !has_family(allocations, family)
 }
 
-/// Adds the allocation of an address, where it counts.
+/// Appends an allocation with this relayed address, unless its family is not requested or has an
+/// allocation already. Fails with `NoMemory` if memory runs out.
 #[tactic(auto, unfolding(crate::specs::Granting::with_address))]
 fn add_address(
     alloc: Global,
@@ -57,32 +59,28 @@ fn add_address(
     address: SocketAddr,
 ) -> Result<(), NoMemory>
     ensures { OnOk result (allocations.new ≡ with_address terms.now.families terms.now.transport
-        terms.now.lifetime terms.now.moment allocations.old address) }
+        terms.now.lifetime terms.now.time allocations.old address) }
 {
     if !counts(terms.families, allocations.as_slice(), address) {
         return Ok(());
     }
-    let granted = Allocation::granted(
-        alloc,
-        terms.transport,
-        address,
-        terms.lifetime,
-        terms.moment,
-    );
+    let granted = Allocation::granted(alloc, terms.transport, address, terms.lifetime, terms.time);
     allocations.push(granted)
 }
 
-/// The allocations that a success response brings: of each family that was asked for that of the first
-/// address, in the order in which the response has them, up to the first XOR-RELAYED-ADDRESS that is
-/// malformed. Where memory is refused, `NoMemory`.
-#[tactic(auto, using(crate::proofs::Firsts::firsts), unfolding(crate::proofs::Firsts::told_before))]
+/// Returns the allocations that a success response to an ALLOCATE grants: one for the first address
+/// of each requested family, in the order of the response.
+///
+/// Only the XOR-RELAYED-ADDRESSes before the first malformed one count. Fails with `NoMemory` if
+/// memory runs out.
+#[tactic(auto, using(crate::proofs::Firsts::firsts), unfolding(crate::proofs::Firsts::reported_before))]
 pub fn allocations_of(
     alloc: Global,
     message: &Message<'_>,
     terms: &Terms,
 ) -> Result<Allocations, NoMemory>
     ensures { IfOk result (λ allocations. allocations ≡ allocations_of terms.now.families
-        terms.now.transport terms.now.lifetime terms.now.moment (relayed_told message.now)) }
+        terms.now.transport terms.now.lifetime terms.now.time (relayed_reported message.now)) }
 {
     let number = message.transaction_id();
     let mut allocations = Allocations::new(alloc);

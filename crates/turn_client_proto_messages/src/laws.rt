@@ -1,5 +1,5 @@
-//! What the definitions of the contracts mean for a layer above. The functions do nothing; each
-//! contract is a law.
+//! Theorems on the definitions that the contracts use, for the crates above this one. The functions
+//! do nothing; each contract is a theorem.
 
 ghost use Rattle.std.specs.Prelude.{◌≡◌, ◌≤◌, ◌<◌, ◌^◌, ℕ, List, true, Some, None, length, IfSome, Result, MatchResult};
 ghost use Rattle.std.specs.Net.Socket.{IsSocketAddr, socket_flowinfo, socket_scope_id};
@@ -13,26 +13,26 @@ ghost use Rattle.stun_proto_client.specs.Digests.{IsRight};
 ghost use Rattle.stun_proto_auth.specs.Claims.{claimed};
 ghost use Rattle.turn_client_proto_api.specs.StunProtoAgent.Sending.{is_request};
 ghost use Rattle.stun_proto_client.specs.Client.{Client, Standing, standing_key, standing_of};
-ghost use Rattle.stun_proto_client.specs.ClientValidation.{IsTaken, IsTurnedDown};
+ghost use Rattle.stun_proto_client.specs.ClientValidation.{IsTaken, IsRejected};
 ghost use Rattle.stun_proto_client.specs.declared.error.LongTermClientAuthError.{LongTermClientAuthError};
 ghost use Rattle.stun_proto_client.specs.declared.validation.LongTermClientValidation.{LongTermClientValidation};
-ghost use Rattle.turn_runs.specs.StunWire.{told_by};
+ghost use Rattle.turn_runs.specs.StunWire.{decoded_by};
 ghost use Rattle.turn_client_proto_messages.specs.OwnClaims.{own_claim};
 ghost use Rattle.turn_client_proto_messages.specs.ReadTexts.{HasReadTexts};
 ghost use Rattle.turn_client_proto_messages.specs.Requests.{is_signed, request_calls, request_text, request_type};
 ghost use Rattle.turn_client_proto_messages.specs.ShortTexts.{HasShortTexts};
-ghost use Rattle.turn_client_proto_messages.specs.ToldRequests.{CanBeRead, IsLawfulRequest, IsReadBack, told_request};
+ghost use Rattle.turn_client_proto_messages.specs.ReportedRequests.{CanBeRead, IsLawfulRequest, IsReadBack, reported_request};
 ghost use Rattle.turn_client_proto_messages.specs.declared.request.TurnRequest.{TurnRequest as Request};
 
 use crate::request::TurnRequest;
 use std::net::IpAddr;
-use stun_types_write::reading::text_is_read;
+use stun_types_write::reading::proof_text_is_read;
 use turn_client_proto_api::config::TurnConfig;
 
-/// What the types of a request keep, in the words of the other laws: there are two families at most,
-/// a number has so many bits, and an IP has its octets or segments. It does nothing.
+/// Each request meets `IsLawfulRequest`, which the other theorems presume: it has at most two
+/// families, its numbers fit their bits, and an IP has its octets or segments.
 #[tactic(auto, using(crate::proofs::Families::two_families))]
-pub fn requests_are_lawful(request: &TurnRequest)
+pub fn proof_requests_are_lawful(request: &TurnRequest)
     ensures { IsLawfulRequest request.now }
 {
     match request {
@@ -61,8 +61,8 @@ pub fn requests_are_lawful(request: &TurnRequest)
     }
 }
 
-/// An address is read back from XOR-PEER-ADDRESS under any number, where it has no flow information
-/// and no scope (RFC 8656, section 18.3).
+/// For each transaction ID, an address without flow information and scope is the one that is
+/// decoded from its XOR-PEER-ADDRESS (RFC 8656, section 18.3).
 pub fn addresses_are_read_back()
     ensures { (number : ℕ) (peer : SocketAddr)
         → IsSocketAddr peer
@@ -71,12 +71,21 @@ pub fn addresses_are_read_back()
         → IsReadBack number peer }
 {}
 
-/// The text of a request is a message of class request with its number. It tells what the request
-/// asks for, where the address of a peer that it names is read back (RFC 8656, section 18; RFC
-/// 6062, section 6.2). It shows its attributes and those of the client's authenticator, and nothing
-/// else; one that is signed is right under the key of the challenge that the client keeps (RFC 8489,
-/// sections 9.2.3, 14.5 and 14.6).
-pub fn requests_are_read()
+/// What a receiver decodes from a request that the client writes.
+///
+/// Premises: the client's texts are within the limits of their attributes (`HasShortTexts`), the
+/// request is lawful (`IsLawfulRequest`), and the transaction ID has 96 bits. Conclusions:
+///
+/// - `message`: the bytes are a message.
+/// - `request`: its class is request, without any premise.
+/// - `number`: it has the transaction ID.
+/// - `reported`: what is decoded from it is what the request is for, if the peer's address in it is
+///   decoded unchanged (`CanBeRead`; RFC 8656, section 18; RFC 6062, section 6.2).
+/// - `read`: its visible attributes are those of the request and those of the client's
+///   authenticator, and no others.
+/// - `valid`: a signed request is valid under the key of the challenge that the client remembers
+///   (RFC 8489, sections 9.2.3, 14.5 and 14.6).
+pub fn proof_requests_are_read()
     ensures message { (auth : Client) (request : Request) (number : ℕ)
         → HasShortTexts auth
         → IsLawfulRequest request
@@ -89,12 +98,12 @@ pub fn requests_are_read()
         → IsLawfulRequest request
         → number < 2 ^ 96
         → number_at (request_text auth request number) ≡ number }
-    ensures told { (auth : Client) (request : Request) (number : ℕ)
+    ensures reported { (auth : Client) (request : Request) (number : ℕ)
         → HasShortTexts auth
         → IsLawfulRequest request
         → number < 2 ^ 96
         → CanBeRead request number
-        → told_by (request_text auth request number) ≡ told_request request number }
+        → decoded_by (request_text auth request number) ≡ reported_request request number }
     ensures read { (auth : Client) (request : Request) (number : ℕ)
         → HasShortTexts auth
         → IsLawfulRequest request
@@ -111,9 +120,13 @@ pub fn requests_are_read()
         → IsRight (request_text auth request number) (standing_key standing) }
 {}
 
-/// What a signed request claims, where the client's texts can be read: the algorithm that was chosen,
-/// the name or its hash, realm and nonce of the challenge, and its list with the choice (RFC 8489,
+/// A signed request has these authentication attributes: the chosen algorithm, the user name or its
+/// hash, realm and nonce of the challenge, and its list of algorithms with the choice (RFC 8489,
 /// sections 9.2.3 and 9.2.5).
+///
+/// Premises: the client's texts are within the limits of their attributes and well formed
+/// (`HasReadTexts`), the request is lawful, the transaction ID has 96 bits, and the client has
+/// credentials and a challenge.
 pub fn signed_requests_claim()
     ensures { (auth : Client) (request : Request) (number : ℕ) (standing : Standing)
         → HasShortTexts auth
@@ -126,23 +139,25 @@ pub fn signed_requests_claim()
         ≡ own_claim auth.anonymous_username standing }
 {}
 
-/// The name of the user of a client's settings is a text in UTF-8 (RFC 8489, section 14.3). It does
-/// nothing.
+/// The user name in a client's settings is valid UTF-8 (RFC 8489, section 14.3).
 pub fn names_are_texts(config: &TurnConfig)
     ensures { utf8_refusal config.now.credentials.username ≡ None }
 {
     let name = config.credentials().username();
-    text_is_read(name, name.len());
+    proof_text_is_read(name, name.len());
 }
 
-/// The texts of a client's authenticator stay short, whatever a validation answers: of a challenge,
-/// a longer realm, nonce or list is as if it were not there (RFC 8489, sections 14.9 to 14.11). Those
-/// of one that keeps no challenge are short where the name of its user is.
-pub fn texts_stay_short()
+/// The texts of a client's authenticator stay within the limits of their attributes (RFC 8489,
+/// sections 14.9 to 14.11).
+///
+/// - `stay`: if they are before a validation, they are afterwards, whatever its result. A realm,
+///   nonce or list of a challenge that is too long is ignored.
+/// - `fresh`: if the client remembers no challenge, they are if the user name is.
+pub fn proof_texts_stay_short()
     ensures stay { (old new : Client) (bytes : List ℕ)
         (result : Result LongTermClientValidation LongTermClientAuthError)
         → MatchResult result (λ answer. IsTaken old bytes answer new)
-        (λ error. IsTurnedDown old bytes error new)
+        (λ error. IsRejected old bytes error new)
         → HasShortTexts old
         → HasShortTexts new }
     ensures fresh { (client : Client)
@@ -151,15 +166,17 @@ pub fn texts_stay_short()
         → HasShortTexts client }
 {}
 
-/// The texts of a client's authenticator can be read, whatever a validation answers: of a challenge,
-/// a realm or a nonce that is no text, and a list that names an unknown algorithm, is as if it were
-/// not there (RFC 8489, sections 14.9 to 14.11). Those of one that keeps no challenge can be read
-/// where the name of its user is a text.
+/// The texts of a client's authenticator stay well formed (RFC 8489, sections 14.9 to 14.11).
+///
+/// - `stay`: if they are before a validation, they are afterwards, whatever its result. A realm or
+///   nonce of a challenge that is no UTF-8, and a list that names an unknown algorithm, are
+///   ignored.
+/// - `fresh`: if the client remembers no challenge, they are if the user name is UTF-8.
 pub fn texts_stay_read()
     ensures stay { (old new : Client) (bytes : List ℕ)
         (result : Result LongTermClientValidation LongTermClientAuthError)
         → MatchResult result (λ answer. IsTaken old bytes answer new)
-        (λ error. IsTurnedDown old bytes error new)
+        (λ error. IsRejected old bytes error new)
         → HasReadTexts old
         → HasReadTexts new }
     ensures fresh { (client : Client)

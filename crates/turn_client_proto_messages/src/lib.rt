@@ -1,4 +1,5 @@
-//! The text of each request and answer of a client, signed, and what is read of a response.
+//! The requests and responses that a client writes and signs, and what it decodes from the server's
+//! messages.
 #![tactic(auto)]
 
 pub mod answer;
@@ -6,8 +7,8 @@ mod attributes;
 pub mod granting;
 pub mod laws;
 pub mod queued;
+pub mod reported;
+pub mod reporting;
 pub mod request;
 pub mod signer;
-pub mod telling;
-pub mod told;
 mod unsigned;

@@ -1,12 +1,12 @@
-//! How a message waits to be sent.
+//! A queued message.
 
 ghost use Rattle.std.specs.Prelude.{◌≡◌};
 
 use std::marker::Model;
 use std::net::SocketAddr;
 
-/// A message that waits to be sent: a request, or the response to one of the server's. Contracts
-/// see the record `Queued`.
+/// A message in the client's send queue: a request, or the response to one of the server's
+/// requests. Contracts see the record `Queued`.
 #[derive(Debug, Drop)]
 pub struct Queued {
     bytes: Vec<u8>,
@@ -27,7 +27,7 @@ impl Model for Queued {
 }
 
 impl Queued {
-    /// A message that goes from an own address.
+    /// Returns a message that is to be sent from the own address `from`.
     pub fn new(bytes: Vec<u8>, from: SocketAddr, is_request: bool) -> Queued
         ensures { result ≡ record {
           bytes = bytes.items;
@@ -42,28 +42,28 @@ impl Queued {
         }
     }
 
-    /// The bytes of the message.
+    /// Returns the bytes of the message.
     pub fn bytes(&self) -> &[u8]
         ensures { result.now ≡ self.now.bytes }
     {
         self.bytes.as_slice()
     }
 
-    /// The own address that it goes from.
+    /// Returns the own address from which it is sent.
     pub fn from(&self) -> SocketAddr
         ensures { result ≡ self.now.from }
     {
         self.from
     }
 
-    /// Whether it is a request.
+    /// Returns whether it is a request.
     pub fn is_request(&self) -> bool
         ensures { result ≡ self.now.is_request }
     {
         self.is_request
     }
 
-    /// The bytes of the message, given away.
+    /// Returns the bytes of the message, and consumes it.
     pub fn into_bytes(self) -> Vec<u8>
         ensures { result.items ≡ self.bytes }
     {

@@ -1,4 +1,4 @@
-//! The client's side of authentication, whose texts are short enough to be written.
+//! The client's authenticator, with texts that are short enough to be written.
 
 ghost use Rattle.std.specs.Prelude.{◌≡◌, ◌≢◌, ◌≤◌, [], IfOk, None, true, length};
 ghost use Rattle.std.specs.List.{IsDistinct};
@@ -11,7 +11,7 @@ ghost use Rattle.turn_client_proto_messages.specs.Requests.{request_text};
 ghost use Rattle.turn_client_proto_messages.specs.Judging.{IsJudged, signer_of};
 
 use crate::answer::{AttemptAnswer, write_answer};
-use crate::laws::{requests_are_lawful, requests_are_read, texts_stay_short};
+use crate::laws::{proof_requests_are_lawful, proof_requests_are_read, proof_texts_stay_short};
 use crate::request::{TurnRequest, write_request};
 use std::alloc::Global;
 use std::marker::Model;
@@ -25,9 +25,9 @@ use stun_types_wire::algorithm::IntegrityAlgorithm;
 use stun_types_wire::transaction::TransactionId;
 use turn_client_proto_api::config::TurnConfig;
 
-/// The client's side of long-term authentication. Its name, and the realm and the nonce of the
-/// challenge that it keeps, are no longer than their attributes may be, so that each request can be
-/// signed. Contracts see the record `Client` of `stun_proto`.
+/// The client's side of long-term authentication. Its user name, and the realm, nonce and list of
+/// algorithms of the challenge that it remembers, are no longer than their attributes may be, so
+/// each request can be signed. Contracts see the record `Client` of `stun_proto`.
 #[derive(Debug, Drop)]
 pub struct Signer {
     auth: LongTermClientAuth,
@@ -44,7 +44,7 @@ impl Model for Signer {
     ghost invariant = { λ s. HasShortTexts s.auth };
 }
 
-/// Supports these algorithms alone, in this order.
+/// Sets the supported algorithms to these, in this order.
 fn set_algorithms(auth: &mut LongTermClientAuth, algorithms: &[IntegrityAlgorithm])
     requires never_empty { algorithms.now ≢ [] }
     requires distinct { IsDistinct is_same_algorithm algorithms.now }
@@ -61,13 +61,13 @@ fn set_algorithms(auth: &mut LongTermClientAuth, algorithms: &[IntegrityAlgorith
 }
 
 impl Signer {
-    /// The authenticator of a new client with these settings: it has the credentials and the algorithms
-    /// of the settings, hides its name as they say, and keeps no challenge.
+    /// Returns the authenticator of a new client with these settings. It has their credentials,
+    /// algorithms and setting for anonymous user names, and remembers no challenge.
     pub fn new(alloc: Global, config: TurnConfig) -> Signer
         requires { length config.credentials.username ≤ longest_username }
         ensures { result ≡ signer_of config }
     {
-        texts_stay_short();
+        proof_texts_stay_short();
         let mut auth = LongTermClientAuth::new(alloc);
         set_algorithms(&mut auth, config.supported_integrity());
         auth.set_anonymous_username(config.anonymous_username());
@@ -75,45 +75,45 @@ impl Signer {
         Signer { auth }
     }
 
-    /// Validates a message that came, as `LongTermClientAuth::validate_incoming_message` does.
+    /// Validates a received message, as `LongTermClientAuth::validate_incoming_message` does.
     pub fn validate_incoming_message(
         &mut self,
         message: &Message<'_>,
     ) -> Result<LongTermClientValidation, LongTermClientAuthError>
         ensures { IsJudged self.old message.now result self.new }
     {
-        texts_stay_short();
+        proof_texts_stay_short();
         self.auth.validate_incoming_message(message)
     }
 
-    /// The bytes of a request of this number: a message of class request. Where memory is refused,
-    /// `NoMemory`.
+    /// Returns the bytes of a request with this transaction ID, which are a message of class
+    /// request. Fails with `NoMemory` if memory runs out.
     pub fn write_request(
         &self,
         alloc: Global,
-        number: TransactionId,
+        transaction_id: TransactionId,
         request: TurnRequest,
     ) -> Result<Vec<u8>, NoMemory>
         ensures bytes { IfOk result (λ bytes.
-            bytes.items ≡ request_text self.now request number) }
+            bytes.items ≡ request_text self.now request transaction_id) }
         ensures message { IfOk result (λ bytes. (refusal bytes.items ≡ None)
-            × (is_request bytes.items ≡ true) × (number_at bytes.items ≡ number)) }
+            × (is_request bytes.items ≡ true) × (number_at bytes.items ≡ transaction_id)) }
     {
-        requests_are_lawful(&request);
-        requests_are_read();
-        write_request(alloc, &self.auth, number, request)
+        proof_requests_are_lawful(&request);
+        proof_requests_are_read();
+        write_request(alloc, &self.auth, transaction_id, request)
     }
 
-    /// The bytes of the answer to a CONNECTION_ATTEMPT of this number. Where memory is refused,
-    /// `NoMemory`.
+    /// Returns the bytes of the response to the CONNECTION_ATTEMPT with this transaction ID. Fails
+    /// with `NoMemory` if memory runs out.
     pub fn write_answer(
         &self,
         alloc: Global,
-        number: TransactionId,
+        transaction_id: TransactionId,
         answer: AttemptAnswer,
     ) -> Result<Vec<u8>, NoMemory>
-        ensures { IfOk result (λ bytes. bytes.items ≡ answer_text self.now answer number) }
+        ensures { IfOk result (λ bytes. bytes.items ≡ answer_text self.now answer transaction_id) }
     {
-        write_answer(alloc, &self.auth, number, answer)
+        write_answer(alloc, &self.auth, transaction_id, answer)
     }
 }

@@ -1,4 +1,4 @@
-//! Requests as they are before they are signed.
+//! Requests before they are signed.
 
 ghost use Rattle.std.specs.Prelude.{◌≡◌, ◌≤◌, ◌<◌, ◌^◌, [], ◌∷◌, length, IfOk};
 ghost use Rattle.stun_types_write.specs.Lent.{own_draft};
@@ -24,47 +24,48 @@ use turn_types_attributes::registry::{
     ALLOCATE, CHANNEL_BIND, CONNECT, CONNECTION_BIND, CREATE_PERMISSION, REFRESH,
 };
 
-/// A request of this number that is not signed yet. Where memory is refused, `NoMemory`.
+/// Returns the request with this transaction ID, not signed yet. Fails with `NoMemory` if memory
+/// runs out.
 pub(crate) fn write_unsigned(
     alloc: Global,
-    number: TransactionId,
+    transaction_id: TransactionId,
     request: TurnRequest,
 ) -> Result<MessageWriteVec, NoMemory>
-    ensures request { IfOk result (λ draft. IsRequest request number (own_draft draft)) }
+    ensures request { IfOk result (λ draft. IsRequest request transaction_id (own_draft draft)) }
     ensures short { IfOk result (λ draft. length (own_draft draft).bytes ≤ most_before) }
 {
     match request {
         TurnRequest::FirstAllocate(transport, families) => {
-            write_first_allocate(alloc, number, transport, families)
+            write_first_allocate(alloc, transaction_id, transport, families)
         }
         TurnRequest::Allocate(transport, families) => {
-            write_allocate(alloc, number, transport, families)
+            write_allocate(alloc, transaction_id, transport, families)
         }
-        TurnRequest::Refresh(lifetime) => write_refresh(alloc, number, lifetime),
-        TurnRequest::CreatePermission(ip) => write_create_permission(alloc, number, ip),
+        TurnRequest::Refresh(lifetime) => write_refresh(alloc, transaction_id, lifetime),
+        TurnRequest::CreatePermission(ip) => write_create_permission(alloc, transaction_id, ip),
         TurnRequest::ChannelBind(channel, peer) => {
-            write_channel_bind(alloc, number, channel, peer)
+            write_channel_bind(alloc, transaction_id, channel, peer)
         }
-        TurnRequest::Connect(peer) => write_to_peer(alloc, CONNECT, number, peer),
+        TurnRequest::Connect(peer) => write_to_peer(alloc, CONNECT, transaction_id, peer),
         TurnRequest::ConnectionBind(connection) => {
-            write_connection_bind(alloc, number, connection)
+            write_connection_bind(alloc, transaction_id, connection)
         }
     }
 }
 
-/// The ALLOCATE before any challenge: it shows LIFETIME, REQUESTED-TRANSPORT, DONT-FRAGMENT, and
-/// the families (RFC 8656, section 7.1). Where memory is refused, `NoMemory`.
+/// Returns the ALLOCATE before any challenge, with LIFETIME, REQUESTED-TRANSPORT, DONT-FRAGMENT and
+/// the families (RFC 8656, section 7.1). Fails with `NoMemory` if memory runs out.
 fn write_first_allocate(
     alloc: Global,
-    number: TransactionId,
+    transaction_id: TransactionId,
     transport: TransportType,
     families: RequestedFamilies,
 ) -> Result<MessageWriteVec, NoMemory>
     ensures request { IfOk result (λ draft. IsRequest (TurnRequest.FirstAllocate transport families)
-        number (own_draft draft)) }
+        transaction_id (own_draft draft)) }
     ensures short { IfOk result (λ draft. length (own_draft draft).bytes ≤ most_before) }
 {
-    let mut first = begin(alloc, MessageClass::Request, ALLOCATE, number)?;
+    let mut first = begin(alloc, MessageClass::Request, ALLOCATE, transaction_id)?;
     add_lifetime(&mut first, ALLOCATION_LIFETIME)?;
     add_transport(&mut first, transport)?;
     add_dont_fragment(&mut first)?;
@@ -72,101 +73,116 @@ fn write_first_allocate(
     Ok(first)
 }
 
-/// The ALLOCATE that is signed: it shows REQUESTED-TRANSPORT, LIFETIME, and the families (RFC 8656,
-/// section 7.1). Where memory is refused, `NoMemory`.
+/// Returns the ALLOCATE that is to be signed, with REQUESTED-TRANSPORT, LIFETIME and the families
+/// (RFC 8656, section 7.1). Fails with `NoMemory` if memory runs out.
 fn write_allocate(
     alloc: Global,
-    number: TransactionId,
+    transaction_id: TransactionId,
     transport: TransportType,
     families: RequestedFamilies,
 ) -> Result<MessageWriteVec, NoMemory>
     ensures request { IfOk result (λ draft. IsRequest (TurnRequest.Allocate transport families)
-        number (own_draft draft)) }
+        transaction_id (own_draft draft)) }
     ensures short { IfOk result (λ draft. length (own_draft draft).bytes ≤ most_before) }
 {
-    let mut draft = begin(alloc, MessageClass::Request, ALLOCATE, number)?;
+    let mut draft = begin(alloc, MessageClass::Request, ALLOCATE, transaction_id)?;
     add_transport(&mut draft, transport)?;
     add_lifetime(&mut draft, ALLOCATION_LIFETIME)?;
     add_families(&mut draft, families)?;
     Ok(draft)
 }
 
-/// The REFRESH: it shows LIFETIME (RFC 8656, section 8.1). Where memory is refused, `NoMemory`.
+/// Returns the REFRESH, with LIFETIME (RFC 8656, section 8.1). Fails with `NoMemory` if memory runs
+/// out.
 fn write_refresh(
     alloc: Global,
-    number: TransactionId,
+    transaction_id: TransactionId,
     lifetime: u32,
 ) -> Result<MessageWriteVec, NoMemory>
-    ensures request { IfOk result (λ draft. IsRequest (TurnRequest.Refresh lifetime) number
+    ensures request { IfOk result (λ draft. IsRequest (TurnRequest.Refresh lifetime) transaction_id
         (own_draft draft)) }
     ensures short { IfOk result (λ draft. length (own_draft draft).bytes ≤ most_before) }
 {
-    let mut draft = begin(alloc, MessageClass::Request, REFRESH, number)?;
+    let mut draft = begin(alloc, MessageClass::Request, REFRESH, transaction_id)?;
     add_lifetime(&mut draft, lifetime)?;
     Ok(draft)
 }
 
-/// The CREATE_PERMISSION: it shows XOR-PEER-ADDRESS of the IP, and a port that is not looked at
-/// (RFC 8656, section 10.1). Where memory is refused, `NoMemory`.
+/// Returns the CREATE_PERMISSION, with the IP address in an XOR-PEER-ADDRESS. Its port is 0, which
+/// the server ignores (RFC 8656, section 10.1). Fails with `NoMemory` if memory runs out.
 fn write_create_permission(
     alloc: Global,
-    number: TransactionId,
+    transaction_id: TransactionId,
     ip: IpAddr,
 ) -> Result<MessageWriteVec, NoMemory>
-    ensures request { IfOk result (λ draft. IsRequest (TurnRequest.CreatePermission ip) number
+    ensures request { IfOk result (λ draft. IsRequest (TurnRequest.CreatePermission ip)
+        transaction_id
         (own_draft draft)) }
     ensures short { IfOk result (λ draft. length (own_draft draft).bytes ≤ most_before) }
 {
-    write_to_peer(alloc, CREATE_PERMISSION, number, SocketAddr::new(ip, 0))
+    write_to_peer(
+        alloc,
+        CREATE_PERMISSION,
+        transaction_id,
+        SocketAddr::new(ip, 0),
+    )
 }
 
-/// A request that shows XOR-PEER-ADDRESS alone. Where memory is refused, `NoMemory`.
+/// Returns a request whose only attribute is XOR-PEER-ADDRESS. Fails with `NoMemory` if memory runs
+/// out.
 fn write_to_peer(
     alloc: Global,
     method: Method,
-    number: TransactionId,
+    transaction_id: TransactionId,
     peer: SocketAddr,
 ) -> Result<MessageWriteVec, NoMemory>
     requires { method.0 < 2 ^ 12 }
-    ensures request { IfOk result (λ draft. IsUnsigned (type_of Request method.0) number
-        (peer_attribute number peer ∷ []) (own_draft draft)) }
+    ensures request { IfOk result (λ draft. IsUnsigned (type_of Request method.0) transaction_id
+        (peer_attribute transaction_id peer ∷ []) (own_draft draft)) }
     ensures short { IfOk result (λ draft. length (own_draft draft).bytes ≤ most_before) }
 {
-    let mut draft = begin(alloc, MessageClass::Request, method, number)?;
-    add_peer(&mut draft, number, peer)?;
+    let mut draft = begin(alloc, MessageClass::Request, method, transaction_id)?;
+    add_peer(&mut draft, transaction_id, peer)?;
     Ok(draft)
 }
 
-/// The CHANNEL_BIND: it shows CHANNEL-NUMBER and XOR-PEER-ADDRESS (RFC 8656, section 12.1). Where
-/// memory is refused, `NoMemory`.
+/// Returns the CHANNEL_BIND, with CHANNEL-NUMBER and XOR-PEER-ADDRESS (RFC 8656, section 12.1).
+/// Fails with `NoMemory` if memory runs out.
 fn write_channel_bind(
     alloc: Global,
-    number: TransactionId,
+    transaction_id: TransactionId,
     channel: u16,
     peer: SocketAddr,
 ) -> Result<MessageWriteVec, NoMemory>
-    ensures request { IfOk result (λ draft. IsRequest (TurnRequest.ChannelBind channel peer) number
+    ensures request { IfOk result (λ draft. IsRequest (TurnRequest.ChannelBind channel peer)
+        transaction_id
         (own_draft draft)) }
     ensures short { IfOk result (λ draft. length (own_draft draft).bytes ≤ most_before) }
 {
-    let mut draft = begin(alloc, MessageClass::Request, CHANNEL_BIND, number)?;
+    let mut draft = begin(alloc, MessageClass::Request, CHANNEL_BIND, transaction_id)?;
     add_channel(&mut draft, channel)?;
-    add_peer(&mut draft, number, peer)?;
+    add_peer(&mut draft, transaction_id, peer)?;
     Ok(draft)
 }
 
-/// The CONNECTION_BIND: it shows CONNECTION-ID (RFC 6062, section 4.3). Where memory is refused,
-/// `NoMemory`.
+/// Returns the CONNECTION_BIND, with CONNECTION-ID (RFC 6062, section 4.3). Fails with `NoMemory`
+/// if memory runs out.
 fn write_connection_bind(
     alloc: Global,
-    number: TransactionId,
+    transaction_id: TransactionId,
     connection: u32,
 ) -> Result<MessageWriteVec, NoMemory>
-    ensures request { IfOk result (λ draft. IsRequest (TurnRequest.ConnectionBind connection) number
+    ensures request { IfOk result (λ draft. IsRequest (TurnRequest.ConnectionBind connection)
+        transaction_id
         (own_draft draft)) }
     ensures short { IfOk result (λ draft. length (own_draft draft).bytes ≤ most_before) }
 {
-    let mut draft = begin(alloc, MessageClass::Request, CONNECTION_BIND, number)?;
+    let mut draft = begin(
+        alloc,
+        MessageClass::Request,
+        CONNECTION_BIND,
+        transaction_id,
+    )?;
     add_connection(&mut draft, connection)?;
     Ok(draft)
 }

@@ -1,4 +1,4 @@
--- The last attribute of a type, as one walk finds it.
+-- The last attribute of a type, as one pass finds it.
 use Rattle.std.proofs.Common.{◌≡◌, ℕ, List, [], ◌∷◌, fold, Option, Some, None, refl, sym, ap, ◌∙◌, inl, inr}
 use Rattle.std.specs.Prelude.{find, reverse, if◌then◌else◌}
 use Rattle.std.specs.Option.{option_and_then, option_map, option_or}
@@ -8,7 +8,7 @@ use Rattle.std.proofs.lemmas.List.Folds.{find-append}
 use Rattle.stun_types_wire.specs.Attributes.{Attr}
 use Rattle.turn_client_proto_core.specs.TurnRuns.Indications.{is_kind}
 
--- the later of what was found and an attribute, where that is of a type
+-- The attribute if it has this type, else what was found before.
 abbrev pub later : ℕ → Option (ℕ × Attr) → ℕ × Attr → Option (ℕ × Attr)
 later kind found e = if is_kind kind e then Some e else found
 
@@ -27,38 +27,38 @@ module _ (kind : ℕ) where
   walked : (xs : List (ℕ × Attr)) (found : Option (ℕ × Attr)) → fold (later kind) found xs ≡ option_or (find (is_kind kind) (reverse xs)) found
   walked [] found = refl
   walked (x ∷ xs) found =
-      let behind = find (is_kind kind) (reverse xs) in
+      let following = find (is_kind kind) (reverse xs) in
       walked xs (later kind found x)
-      ∙ ap (λ (o : Option (ℕ × Attr)). option_or behind o) (sym (one x found))
-      ∙ sym (or_again behind (find (is_kind kind) (x ∷ [])) found)
+      ∙ ap (λ (o : Option (ℕ × Attr)). option_or following o) (sym (one x found))
+      ∙ sym (or_again following (find (is_kind kind) (x ∷ [])) found)
       ∙ ap (λ (o : Option (ℕ × Attr)). option_or o found) (sym (find-append (is_kind kind) (reverse xs) (x ∷ [])))
       ∙ ap (λ (l : List (ℕ × Attr)). option_or (find (is_kind kind) l) found) (sym (reverse-append (x ∷ []) xs))
 
-  -- the last that one walk finds is the first from behind
+  -- The last attribute that a pass finds is the first one of the reversed list.
   pub last_is : (xs : List (ℕ × Attr)) → fold (later kind) None xs ≡ find (is_kind kind) (reverse xs)
   last_is xs = walked xs None ∙ or_none (find (is_kind kind) (reverse xs))
 
--- what the later of the two tells
-abbrev pub later_told : {X : Type 0} → ℕ → (ℕ × Attr → Option X) → Option X → ℕ × Attr → Option X
-later_told kind tells told e = if is_kind kind e then tells e else told
+-- What the attribute decodes to if it has this type, else what was decoded before.
+abbrev pub later_reported : {X : Type 0} → ℕ → (ℕ × Attr → Option X) → Option X → ℕ × Attr → Option X
+later_reported kind decodes reported e = if is_kind kind e then decodes e else reported
 
-module _ {X : Type 0} (kind : ℕ) (tells : ℕ × Attr → Option X) where
-  step_told : (x : ℕ × Attr) (found : Option (ℕ × Attr)) (told : Option X) → told ≡ option_and_then tells found
-      → later_told kind tells told x ≡ option_and_then tells (later kind found x)
-  step_told x found told is = elim (cases_Bool (is_kind kind x)) [ inl so ↦ rw so refl | inr not ↦ rw not is ]
+module _ {X : Type 0} (kind : ℕ) (decodes : ℕ × Attr → Option X) where
+  step_reported : (x : ℕ × Attr) (found : Option (ℕ × Attr)) (reported : Option X) → reported ≡ option_and_then decodes found
+      → later_reported kind decodes reported x ≡ option_and_then decodes (later kind found x)
+  step_reported x found reported is = elim (cases_Bool (is_kind kind x)) [ inl so ↦ rw so refl | inr not ↦ rw not is ]
 
-  walk_told : (xs : List (ℕ × Attr)) (found : Option (ℕ × Attr)) (told : Option X) → told ≡ option_and_then tells found
-      → fold (later_told kind tells) told xs ≡ option_and_then tells (fold (later kind) found xs)
-  walk_told [] found told is = is
-  walk_told (x ∷ xs) found told is = walk_told xs (later kind found x) (later_told kind tells told x) (step_told x found told is)
+  walk_reported : (xs : List (ℕ × Attr)) (found : Option (ℕ × Attr)) (reported : Option X) → reported ≡ option_and_then decodes found
+      → fold (later_reported kind decodes) reported xs ≡ option_and_then decodes (fold (later kind) found xs)
+  walk_reported [] found reported is = is
+  walk_reported (x ∷ xs) found reported is = walk_reported xs (later kind found x) (later_reported kind decodes reported x) (step_reported x found reported is)
 
-  -- what the last that one walk finds tells
-  pub last_told : (xs : List (ℕ × Attr)) → fold (later_told kind tells) None xs ≡ option_and_then tells (find (is_kind kind) (reverse xs))
-  last_told xs = walk_told xs None None refl ∙ ap (option_and_then tells) (last_is kind xs)
+  -- A pass ends with what the last attribute of the type decodes to.
+  pub last_reported : (xs : List (ℕ × Attr)) → fold (later_reported kind decodes) None xs ≡ option_and_then decodes (find (is_kind kind) (reverse xs))
+  last_reported xs = walk_reported xs None None refl ∙ ap (option_and_then decodes) (last_is kind xs)
 
-mapped : {X : Type 0} (tells : ℕ × Attr → X) (o : Option (ℕ × Attr)) → option_and_then (λ e. Some (tells e)) o ≡ option_map tells o
-mapped tells None = refl
-mapped tells (Some e) = refl
+mapped : {X : Type 0} (decodes : ℕ × Attr → X) (o : Option (ℕ × Attr)) → option_and_then (λ e. Some (decodes e)) o ≡ option_map decodes o
+mapped decodes None = refl
+mapped decodes (Some e) = refl
 
-pub last_mapped : {X : Type 0} (kind : ℕ) (tells : ℕ × Attr → X) (xs : List (ℕ × Attr)) → fold (later_told kind (λ e. Some (tells e))) None xs ≡ option_map tells (find (is_kind kind) (reverse xs))
-last_mapped kind tells xs = last_told kind (λ e. Some (tells e)) xs ∙ mapped tells (find (is_kind kind) (reverse xs))
+pub last_mapped : {X : Type 0} (kind : ℕ) (decodes : ℕ × Attr → X) (xs : List (ℕ × Attr)) → fold (later_reported kind (λ e. Some (decodes e))) None xs ≡ option_map decodes (find (is_kind kind) (reverse xs))
+last_mapped kind decodes xs = last_reported kind (λ e. Some (decodes e)) xs ∙ mapped decodes (find (is_kind kind) (reverse xs))

@@ -26,21 +26,21 @@ use Rattle.turn_client_proto_api.specs.Sent.{Sent}
 
 -- ---- the way to a peer
 
--- the first channel to a peer in an allocation of a transport
+-- The first channel to a peer in an allocation, if the allocation has this transport.
 abbrev pub channel_in : TransportType → SocketAddr → Allocation → Option Channel
 channel_in transport peer a = if is_same_transport a.transport transport then find (is_to peer) a.channels else None
 
--- the first in all of them, marked as expired or not
+-- The first channel to a peer in the allocations of this transport, marked as expired or not.
 abbrev pub channel_to : TransportType → SocketAddr → List Allocation → Option Channel
 channel_to transport peer allocations =
     option_and_then (channel_in transport peer) (find (λ a. is_some (channel_in transport peer a)) allocations)
 
--- that one, where its time is not over
+-- That channel, if it hasn't expired.
 abbrev pub standing : ℕ → Option Channel → Option Channel
 standing now None = None
 standing now (Some c) = if nat_le now c.expiry then Some c else None
 
--- a data connection to a peer is bound (RFC 6062, section 4.3)
+-- The data connection is bound to this peer (RFC 6062, section 4.3).
 abbrev pub is_bound_to : SocketAddr → Connection → Bool
 is_bound_to peer c = is_same_address c.peer peer && is_none c.awaited
 
@@ -48,19 +48,20 @@ abbrev pub connection_in : TransportType → SocketAddr → Allocation → Optio
 connection_in transport peer a =
     if is_same_transport a.transport transport then find (is_bound_to peer) a.connections else None
 
--- the first such connection in all allocations of a transport
+-- The first such connection in the allocations of this transport.
 abbrev pub connection_to : TransportType → SocketAddr → List Allocation → Option Connection
 connection_to transport peer allocations =
     option_and_then (connection_in transport peer) (find (λ a. is_some (connection_in transport peer a)) allocations)
 
 -- ---- why nothing is sent
 
--- where a permission stands: over TCP no connection is bound; over UDP there are too many bytes
+-- Why sending to a permitted peer is refused. Over TCP: no connection is bound to the peer. Over UDP: there
+-- are too many bytes.
 abbrev pub way_refusal : TransportType → Protocol → SocketAddr → List ℕ → Option SendError
 way_refusal Tcp p to bytes = if is_none (connection_to Tcp to p.allocations) then Some NoTcpSocket else None
 way_refusal Udp p to bytes = if nat_lt most_payload (length bytes) then Some TooLarge else None
 
--- the first cause in this order
+-- Why sending is refused: the first reason that applies, in this order.
 unfoldable pub send_refusal : TransportType → Protocol → SocketAddr → List ℕ → Option SendError
 send_refusal transport p to bytes =
     if not (list_any (permits_over transport (socket_ip to)) p.allocations) then Some NoPermission
@@ -68,37 +69,37 @@ send_refusal transport p to bytes =
 
 -- ---- what is sent
 
--- bytes go by the transport of the connection to the server, between its addresses
+-- Bytes that are sent on the control connection, by its transport and between its addresses.
 abbrev pub by_control : Protocol → List ℕ → Sent
 by_control p bytes = record { bytes = bytes; transport = p.agent.transport; from = p.agent.here; to = p.server }
 
--- a frame of a channel, which is padded in a stream
+-- A channel frame, which is padded in a stream.
 abbrev pub frame_of : Protocol → Channel → List ℕ → List ℕ
 frame_of p c bytes =
     channeled_text (record { frame = record { id = c.number; payload = bytes }; padded = is_tcp p.agent.transport })
 
--- a SEND indication to a peer, under a number
+-- A SEND indication to a peer, with this transaction ID.
 abbrev pub indication_to : SocketAddr → ℕ → List ℕ → List ℕ
 indication_to to number bytes =
     indication_text (record { method = send_method; peer = to; number = number; payload = bytes })
 
--- what `send_to` answers, as bytes
+-- The result of `send_to`, as bytes.
 abbrev pub Answer : Type 0
 Answer = Result (Option Sent) SendError
 
--- an indication goes under the next number. Where every number there is is taken, memory is refused
+-- An indication is sent with the next transaction ID. If all of them are in use, the result is `NoMemory`.
 pub data IsIndicated (old : Protocol) (to : SocketAddr) (bytes : List ℕ) (answer : Answer) : Type 0 where
   Numbered : (number : ℕ) → IsNextNumber old number
       → answer ≡ Ok (Some (by_control old (indication_to to number bytes)))
       → IsIndicated old to bytes answer
   Full : AreAllTaken old → answer ≡ Err NoMemory → IsIndicated old to bytes answer
 
--- over UDP: by the first channel to the peer where its time is not over, else by an indication
+-- Over UDP, bytes are sent by the first channel to the peer if it hasn't expired, else by an indication.
 abbrev pub IsSentBy : Option Channel → Protocol → SocketAddr → List ℕ → Answer → Protocol → Type 0
 IsSentBy None old to bytes answer new = IsIndicated old to bytes answer × (new ≡ after_number old)
 IsSentBy (Some c) old to bytes answer new = (answer ≡ Ok (Some (by_control old (frame_of old c bytes)))) × (new ≡ old)
 
--- over TCP: as they are, on the first connection that is bound to the peer
+-- Over TCP, bytes are sent as they are, on the first connection that is bound to the peer.
 abbrev pub IsPassedOn : Option Connection → Protocol → List ℕ → Answer → Protocol → Type 0
 IsPassedOn None old bytes answer new = ⊥
 IsPassedOn (Some c) old bytes answer new =
@@ -109,7 +110,7 @@ IsSentOver Tcp old to bytes now answer new = IsPassedOn (connection_to Tcp to ol
 IsSentOver Udp old to bytes now answer new =
     IsSentBy (standing now (channel_to Udp to old.allocations)) old to bytes answer new
 
--- bytes are to go to a peer at a moment: `send_to` answers so, and the client is this afterwards
+-- The result of `send_to` at `now`, and the client's state afterwards.
 abbrev pub IsSendAnswered : Protocol → TransportType → SocketAddr → List ℕ → ℕ → Answer → Protocol → Type 0
 IsSendAnswered old transport to bytes now answer new = MatchOption (send_refusal transport old to bytes)
     (IsSentOver transport old to bytes now answer new)

@@ -1,10 +1,10 @@
-//! What an indication tells of a peer (RFC 8656, sections 11.3, 18.3, 18.4 and 18.13).
+//! Reading of what an indication says of a peer (RFC 8656, sections 11.3, 18.3, 18.4 and 18.13).
 #![tactic(auto, using(turn_client_proto_core::proofs::Usual::usual), unfolding(turn_client_proto_core::proofs::Usual::opened))]
 
 ghost use Rattle.std.specs.Prelude.{◌≡◌, ◌+◌, ◌≤◌, length, option_map, true, false, MatchOption};
 ghost use Rattle.turn_types_attributes.specs.TurnRegistry.{data_kind, xor_peer_address_kind};
 ghost use Rattle.turn_types_peer.specs.TurnShows.{address_in};
-ghost use Rattle.turn_client_proto_core.specs.TurnRuns.Indications.{last_shown, peer_told, report_in, report_told, shows_unexpected};
+ghost use Rattle.turn_client_proto_core.specs.TurnRuns.Indications.{last_listed, peer_reported, report_in, report_decoded, shows_unexpected};
 
 use std::convert::TryFrom;
 use std::net::SocketAddr;
@@ -16,28 +16,28 @@ use turn_types_peer::data::Data;
 use turn_types_peer::icmp::Icmp;
 use turn_types_peer::xor_peer_address::XorPeerAddress;
 
-/// What the last attribute of each type that a DATA indication may show tells. Of one that is
-/// malformed it is nothing.
+/// The attributes of a DATA indication: of each type, the last visible one. A field is `None` if
+/// there is none, or if the last one is malformed.
 #[derive(Drop)]
-pub struct Told {
+pub struct IndicationFields {
     /// The address in XOR-PEER-ADDRESS.
     pub peer: Option<SocketAddr>,
-    /// The offset at which DATA stands, and the length of its value.
+    /// The offset of DATA, and the length of its value.
     pub value: Option<(usize, usize)>,
     /// The report in ICMP.
     pub report: Option<Icmp>,
 }
 
-/// What a message tells, by one walk; none where it shows another attribute that has to be
-/// understood.
-#[tactic(auto, using(crate::proofs::Last::last_told, crate::proofs::Last::last_mapped))]
-pub fn told_in(message: &Message<'_>) -> Option<Told>
-    ensures { MatchOption result (shows_unexpected message.now ≡ true) (λ told.
+/// Reads the visible attributes of a message in one pass. Returns `None` if one of another type is
+/// comprehension-required.
+#[tactic(auto, using(crate::proofs::Last::last_reported, crate::proofs::Last::last_mapped))]
+pub fn reported_in(message: &Message<'_>) -> Option<IndicationFields>
+    ensures { MatchOption result (shows_unexpected message.now ≡ true) (λ reported.
         (shows_unexpected message.now ≡ false)
-        × (told.peer ≡ peer_told message.now)
-        × (told.value
-        ≡ option_map (λ e. (e.0, length e.1.value)) (last_shown data_kind message.now))
-        × (told.report ≡ report_told message.now)) }
+        × (reported.peer ≡ peer_reported message.now)
+        × (reported.value
+        ≡ option_map (λ e. (e.0, length e.1.value)) (last_listed data_kind message.now))
+        × (reported.report ≡ report_decoded message.now)) }
 {
     let (mut peer, mut value, mut report) = (None, None, None);
     for (offset, raw) in message.iter_attributes() {
@@ -52,25 +52,26 @@ pub fn told_in(message: &Message<'_>) -> Option<Told>
             return None;
         }
     }
-    Some(Told {
+    Some(IndicationFields {
         peer,
         value,
         report,
     })
 }
 
-/// The address in a XOR-PEER-ADDRESS of a message of this number, where it is well formed.
-fn peer_in(raw: &RawAttribute<'_>, number: TransactionId) -> Option<SocketAddr>
+/// Returns the address in an XOR-PEER-ADDRESS of a message with this transaction ID, if the
+/// attribute is well formed.
+fn peer_in(raw: &RawAttribute<'_>, transaction_id: TransactionId) -> Option<SocketAddr>
     requires { raw.now.kind ≡ xor_peer_address_kind }
-    ensures { result ≡ address_in number raw.now }
+    ensures { result ≡ address_in transaction_id raw.now }
 {
     match XorPeerAddress::try_from(raw) {
-        Ok(peer) => Some(peer.addr(number)),
+        Ok(peer) => Some(peer.addr(transaction_id)),
         Err(_) => None,
     }
 }
 
-/// The report in an ICMP, where it is well formed.
+/// Returns the report in an ICMP attribute, if it is well formed.
 fn report_in(raw: &RawAttribute<'_>) -> Option<Icmp>
     ensures { result ≡ report_in raw.now }
 {
@@ -80,8 +81,9 @@ fn report_in(raw: &RawAttribute<'_>) -> Option<Icmp>
     }
 }
 
-/// From where to where a value of some length stands behind the header of its attribute.
-pub fn place(bytes: &[u8], offset: usize, len: usize) -> (usize, usize)
+/// Returns the start and the end of an attribute's value with this length. `offset` is that of the
+/// attribute, whose header has 4 bytes.
+pub fn index(bytes: &[u8], offset: usize, len: usize) -> (usize, usize)
     requires { offset + 4 + len ≤ length bytes.now }
     ensures { result ≡ (offset + 4, offset + 4 + len) }
 {

@@ -1,5 +1,5 @@
-//! Whom a client lets through: peers with a permission, and those of channels (RFC 8656, sections 9
-//! and 12).
+//! Which peers a client permits: those with a permission, and those of channels (RFC 8656, sections
+//! 9 and 12).
 #![tactic(auto, using(turn_client_proto_core::proofs::Usual::usual), unfolding(turn_client_proto_core::proofs::Usual::opened))]
 
 ghost use Rattle.std.specs.Prelude.{◌≡◌, find};
@@ -11,8 +11,8 @@ use stun_types_base::transport::TransportType;
 use turn_client_proto_allocation::allocation::Allocation;
 use turn_client_proto_allocation::permitted::permits;
 
-/// The transport of the first allocation, marked as expired or not, in which a permission for an
-/// address stands.
+/// Returns the transport of the first allocation that has an active permission for this address. An
+/// allocation that is marked as expired counts too.
 pub fn permitted(allocations: &[Allocation], ip: IpAddr) -> Option<TransportType>
     ensures { result ≡ permitted ip allocations.now }
 {
@@ -24,7 +24,7 @@ pub fn permitted(allocations: &[Allocation], ip: IpAddr) -> Option<TransportType
     None
 }
 
-/// The transport of an allocation, and the peer of its first channel of a number.
+/// Returns the transport of an allocation, and the peer of its first channel with this number.
 fn bound_in(a: &Allocation, number: u16) -> Option<(TransportType, SocketAddr)>
     ensures { result ≡ bound_in number a.now }
 {
@@ -36,7 +36,8 @@ fn bound_in(a: &Allocation, number: u16) -> Option<(TransportType, SocketAddr)>
     None
 }
 
-/// The same of the first allocation, marked as expired or not, that has such a channel.
+/// Returns the transport and the peer of the first channel with this number. An allocation that is
+/// marked as expired counts too.
 pub fn bound(allocations: &[Allocation], number: u16) -> Option<(TransportType, SocketAddr)>
     ensures { result ≡ bound number allocations.now }
 {

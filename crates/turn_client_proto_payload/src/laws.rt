@@ -1,4 +1,5 @@
-//! What a client gives of peers, for a layer above. The function does nothing; its contract is a law.
+//! What a client delivers from peers, for the crates above. The function does nothing; its contract
+//! is a theorem.
 #![tactic(auto, using(turn_client_proto_core::proofs::Usual::usual), unfolding(turn_client_proto_core::proofs::Usual::opened))]
 
 ghost use Rattle.std.specs.Prelude.{◌≡◌, ℕ, List, Some};
@@ -7,10 +8,14 @@ ghost use Rattle.turn_client_proto_payload.specs.Payloads.{payload_of};
 ghost use Rattle.turn_client_proto_payload.specs.declared.payload.Payload.{Payload};
 ghost use Rattle.turn_client_proto_core.specs.declared.protocol.Protocol.{Protocol};
 
-/// What is given is of a peer that the client lets through. Of a DATA indication it is the value of
-/// its last DATA, or else the report of its last ICMP, of the peer that it names, whose address an
-/// allocation permits; of a channel frame it is the data, whole, of the peer to which a channel of
-/// its number is bound. Data stands in the bytes that came from the one place up to the other.
+/// If a client delivers a payload of received bytes, the payload is from a peer that the client
+/// permits, and lies within the bytes.
+///
+/// - Of a DATA indication, it is the value of the last DATA attribute, or if there is none the
+///   report of the last ICMP attribute. The peer is the one that the indication names, and an
+///   allocation has a permission for its address.
+/// - Of a channel frame, it is all of its data. The peer is the one to which a channel with the
+///   frame's number is bound.
 pub fn payloads_are_of_peers()
     ensures { (p : Protocol) (bytes : List ℕ) (payload : Payload)
         → payload_of p bytes ≡ Some payload → IsGiven p bytes payload }

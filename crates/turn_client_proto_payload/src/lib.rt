@@ -1,6 +1,7 @@
-//! What passes between a client's user and peers: [`payload`] says what it gives of a message or a
-//! channel frame that came, by [`indication`] and [`known`], and [`sending`] what carries bytes to a
-//! peer. Nothing is copied here, and no memory is asked for.
+//! The data between a client's user and peers. [`payload`] finds what a received message or channel
+//! frame delivers, by means of [`indication`] and [`known`]; [`sending`] builds what carries bytes
+//! to a peer. No bytes are copied here and no memory is allocated. [`laws`] proves that what is
+//! delivered is from permitted peers.
 #![tactic(auto)]
 
 pub mod indication;

@@ -1,10 +1,10 @@
-//! What a client gives of a message or a channel frame that came.
+//! What a received message or channel frame delivers.
 #![tactic(auto, using(turn_client_proto_core::proofs::Usual::usual), unfolding(turn_client_proto_core::proofs::Usual::opened))]
 
 ghost use Rattle.std.specs.Prelude.{◌≡◌};
-ghost use Rattle.turn_client_proto_payload.specs.Payloads.{payload_framed, payload_told};
+ghost use Rattle.turn_client_proto_payload.specs.Payloads.{payload_framed, payload_reported};
 
-use crate::indication::{Told, place, told_in};
+use crate::indication::{IndicationFields, index, reported_in};
 use crate::known::{bound, permitted};
 use std::net::SocketAddr;
 use stun_types_base::transport::TransportType;
@@ -15,42 +15,43 @@ use turn_types_attributes::registry::{CHANNEL_HEADER_LENGTH, DATA};
 use turn_types_frame::channel::ChannelData;
 use turn_types_peer::icmp::Icmp;
 
-/// What bytes that came give: nothing of them is copied.
+/// What received bytes deliver, by position: nothing of them is copied.
 #[derive(Debug, Drop)]
 pub enum Payload {
-    /// The data of a peer, as it stands in an indication (RFC 8656, section 11.4).
+    /// A peer's data in an indication (RFC 8656, section 11.4).
     Data {
         /// The transport between the server and the peer.
         transport: TransportType,
         /// The peer.
         peer: SocketAddr,
-        /// Where the data begins in the bytes that came.
+        /// The start of the data in the received bytes.
         start: usize,
-        /// Where it ends.
+        /// The end of the data.
         end: usize,
     },
     /// What a host on the way to a peer reports (RFC 8656, section 11.6): the transport, the peer
-    /// and the report.
+    /// and the ICMP report.
     Report(TransportType, SocketAddr, Icmp),
-    /// The data of a peer, as it stands in a channel frame (RFC 8656, section 12.6).
+    /// A peer's data in a channel frame (RFC 8656, section 12.6).
     Framed {
-        /// The number of the channel.
+        /// The channel number.
         number: u16,
         /// The transport between the server and the peer.
         transport: TransportType,
         /// The peer.
         peer: SocketAddr,
-        /// Where the data begins in the bytes that came.
+        /// The start of the data in the received bytes.
         start: usize,
-        /// Where it ends.
+        /// The end of the data.
         end: usize,
     },
 }
 
-/// What a client gives of a message that came from the server.
-#[tactic(auto, unfolding(crate::specs::Payloads::payload_told))]
+/// Returns what a message from the server delivers: a DATA indication from a permitted peer does,
+/// if the server has allocated and the client has not ended.
+#[tactic(auto, unfolding(crate::specs::Payloads::payload_reported))]
 pub fn payload_in(protocol: &Protocol, message: &Message<'_>) -> Option<Payload>
-    ensures { result ≡ payload_told protocol.now message.now }
+    ensures { result ≡ payload_reported protocol.now message.now }
 {
     if !matches!(protocol.phase, Phase::Authenticated)
         || message.class() != MessageClass::Indication
@@ -58,15 +59,15 @@ pub fn payload_in(protocol: &Protocol, message: &Message<'_>) -> Option<Payload>
     {
         return None;
     }
-    let Told {
+    let IndicationFields {
         peer,
         value,
         report,
-    } = told_in(message)?;
+    } = reported_in(message)?;
     let peer = peer?;
     let transport = permitted(protocol.allocations.as_slice(), peer.ip())?;
     if let Some((offset, len)) = value {
-        let (start, end) = place(message.as_ref(), offset, len);
+        let (start, end) = index(message.as_ref(), offset, len);
         return Some(Payload::Data {
             transport,
             peer,
@@ -77,8 +78,8 @@ pub fn payload_in(protocol: &Protocol, message: &Message<'_>) -> Option<Payload>
     Some(Payload::Report(transport, peer, report?))
 }
 
-/// What a client gives of bytes that are no message, in every state: the data of the channel frame
-/// at their front.
+/// Returns what bytes that are no message deliver: the data of the channel frame at their start.
+/// The client's phase doesn't matter.
 #[tactic(auto, unfolding(crate::specs::Payloads::payload_framed))]
 pub fn payload_framed(protocol: &Protocol, bytes: &[u8]) -> Option<Payload>
     ensures { result ≡ payload_framed protocol.now bytes.now }

@@ -1,4 +1,5 @@
-//! What carries bytes to a peer (RFC 8656, sections 11.1 and 12.5; RFC 6062, section 4.5).
+//! Building of what carries bytes to a peer (RFC 8656, sections 11.1 and 12.5; RFC 6062, section
+//! 4.5).
 #![tactic(auto, using(turn_client_proto_core::proofs::Usual::usual), unfolding(turn_client_proto_core::proofs::Usual::opened))]
 
 ghost use Rattle.std.specs.Prelude.{◌≡◌, ◌≤◌, length, option_map};
@@ -23,7 +24,7 @@ use turn_types_frame::build::TransmitBuild;
 use turn_types_frame::delayed_channel::DelayedChannel;
 use turn_types_frame::delayed_message::DelayedMessage;
 
-/// The first channel to a peer in an allocation of a transport.
+/// Returns the first channel to a peer in an allocation, if the allocation has this transport.
 fn channel_in(a: &Allocation, transport: TransportType, peer: SocketAddr) -> Option<&Channel>
     ensures { option_map (λ c. c.now) result ≡ channel_in transport peer a.now }
 {
@@ -38,7 +39,8 @@ fn channel_in(a: &Allocation, transport: TransportType, peer: SocketAddr) -> Opt
     None
 }
 
-/// The first in all of them, marked as expired or not.
+/// Returns the first channel to a peer in the allocations of this transport, those marked as
+/// expired included.
 fn channel_to(
     allocations: &[Allocation],
     transport: TransportType,
@@ -54,7 +56,8 @@ fn channel_to(
     None
 }
 
-/// The first connection that is bound to a peer, in an allocation of a transport.
+/// Returns the first bound connection to a peer in an allocation, if the allocation has this
+/// transport.
 fn connection_in(a: &Allocation, transport: TransportType, peer: SocketAddr) -> Option<&Connection>
     ensures { option_map (λ c. c.now) result ≡ connection_in transport peer a.now }
 {
@@ -69,7 +72,7 @@ fn connection_in(a: &Allocation, transport: TransportType, peer: SocketAddr) -> 
     None
 }
 
-/// The first in all of them.
+/// Returns the first bound connection to a peer in the allocations of this transport.
 fn connection_to(
     allocations: &[Allocation],
     transport: TransportType,
@@ -85,8 +88,8 @@ fn connection_to(
     None
 }
 
-/// What carries bytes over UDP: the first channel to the peer, where its time is not over, else an
-/// indication under the next number.
+/// Returns what carries bytes over UDP: a frame of the first channel to the peer if it hasn't
+/// expired, else a SEND indication with a new transaction ID.
 #[inline(always)]
 fn carried<T: AsSlice<u8> + Debug + Drop>(
     protocol: &mut Protocol,
@@ -110,7 +113,7 @@ fn carried<T: AsSlice<u8> + Debug + Drop>(
             let carrier = DelayedMessageOrChannelSend::Channel(frame);
             Ok(Some(TransmitBuild::new(carrier, by, here, server)))
         }
-        _ => match protocol.draw_number() {
+        _ => match protocol.generate_id() {
             Ok(number) => {
                 let message = DelayedMessage::for_server(to, number, bytes);
                 let carrier = DelayedMessageOrChannelSend::Message(message);
@@ -121,13 +124,24 @@ fn carried<T: AsSlice<u8> + Debug + Drop>(
     }
 }
 
-/// Bytes are to go to a peer at a moment, by the allocations of a transport. Refused with
-/// `NoPermission` where no permission for the peer's address stands in one that is not marked as
-/// expired; over TCP with `NoTcpSocket` where no connection is bound to the peer; over UDP with
-/// `TooLarge` where there are more than `MAX_PAYLOAD` bytes: then nothing changes. It asks for no
-/// memory. Over UDP a number is drawn where no channel to the peer stands whose time is not over;
-/// `NoMemory` is answered only where every number there is is taken. What it answers is large, so that it is
-/// part of each caller.
+/// Returns what carries bytes to a peer at `now`, over the allocations of this transport.
+///
+/// - TCP: the bytes as they are, on the first connection that is bound to the peer.
+/// - UDP: a channel frame if the first channel to the peer hasn't expired, else a SEND indication
+///   with a new transaction ID.
+///
+/// No memory is allocated. The function is inlined because its result is large.
+///
+/// # Errors
+///
+/// - `NoPermission`: no allocation that isn't marked as expired has a permission for the peer's
+///   address.
+/// - `NoTcpSocket` (TCP): no connection is bound to the peer.
+/// - `TooLarge` (UDP): there are more than `MAX_PAYLOAD` bytes.
+/// - `NoMemory` (UDP, without an active channel): every transaction ID is in use.
+///
+/// After an error nothing has changed, except for the random words that were generated with
+/// `NoMemory`.
 #[inline(always)]
 #[tactic(auto, unfolding(crate::specs::Sending::send_refusal))]
 pub fn send_to<T: AsSlice<u8> + Debug + Drop>(

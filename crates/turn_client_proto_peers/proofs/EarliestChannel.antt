@@ -1,4 +1,4 @@
--- The earliest of the moments at which channels have something to do.
+-- The earliest of the times at which channels have to be polled.
 use Rattle.std.proofs.Common.{◌≡◌, ℕ, List, [], ◌∷◌, ◌++◌, Option, fold, map, min, refl, sym, ap, ◌∙◌}
 use Rattle.std.specs.List.{flat_map}
 use Rattle.turn_client_proto_allocation.specs.StunProtoTransaction.Least.{IsLeastOf}
@@ -6,9 +6,9 @@ use Rattle.turn_client_proto_allocation.proofs.StunProtoTransaction.Leasts.{leas
 use Rattle.turn_client_proto_allocation.specs.Channels.{next_of_channel}
 use Rattle.turn_client_proto_allocation.specs.declared.allocation.Allocation.{Allocation}
 use Rattle.turn_client_proto_allocation.specs.declared.channel.Channel.{Channel}
-use Rattle.turn_client_proto_peers.specs.Channel.Lapsing.{all_nexts, earlier_of}
+use Rattle.turn_client_proto_peers.specs.Channel.Expiring.{all_nexts, earlier_of}
 
--- one allocation after another, the earlier is kept
+-- The earliest time, computed over the allocations one after another.
 abbrev pub earliest : Option ℕ → (ready now wait : ℕ) → List Allocation → ℕ
 earliest ended ready now wait allocations = fold (λ w (a : Allocation). earlier_of ended ready now w a.channels) wait allocations
 

@@ -3,5 +3,5 @@ pub mod Distinct
 pub mod EarliestChannel
 pub mod Granting
 pub mod Marks
-pub mod Places
+pub mod Indexes
 pub mod Walks

@@ -1,6 +1,6 @@
 pub mod Binding
 pub mod Granted
-pub mod Lapsing
+pub mod Expiring
 pub mod Numbers
-pub mod Shown
+pub mod Visible
 pub mod Wanting

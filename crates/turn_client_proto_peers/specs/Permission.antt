@@ -1,6 +1,6 @@
 pub mod Asking
 pub mod Granted
 pub mod Permitted
-pub mod Shown
-pub mod Telling
+pub mod Visible
+pub mod Reporting
 pub mod Wanting

@@ -4,6 +4,6 @@ pub mod asking;
 pub mod granted;
 pub mod one;
 pub mod permit;
-pub mod shown;
-pub mod telling;
+pub mod reporting;
+pub mod visible;
 pub mod wanting;

@@ -5,12 +5,12 @@ pub mod Bound
 pub mod Frames
 pub mod Given
 pub mod Granted
-pub mod Hearing
-pub mod Kept
+pub mod Processing
+pub mod Stored
 pub mod Lists
 pub mod Moving
 pub mod Others
 pub mod Own
-pub mod Pieces
+pub mod Chunks
 pub mod Speaking
 pub mod Tools

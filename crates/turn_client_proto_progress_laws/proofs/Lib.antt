@@ -1,3 +1,3 @@
 pub mod Renewing
 pub mod Asking
-pub mod Linking
+pub mod TcpBinding

@@ -1,6 +1,6 @@
 pub mod Arriving
 pub mod Awaiting
-pub mod Drawn
+pub mod Transmitted
 pub mod Held
 pub mod Lasting
 pub mod Only

@@ -1,5 +1,5 @@
--- A request for a permission or a channel that was made by a call, and is not answered (RFC 8656, sections 10.1 and
--- 12.1).
+-- A request for a permission or a channel that a call made, and that is not answered (RFC 8656, sections 10.1
+-- and 12.1).
 use Rattle.std.specs.Prelude.{◌≡◌, ◌<◌, ◌≤◌, ◌^◌, ℕ, Bool, false, List, [], ◌∷◌, find, Some, None}
 use Rattle.std.specs.FinMap as map
 use Rattle.std.specs.declared.net.ip_addr.IpAddr.{IpAddr}
@@ -14,7 +14,7 @@ use Rattle.turn_client_proto_messages.specs.Allocation.declared.allocation.Alloc
 use Rattle.turn_client_proto_step_laws.specs.Peers.Channel.Binding.{barring}
 use Rattle.turn_client_proto_step_laws.specs.Peers.Channel.Numbers.{is_numbered, is_taken}
 use Rattle.turn_client_proto_messages.specs.Requests.{request_text}
-use Rattle.turn_client_proto_messages.specs.ToldRequests.{IsLawfulRequest}
+use Rattle.turn_client_proto_messages.specs.ReportedRequests.{IsLawfulRequest}
 use Rattle.turn_client_proto_messages.specs.declared.request.TurnRequest.{TurnRequest}
 use Rattle.turn_client_proto_messages.specs.declared.request.TurnRequest.TheVariants.{ChannelBind}
 use Rattle.turn_client_proto_messages.specs.declared.request.TurnRequest.TheVariants.{CreatePermission}
@@ -25,20 +25,20 @@ use Rattle.turn_client_proto_step_laws.specs.Peers.Permission.Asking.{knows}
 use Rattle.turn_client_proto_progress_laws.specs.Speaking.{Speaks}
 use Rattle.turn_client_proto_handshake_laws.specs.Sent.{Beginning}
 
--- what is asked for: a permission for an address, or the channel of a number to a peer
+-- What is requested: a permission for an address, or the channel with this number to a peer.
 pub data Wanted : Type 0 where
   APermission : (ip : IpAddr) → Wanted
   AChannel : (channel : ℕ) (peer : SocketAddr) → Wanted
 
--- by which request
+-- The request for it.
 abbrev pub request_for : Wanted → TurnRequest
 request_for (APermission ip) = CreatePermission ip
 request_for (AChannel channel peer) = ChannelBind channel peer
 
--- ---- when a call is answered Ok
+-- ---- when a call is returned Ok
 
--- a permission for an address may be asked for: the client has not ended, its allocation is of the transport and of
--- the address's family, and its time isn't over; and no permission for the address stands or was asked for
+-- A permission for an address may be requested: the client has not ended; its allocation has this transport
+-- and the address's family, and has not expired; and no permission for the address is active or requested.
 pub record MayPermit (b : Beginning) (address : SocketAddr) (transport : TransportType) (ip : IpAddr) (now : ℕ)
     (p : Protocol) : Type 0 where
   pub phase : p.phase ≡ Authenticated
@@ -49,14 +49,16 @@ pub record MayPermit (b : Beginning) (address : SocketAddr) (transport : Transpo
   pub later : now < allocation.expiry
   pub unknown : knows ip allocation ≡ false
 
--- a number for a channel that no channel of the client has at a moment
-pub record IsFreeNumber (number now : ℕ) (allocations : List Allocation) : Type 0 where
-  pub least : least_channel ≤ number
-  pub most : number ≤ greatest_channel
-  pub untaken : is_taken number now allocations ≡ false
+-- A channel number that no channel of the client has at this time: none that is active, requested, or expired
+-- and still protected.
+pub record IsFreeNumber (transaction_id now : ℕ) (allocations : List Allocation) : Type 0 where
+  pub least : least_channel ≤ transaction_id
+  pub most : transaction_id ≤ greatest_channel
+  pub untaken : is_taken transaction_id now allocations ≡ false
 
--- a channel to a peer may be asked for: the client has not ended, its allocation is of the transport and of the peer's
--- family, and its time isn't over; no channel to the peer stands, or has lapsed and is protected; and a number is free
+-- A channel to a peer may be requested: the client has not ended; its allocation has this transport and the
+-- peer's family, and has not expired; no channel to the peer is active, or expired and still protected; and a
+-- channel number is free.
 pub record MayBind (b : Beginning) (address : SocketAddr) (transport : TransportType) (peer : SocketAddr) (now : ℕ)
     (p : Protocol) : Type 0 where
   pub phase : p.phase ≡ Authenticated
@@ -71,37 +73,39 @@ pub record MayBind (b : Beginning) (address : SocketAddr) (transport : Transport
 
 -- ---- what is awaited then
 
--- none passes a test
+-- No element passes the test.
 abbrev pub NonePasses : {X : Type 0} → (X → Bool) → List X → Type 0
 NonePasses {X = X} test xs = (x : X) → IsIn x xs → test x ≡ false
 
--- of an allocation the request of a number asks for a permission for an address, and for nothing else
-pub record AwaitsPermission (number : ℕ) (ip : IpAddr) (a : Allocation) : Type 0 where
-  pub no_refresh : NonePasses (is_refresh number) a.pending_refreshes
-  pub no_channel : NonePasses (asks_for_channel number) a.pending_channels
-  pub no_renewal : NonePasses (renews_channel number) a.channels
-  pub asked : find (asks_for_permission number) a.pending_permissions ≡ Some (record { ip = ip; numbers = number ∷ [] })
+-- The request with this transaction ID asks the allocation for a permission for this address, and for nothing
+-- else.
+pub record AwaitsPermission (transaction_id : ℕ) (ip : IpAddr) (a : Allocation) : Type 0 where
+  pub no_refresh : NonePasses (is_refresh transaction_id) a.pending_refreshes
+  pub no_channel : NonePasses (asks_for_channel transaction_id) a.pending_channels
+  pub no_renewal : NonePasses (renews_channel transaction_id) a.channels
+  pub requested : find (asks_for_permission transaction_id) a.pending_permissions ≡ Some (record { ip = ip; numbers = transaction_id ∷ [] })
 
--- the request of a number asks for the channel of a number, which no other one has, to a peer
-pub record AwaitsChannel (number channel : ℕ) (peer : SocketAddr) (a : Allocation) : Type 0 where
-  pub no_refresh : NonePasses (is_refresh number) a.pending_refreshes
-  pub asked : find (asks_for_channel number) a.pending_channels
-      ≡ Some (record { channel = channel; peer = peer; numbers = number ∷ [] })
+-- The request with this transaction ID asks the allocation for a channel to this peer, with a number that no
+-- other channel has.
+pub record AwaitsChannel (transaction_id channel : ℕ) (peer : SocketAddr) (a : Allocation) : Type 0 where
+  pub no_refresh : NonePasses (is_refresh transaction_id) a.pending_refreshes
+  pub requested : find (asks_for_channel transaction_id) a.pending_channels
+      ≡ Some (record { channel = channel; peer = peer; numbers = transaction_id ∷ [] })
   pub free : NonePasses (is_numbered channel) a.channels
 
 abbrev pub Awaits : ℕ → Wanted → Allocation → Type 0
-Awaits number (APermission ip) a = AwaitsPermission number ip a
-Awaits number (AChannel channel peer) a = AwaitsChannel number channel peer a
+Awaits transaction_id (APermission ip) a = AwaitsPermission transaction_id ip a
+Awaits transaction_id (AChannel channel peer) a = AwaitsChannel transaction_id channel peer a
 
--- a client that speaks has made this request for something, signed under the challenge that it keeps; the request is
--- outstanding, and is not given up before a moment, or at it; and until then its allocation stands
-pub record HasAsked (b : Beginning) (realm : List ℕ) (address : SocketAddr) (wanted : Wanted) (request : List ℕ)
+-- An established client has made this request, signed under its stored challenge. The request is outstanding,
+-- and is not given up by the time `now`; and its allocation has not ended by then.
+pub record HasRequested (b : Beginning) (realm : List ℕ) (address : SocketAddr) (wanted : Wanted) (request : List ℕ)
     (now : ℕ) (p : Protocol) : Type 0 where
   pub speaks : Speaks b realm address p
   pub phase : p.phase ≡ Authenticated
   pub allocation : Allocation
   pub only : p.allocations ≡ allocation ∷ []
-  pub stands : allocation.is_expired ≡ false
+  pub occurs : allocation.is_expired ≡ false
   pub later : now < allocation.expiry
   pub number : ℕ
   pub fits : number < 2 ^ 96
@@ -110,9 +114,9 @@ pub record HasAsked (b : Beginning) (realm : List ℕ) (address : SocketAddr) (w
   pub awaits : Awaits number wanted allocation
   pub transaction : Transaction
   pub outstanding : map.get p.agent.outstanding number ≡ Some transaction
-  pub goes_on : is_ended now transaction ≡ false
+  pub continues : is_ended now transaction ≡ false
 
--- a request is outstanding that wasn't before
+-- A request is outstanding that wasn't before.
 pub record IsMade (old new : Protocol) (request : List ℕ) : Type 0 where
   pub number : ℕ
   pub transaction : Transaction

@@ -1,10 +1,10 @@
--- What a client holds once its request was granted, and what is given by it (RFC 8656, sections 10.3, 11.3, 12.3 and
--- 12.6).
+-- What a client holds once its request was granted, and what it then delivers (RFC 8656, sections 10.3, 11.3,
+-- 12.3 and 12.6).
 use Rattle.std.specs.Prelude.{◌≡◌, ◌⊎◌, ℕ, true, false, List, [], ◌∷◌, find, Some, None}
 use Rattle.std.specs.declared.net.ip_addr.IpAddr.{IpAddr}
 use Rattle.std.specs.declared.net.socket_addr.SocketAddr.{SocketAddr}
 use Rattle.turn_client_proto_messages.specs.StunTypesWire.Attributes.{Attr, kind_at}
-use Rattle.turn_client_proto_messages.specs.StunTypesWire.Grammar.{number_at, refusal, shown}
+use Rattle.turn_client_proto_messages.specs.StunTypesWire.Grammar.{number_at, refusal, visible}
 use Rattle.turn_client_proto_messages.specs.StunTypesWire.declared.algorithm.IntegrityAlgorithm.{IntegrityAlgorithm}
 use Rattle.turn_client_proto_messages.specs.StunTypesWire.declared.class.MessageClass.TheVariants.{Indication, Request, Success}
 use Rattle.turn_client_proto_messages.specs.StunTypesWire.Types.{class_of, method_of}
@@ -31,8 +31,8 @@ use Rattle.turn_client_proto_handshake_laws.specs.Sent.{Beginning}
 
 -- ---- the request, and its success
 
--- what such a request is: a message, a request of its method, which claims the credentials of the client, under a
--- challenge of this realm
+-- What the request is: a message and a request of its method, which claims the credentials of the client,
+-- under a challenge of this realm.
 pub record IsOwnRequest (b : Beginning) (realm : List ℕ) (wanted : Wanted) (request : List ℕ) : Type 0 where
   pub message : refusal request ≡ None
   pub class : class_of (kind_at request) ≡ Request
@@ -41,8 +41,8 @@ pub record IsOwnRequest (b : Beginning) (realm : List ℕ) (wanted : Wanted) (re
   pub realm_is : challenge.realm ≡ realm
   pub claims : claimed request ≡ own_claim b.config.anonymous_username (standing_under b challenge)
 
--- a message is the success of a request: of its number and method, and right under the key of the client's
--- credentials, by the algorithm by which the request is signed
+-- The message is the success response to the request: it has its transaction ID and method, and validates
+-- under the key of the client's credentials, by the algorithm by which the request is signed.
 pub record IsGrantOf (b : Beginning) (realm request reply : List ℕ) : Type 0 where
   pub message : refusal reply ≡ None
   pub number : number_at reply ≡ number_at request
@@ -54,46 +54,47 @@ pub record IsGrantOf (b : Beginning) (realm request reply : List ℕ) : Type 0 w
 
 -- ---- what is held
 
--- a client has an allocation that is held, and of which this is so
+-- The client has one allocation, which is not marked as expired, and of which this statement holds.
 pub record HasHeld (b : Beginning) (p : Protocol) (Is : Allocation → Type 0) : Type 0 where
   pub settings : IsOf b p
   pub phase : p.phase ≡ Authenticated
   pub allocation : Allocation
   pub only : p.allocations ≡ allocation ∷ []
   pub transport : allocation.transport ≡ b.config.transport
-  pub stands : allocation.is_expired ≡ false
+  pub occurs : allocation.is_expired ≡ false
   pub is : Is allocation
 
--- a permission for an address stands
+-- A permission for the address is active.
 abbrev pub HoldsPermission : Beginning → IpAddr → Protocol → Type 0
 HoldsPermission b ip p = HasHeld b p (λ a. permits ip a ≡ true)
 
--- the first channel of a number is to this peer
+-- The first channel with this number is to this peer.
 pub record IsBoundTo (channel : ℕ) (peer : SocketAddr) (a : Allocation) : Type 0 where
   pub standing : Channel
   pub first : find (is_numbered channel) a.channels ≡ Some standing
   pub number : standing.number ≡ channel
   pub to : standing.peer ≡ peer
 
--- the channel of a number to a peer stands
+-- The channel with this number to this peer is active.
 abbrev pub HoldsChannel : Beginning → (channel : ℕ) → SocketAddr → Protocol → Type 0
 HoldsChannel b channel peer p = HasHeld b p (IsBoundTo channel peer)
 
 -- ---- what is given
 
--- a payload is this, of this peer, which the server reaches by this transport
+-- The delivered payload is this one, from this peer, which the server reaches by this transport.
 pub record IsPayloadOf (transport : TransportType) (peer : SocketAddr) (payload : List ℕ) (given : PeerPayload)
     : Type 0 where
   pub payload_is : given.payload ≡ payload
   pub transport_is : given.transport ≡ transport
   pub peer_is : given.peer ≡ peer
 
--- bytes are the frame of a channel, with this payload
+-- The bytes are a frame of this channel, with this payload.
 pub record IsFrameOf (channel : ℕ) (payload bytes : List ℕ) : Type 0 where
   pub lawful : channel_refusal bytes ≡ None
   pub is : frame_at bytes ≡ record { id = channel; payload = payload }
 
--- bytes are a DATA indication that shows XOR-PEER-ADDRESS of a peer, and DATA, and nothing else
+-- The bytes are a DATA indication whose only visible attributes are an XOR-PEER-ADDRESS with this peer and a
+-- DATA with this payload.
 pub record IsDataOf (peer : SocketAddr) (payload bytes : List ℕ) : Type 0 where
   pub message : refusal bytes ≡ None
   pub class : class_of (kind_at bytes) ≡ Indication
@@ -104,4 +105,4 @@ pub record IsDataOf (peer : SocketAddr) (payload bytes : List ℕ) : Type 0 wher
   pub given : Attr
   pub given_kind : given.kind ≡ data_kind
   pub given_is : given.value ≡ payload
-  pub shows : (shown bytes ≡ of ∷ given ∷ []) ⊎ (shown bytes ≡ given ∷ of ∷ [])
+  pub shows : (visible bytes ≡ of ∷ given ∷ []) ⊎ (visible bytes ≡ given ∷ of ∷ [])

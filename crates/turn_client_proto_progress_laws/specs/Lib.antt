@@ -6,7 +6,7 @@ pub mod Holding
 pub mod Speaking
 pub mod Free
 pub mod Holders
-pub mod Linking
+pub mod TcpBinding
 pub mod Overs
 pub mod Replies
 pub mod Resting

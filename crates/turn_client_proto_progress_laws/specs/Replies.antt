@@ -5,37 +5,38 @@ use Rattle.turn_client_proto_messages.specs.StunTypesWire.Attributes.{kind_at}
 use Rattle.turn_client_proto_messages.specs.StunTypesWire.Grammar.{number_at}
 use Rattle.turn_client_proto_messages.specs.StunTypesWire.declared.class.MessageClass.TheVariants.{Success}
 use Rattle.turn_client_proto_messages.specs.StunTypesWire.Types.{class_of, method_of}
-use Rattle.turn_client_proto_messages.specs.StunProtoClient.Challenges.{Told, challenge_shown}
+use Rattle.turn_client_proto_messages.specs.StunProtoClient.Challenges.{ChallengeFields, challenge_visible}
 use Rattle.turn_client_proto_messages.specs.StunProtoClient.Client.{standing_key}
 use Rattle.turn_client_proto_messages.specs.StunProtoClient.ClientValidation.{IsAnswerable, keeping}
 use Rattle.turn_client_proto_messages.specs.StunProtoClient.Digests.{IsRight}
 use Rattle.turn_client_proto_progress_laws.specs.Holders.{Holder}
 
--- a message is the success of a request of this method and number, right under the key of the client's credentials
-pub record IsSuccessOf (h : Holder) (method number : ℕ) (bytes : List ℕ) : Type 0 where
-  pub number_is : number_at bytes ≡ number
+-- The message is the success response to a request of this method and transaction ID, valid under the key of
+-- the client's credentials.
+pub record IsSuccessOf (h : Holder) (method transaction_id : ℕ) (bytes : List ℕ) : Type 0 where
+  pub number_is : number_at bytes ≡ transaction_id
   pub success : class_of (kind_at bytes) ≡ Success
   pub method_is : method_of (kind_at bytes) ≡ method
   pub right : IsRight bytes (standing_key h.standing)
 
--- a message is this challenge, and answers the request of this method and number
-pub record IsChallengeOf (told : Told) (method number : ℕ) (bytes : List ℕ) : Type 0 where
-  pub number_is : number_at bytes ≡ number
+-- The message is this challenge, and answers the request of this method and transaction ID.
+pub record IsChallengeOf (reported : ChallengeFields) (method transaction_id : ℕ) (bytes : List ℕ) : Type 0 where
+  pub number_is : number_at bytes ≡ transaction_id
   pub method_is : method_of (kind_at bytes) ≡ method
-  pub shown : challenge_shown bytes ≡ Some told
+  pub visible : challenge_visible bytes ≡ Some reported
 
--- the client can answer it by an algorithm
-abbrev pub CanAnswer : Holder → Told → IntegrityAlgorithm → Type 0
-CanAnswer h told choice = IsAnswerable h.auth told choice
+-- The client can answer the challenge by this algorithm.
+abbrev pub CanAnswer : Holder → ChallengeFields → IntegrityAlgorithm → Type 0
+CanAnswer h reported choice = IsAnswerable h.auth reported choice
 
--- the client that keeps that challenge, and answers it by that algorithm
-abbrev pub challenged_by : Holder → Told → IntegrityAlgorithm → Holder
-challenged_by h told choice = record {
-  begun = h.begun;
-  auth = keeping h.auth told choice;
+-- The client after it stored that challenge, to answer it by that algorithm.
+abbrev pub challenged_by : Holder → ChallengeFields → IntegrityAlgorithm → Holder
+challenged_by h reported choice = record {
+  started = h.started;
+  auth = keeping h.auth reported choice;
   standing = record {
     account = h.standing.account;
-    challenge = record { realm = told.realm; nonce = told.nonce; offered = told.offered; choice = choice };
+    challenge = record { realm = reported.realm; nonce = reported.nonce; offered = reported.offered; choice = choice };
   };
   address = h.address;
   lifetime = h.lifetime;

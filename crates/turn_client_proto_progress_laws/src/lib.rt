@@ -1,4 +1,4 @@
-//! Laws: what a client that holds an allocation asks for and is granted, how it binds a
+//! Theorems on what a client that holds an allocation requests and is granted, how it binds a TCP
 //! connection, and how it renews what it holds.
 #![tactic(auto)]
 

@@ -1,13 +1,17 @@
-//! What is asked for is held: a TURN client that has allocated is asked for a permission, by the contracts of
-//! its own calls alone, whatever answers them (RFC 8489, sections 6.2 and 9.2.5; RFC 8656, sections 10.1, 10.3
-//! and 11.3). The functions do nothing; each contract is a law.
+//! A client that has allocated and is asked for a permission comes to hold it, by the contracts of
+//! its own calls alone, whatever answers them (RFC 8489, sections 6.2 and 9.2.5; RFC 8656, sections
+//! 10.1, 10.3 and 11.3). The functions do nothing; each contract is a theorem.
 //!
-//! A client that holds the allocation of its handshake speaks with its server ([`holders_speak`]), and goes on
-//! to ([`speakers_go_on`], [`speakers_are_called`], [`speakers_hear`]). When it is asked for a permission, and
-//! what it awaits then, says [`permissions_are_asked_for`]; what its request is says [`requests_are_own`].
-//! While that waits to be drawn nothing else takes it away ([`asked_requests_stand`]). Of its success the
-//! client holds the permission ([`granted_permissions_are_held`]), and gives what comes of that peer
-//! ([`datagrams_are_taken`]).
+//! A client is established (`Speaks`) if the server has allocated to it and it stores a challenge
+//! of the server's realm.
+//!
+//! - A client that holds the allocation of its handshake is established ([`holders_speak`]), and
+//!   stays so ([`speakers_go_on`], [`speakers_are_called`], [`speakers_process`]).
+//! - [`permissions_are_requested_for`] says when it may request a permission, and what it awaits
+//!   then. [`requests_are_own`] says what its request is.
+//! - While that request is unanswered, no other call removes it ([`requested_requests_stand`]).
+//! - After the success response the client holds the permission ([`granted_permissions_are_held`]),
+//!   and delivers what comes from that peer ([`datagrams_are_taken`]).
 
 ghost use Rattle.std.specs.List.{list_any};
 ghost use Rattle.std.specs.Net.Socket.{socket_ip};
@@ -47,34 +51,36 @@ ghost use Rattle.turn_client_proto_handshake_laws.specs.Core.Binding.{IsBindAnsw
 ghost use Rattle.turn_client_proto_handshake_laws.specs.Core.Deleting.{IsDeleteAnswered};
 ghost use Rattle.turn_client_proto_handshake_laws.specs.Core.Ending.{ended};
 ghost use Rattle.turn_client_proto_handshake_laws.specs.Core.Permitting.{IsPermissionAnswered};
-ghost use Rattle.turn_client_proto_handshake_laws.specs.Core.Receiving.{IsHeard};
+ghost use Rattle.turn_client_proto_handshake_laws.specs.Core.Receiving.{IsProcessed};
 ghost use Rattle.turn_client_proto_messages.specs.Waiting.{Queued};
 ghost use Rattle.turn_client_proto_handshake_laws.specs.Core.declared.protocol.Protocol.{Protocol};
-ghost use Rattle.turn_client_proto_step_laws.specs.Timers.Drawing.{IsDrawn};
+ghost use Rattle.turn_client_proto_step_laws.specs.Timers.Drawing.{IsTransmitted};
 ghost use Rattle.turn_client_proto_messages.specs.Api.Sent.{Sent};
 ghost use Rattle.turn_client_proto_messages.specs.TurnRuns.Indications.{HasData, IsOfPeer};
-ghost use Rattle.turn_client_proto_step_laws.specs.Recv.Kept.{Kept};
+ghost use Rattle.turn_client_proto_step_laws.specs.Recv.ClientState.{ClientState};
 ghost use Rattle.turn_client_proto_step_laws.specs.Peers.Permission.Asking.{permits_over};
 ghost use Rattle.turn_client_proto_step_laws.specs.Timers.Polling.{IsPolled};
 ghost use Rattle.turn_client_proto_step_laws.specs.Recv.Receipts.{IsReceived};
 ghost use Rattle.turn_client_proto_step_laws.specs.Payload.Sending.{IsSendAnswered};
 ghost use Rattle.turn_client_proto_step_laws.specs.Recv.Sockets.{IsSocketAnswered};
 ghost use Rattle.turn_client_proto_handshake_laws.specs.Choosing.{Choice, HasTextName, IsChoice};
-ghost use Rattle.turn_client_proto_handshake_laws.specs.Coming.{IsFromServer, IsHeardAs, IsLost};
+ghost use Rattle.turn_client_proto_handshake_laws.specs.Coming.{IsFromServer, IsProcessedAs, IsLost};
 ghost use Rattle.turn_client_proto_handshake_laws.specs.Stages.{Holds};
 ghost use Rattle.turn_client_proto_handshake_laws.specs.Driving.{IsEventTaken};
 ghost use Rattle.turn_client_proto_handshake_laws.specs.Sent.{Beginning, HasRoom};
-ghost use Rattle.turn_client_proto_progress_laws.specs.Asking.{APermission, HasAsked, IsMade, MayPermit, Wanted};
+ghost use Rattle.turn_client_proto_progress_laws.specs.Asking.{APermission, HasRequested, IsMade, MayPermit, Wanted};
 ghost use Rattle.turn_client_proto_progress_laws.specs.Holding.{HoldsPermission, IsDataOf, IsGrantOf, IsOwnRequest};
 ghost use Rattle.turn_client_proto_progress_laws.specs.Holding.{IsPayloadOf};
-ghost use Rattle.turn_client_proto_progress_laws.specs.Speaking.{AreHeldBeyond, Speaks, TellsRealm};
+ghost use Rattle.turn_client_proto_progress_laws.specs.Speaking.{AreHeldBeyond, Speaks, ReportsRealm};
 
 use std::convert::AsSlice;
 use turn_client_proto_handshake_laws::stages::signed_allocates_answer;
-use turn_client_proto_messages::laws::{requests_are_read, signed_requests_claim};
+use turn_client_proto_messages::laws::{proof_requests_are_read, signed_requests_claim};
 
-/// A client that holds the allocation of its handshake speaks with its server: it signs under the challenge
-/// that it answered, and has that allocation alone (RFC 8489, section 9.2.5; RFC 8656, section 7.3).
+/// A client that holds the allocation of its handshake is established: it signs under the challenge
+/// that it answered, and has that allocation alone (RFC 8489, section 9.2.5; RFC 8656, section
+/// 7.3). Premises: the name of the user fits into a message and is valid UTF-8, and at most two
+/// address families are configured.
 pub fn holders_speak()
     ensures { (b : Beginning) (c : Choice) (address : SocketAddr) (lifetime made last : ℕ)
         (queue : List Queued) (events : List TurnEvent) (p : Protocol)
@@ -82,17 +88,19 @@ pub fn holders_speak()
         → HasTextName b.config
         → IsChoice b c
         → Holds b c address lifetime made last queue events p
-        → Speaks b c.told.realm address p }
+        → Speaks b c.reported.realm address p }
 {
     signed_allocates_answer();
 }
 
-/// A client that speaks still does once it is drawn, polled, its event is taken, or something is asked for.
+/// An established client stays so in `poll_transmit`, `poll`, `poll_event`, `create_permission` and
+/// `bind_channel`, unless memory runs out.
 pub fn speakers_go_on()
-    ensures drawn { (b : Beginning) (realm : List ℕ) (address : SocketAddr) (old new : Protocol)
+    ensures transmitted { (b : Beginning) (realm : List ℕ) (address : SocketAddr) (old new :
+        Protocol)
         (now : ℕ) (sent : Option Sent)
         → Speaks b realm address old
-        → IsDrawn old now sent new
+        → IsTransmitted old now sent new
         → Speaks b realm address new }
     ensures polled { (b : Beginning) (realm : List ℕ) (address : SocketAddr) (old new : Protocol)
         (now : ℕ) (ret : TurnPollRet)
@@ -100,7 +108,7 @@ pub fn speakers_go_on()
         → ret ≢ poll.NoMemory
         → IsPolled old now ret new
         → Speaks b realm address new }
-    ensures told { (b : Beginning) (realm : List ℕ) (address : SocketAddr) (old new : Protocol)
+    ensures reported { (b : Beginning) (realm : List ℕ) (address : SocketAddr) (old new : Protocol)
         (event : Option TurnEvent)
         → Speaks b realm address old
         → IsEventTaken old event new
@@ -121,9 +129,9 @@ pub fn speakers_go_on()
         → Speaks b realm address new }
 {}
 
-/// A client that speaks still does whatever else it is asked for, or told: to end its allocation, for a
-/// connection, to send something, that a socket was closed, was opened or was not, or that the server broke the
-/// protocol.
+/// An established client stays so in the other calls, unless memory runs out: `delete`,
+/// `tcp_connect`, `send_to`, `tcp_closed`, `allocated_tcp_socket` with or without a socket, and
+/// `protocol_error`.
 pub fn speakers_are_called()
     ensures deleted { (b : Beginning) (realm : List ℕ) (address : SocketAddr) (old new : Protocol)
         (now : ℕ) (ret : Result (Unit {0}) DeleteError)
@@ -159,21 +167,25 @@ pub fn speakers_are_called()
         → Speaks b realm address (ended p) }
 {}
 
-/// And it does whatever message it hears, if that is no challenge of another realm (RFC 8489, section 9.2.5).
-pub fn speakers_hear()
+/// An established client stays so whatever message it handles, as long as that is no challenge of
+/// another realm (RFC 8489, section 9.2.5).
+pub fn speakers_process()
     ensures { (b : Beginning) (realm : List ℕ) (address : SocketAddr) (old new : Protocol)
         (message : List ℕ) (now : ℕ) (handled : Bool)
         → Speaks b realm address old
-        → TellsRealm realm message
-        → IsHeard old message now handled new
+        → ReportsRealm realm message
+        → IsProcessed old message now handled new
         → Speaks b realm address new }
 {}
 
-/// `create_permission` of a client that speaks is answered Ok if and only if a permission for the address may
-/// be asked for (RFC 8656, section 10.1), want of memory aside. Then one request is outstanding that wasn't
-/// before (`one`), and the client has asked by it (`asked`), up to a moment before which the request is not
-/// given up and its allocation doesn't end.
-pub fn permissions_are_asked_for()
+/// An established client is asked for a permission (RFC 8656, section 10.1):
+///
+/// - `answered`: unless memory runs out, `create_permission` returns `Ok` if and only if a
+///   permission for the address may be requested (`MayPermit`).
+/// - `one`: then one request is outstanding that wasn't before.
+/// - `requested`: that request is pending (`HasRequested`) until a given time, if neither the
+///   request is given up nor the client's allocation ends by that time.
+pub fn permissions_are_requested_for()
     ensures answered { (b : Beginning) (realm : List ℕ) (address : SocketAddr) (old new : Protocol)
         (transport : TransportType) (ip : IpAddr) (now : ℕ)
         (ret : Result (Unit {0}) CreatePermissionError)
@@ -186,99 +198,106 @@ pub fn permissions_are_asked_for()
         → Speaks b realm address old
         → IsPermissionAnswered old transport ip now (Ok tt) new
         → (request : List ℕ) × IsMade old new request }
-    ensures asked { (b : Beginning) (realm : List ℕ) (address : SocketAddr) (old new : Protocol)
+    ensures requested { (b : Beginning) (realm : List ℕ) (address : SocketAddr) (old new : Protocol)
         (transport : TransportType) (ip : IpAddr) (made now : ℕ) (request : List ℕ)
         → Speaks b realm address old
         → AreHeldBeyond now old.allocations
         → now < end_at made b.config.waits
         → IsPermissionAnswered old transport ip made (Ok tt) new
         → IsMade old new request
-        → HasAsked b realm address (APermission ip) request now new }
+        → HasRequested b realm address (APermission ip) request now new }
 {}
 
-/// The request by which a client has asked is its own: it claims its credentials, under a challenge of the
-/// realm of its server (RFC 8489, section 9.2.5; RFC 8656, sections 10.1 and 12.1).
+/// A pending request claims the client's own credentials, under a challenge of its server's realm
+/// (RFC 8489, section 9.2.5; RFC 8656, sections 10.1 and 12.1).
 pub fn requests_are_own()
     ensures { (b : Beginning) (realm : List ℕ) (address : SocketAddr) (wanted : Wanted)
         (request : List ℕ) (now : ℕ) (p : Protocol)
-        → HasAsked b realm address wanted request now p
+        → HasRequested b realm address wanted request now p
         → IsOwnRequest b realm wanted request }
 {
-    requests_are_read();
+    proof_requests_are_read();
     signed_requests_claim();
 }
 
-/// Until then the client has asked still, whatever it draws, if at moments that aren't later it is polled and
-/// asked for something else, and where its events are taken: nothing of these takes its request away.
-pub fn asked_requests_stand()
-    ensures drawn { (b : Beginning) (realm : List ℕ) (address : SocketAddr) (wanted : Wanted)
+/// A request that is pending until a given time stays pending in other calls: in `poll_transmit`
+/// and `poll_event` at any time, and in `poll`, `create_permission` and `bind_channel` up to that
+/// time, unless memory runs out.
+pub fn requested_requests_stand()
+    ensures transmitted { (b : Beginning) (realm : List ℕ) (address : SocketAddr) (wanted : Wanted)
         (request : List ℕ) (now at : ℕ) (old new : Protocol) (sent : Option Sent)
-        → HasAsked b realm address wanted request now old
-        → IsDrawn old at sent new
-        → HasAsked b realm address wanted request now new }
+        → HasRequested b realm address wanted request now old
+        → IsTransmitted old at sent new
+        → HasRequested b realm address wanted request now new }
     ensures polled { (b : Beginning) (realm : List ℕ) (address : SocketAddr) (wanted : Wanted)
         (request : List ℕ) (now at : ℕ) (old new : Protocol) (ret : TurnPollRet)
-        → HasAsked b realm address wanted request now old
+        → HasRequested b realm address wanted request now old
         → at ≤ now
         → ret ≢ poll.NoMemory
         → IsPolled old at ret new
-        → HasAsked b realm address wanted request now new }
-    ensures told { (b : Beginning) (realm : List ℕ) (address : SocketAddr) (wanted : Wanted)
+        → HasRequested b realm address wanted request now new }
+    ensures reported { (b : Beginning) (realm : List ℕ) (address : SocketAddr) (wanted : Wanted)
         (request : List ℕ) (now : ℕ) (old new : Protocol) (event : Option TurnEvent)
-        → HasAsked b realm address wanted request now old
+        → HasRequested b realm address wanted request now old
         → IsEventTaken old event new
-        → HasAsked b realm address wanted request now new }
+        → HasRequested b realm address wanted request now new }
     ensures permission { (b : Beginning) (realm : List ℕ) (address : SocketAddr) (wanted : Wanted)
         (request : List ℕ) (now at : ℕ) (old new : Protocol) (transport : TransportType)
         (ip : IpAddr) (ret : Result (Unit {0}) CreatePermissionError)
-        → HasAsked b realm address wanted request now old
+        → HasRequested b realm address wanted request now old
         → at ≤ now
         → ret ≢ Err not_permitted.NoMemory
         → IsPermissionAnswered old transport ip at ret new
-        → HasAsked b realm address wanted request now new }
+        → HasRequested b realm address wanted request now new }
     ensures channel { (b : Beginning) (realm : List ℕ) (address : SocketAddr) (wanted : Wanted)
         (request : List ℕ) (now at : ℕ) (old new : Protocol) (transport : TransportType)
         (peer : SocketAddr) (ret : Result (Unit {0}) BindChannelError)
-        → HasAsked b realm address wanted request now old
+        → HasRequested b realm address wanted request now old
         → at ≤ now
         → ret ≢ Err not_bound.NoMemory
         → IsBindAnswered old transport peer at ret new
-        → HasAsked b realm address wanted request now new }
+        → HasRequested b realm address wanted request now new }
 {}
 
-/// The success of its request comes to a client that has asked for a permission, right under the key of its
-/// credentials (RFC 8656, section 10.3): it holds the permission, and says so.
+/// A client with a pending request for a permission receives the success response, valid under the
+/// key of its credentials (RFC 8656, section 10.3):
+///
+/// - `holds`: it then holds the permission.
+/// - `had`: the getter for permissions (`have_permission`) reports a permission that is held.
 pub fn granted_permissions_are_held()
     ensures holds { (b : Beginning) (realm : List ℕ) (address : SocketAddr) (ip : IpAddr)
         (request reply : List ℕ) (now : ℕ) (old new : Protocol) (handled : Bool)
-        → HasAsked b realm address (APermission ip) request now old
+        → HasRequested b realm address (APermission ip) request now old
         → IsGrantOf b realm request reply
-        → IsHeard old reply now handled new
+        → IsProcessed old reply now handled new
         → (handled ≡ true) × HoldsPermission b ip new }
     ensures had { (b : Beginning) (ip : IpAddr) (p : Protocol)
         → HoldsPermission b ip p
         → list_any (permits_over b.config.transport ip) p.allocations ≡ true }
 {
-    requests_are_read();
+    proof_requests_are_read();
     signed_requests_claim();
 }
 
-/// Over UDP a datagram of the server's that is a success is heard by a client that has asked, or memory was
-/// refused. One that holds a permission gives the data that a DATA indication of that peer carries, and stays
-/// as it is (RFC 8656, sections 11.3 and 11.4). By `shown`, an indication that shows XOR-PEER-ADDRESS and DATA
-/// alone is one, and carries that.
+/// Datagrams from the server, over UDP (RFC 8656, sections 11.3 and 11.4):
+///
+/// - `processed`: a client with a pending request handles a success response, or memory runs out.
+/// - `given`: a client that holds a permission delivers the data that a DATA indication from that
+///   peer carries, and does not change.
+/// - `visible`: a message whose only visible attributes are XOR-PEER-ADDRESS and DATA is such an
+///   indication, and carries that data.
 pub fn datagrams_are_taken<T: AsSlice<u8>>()
-    ensures heard { (b : Beginning) (realm : List ℕ) (address : SocketAddr) (wanted : Wanted)
-        (request : List ℕ) (old new : Kept) (came : Transmit T) (now : ℕ) (answer : TurnRecvRet T)
-        → HasAsked b realm address wanted request now old.core
+    ensures processed { (b : Beginning) (realm : List ℕ) (address : SocketAddr) (wanted : Wanted)
+        (request : List ℕ) (old new : ClientState) (came : Transmit T) (now : ℕ) (answer : TurnRecvRet T)
+        → HasRequested b realm address wanted request now old.core
         → old.control ≡ Datagrams
         → IsFromServer b came
         → refusal (T.items came.bytes) ≡ None
         → class_of (kind_at (T.items came.bytes)) ≡ Success
         → IsReceived T.items old came now answer new
-        → IsHeardAs old (T.items came.bytes) came now Datagrams answer new
+        → IsProcessedAs old (T.items came.bytes) came now Datagrams answer new
         ⊎ IsLost old came answer new }
-    ensures given { (b : Beginning) (ip : IpAddr) (old new : Kept) (came : Transmit T) (now : ℕ)
+    ensures given { (b : Beginning) (ip : IpAddr) (old new : ClientState) (came : Transmit T) (now : ℕ)
         (answer : TurnRecvRet T) (peer : SocketAddr) (payload : List ℕ)
         → HoldsPermission b ip old.core
         → old.control ≡ Datagrams
@@ -289,7 +308,7 @@ pub fn datagrams_are_taken<T: AsSlice<u8>>()
         → IsReceived T.items old came now answer new
         → (given : PeerPayload) × (answer ≡ PeerData given)
         × IsPayloadOf b.config.transport peer payload given × (new ≡ old) }
-    ensures shown { (peer : SocketAddr) (payload bytes : List ℕ)
+    ensures visible { (peer : SocketAddr) (payload bytes : List ℕ)
         → IsDataOf peer payload bytes
         → IsOfPeer bytes peer × HasData bytes payload }
 {}

@@ -1,5 +1,6 @@
-//! What comes over TCP to a client that has allocated: a message in pieces, and what waits (RFC 8489, section
-//! 6.2.2; RFC 6062, section 4.5; RFC 8656, section 12.5). The functions do nothing; each contract is a law.
+//! What comes over TCP to a client that has allocated: a message in chunks, and buffered bytes (RFC
+//! 8489, section 6.2.2; RFC 6062, section 4.5; RFC 8656, section 12.5). The functions do nothing;
+//! each contract is a theorem.
 
 ghost use Rattle.std.specs.Prelude.{◌≡◌, ◌≢◌, ◌⊎◌, ◌++◌, ℕ, false, List, [], Option, None};
 ghost use Rattle.std.specs.declared.net.ip_addr.IpAddr.{IpAddr};
@@ -14,22 +15,26 @@ ghost use Rattle.turn_client_proto_messages.specs.Api.declared.answer.TurnRecvRe
 ghost use Rattle.turn_client_proto_messages.specs.Api.declared.answer.TurnRecvRet.TheVariants.{Handled};
 ghost use Rattle.turn_client_proto_step_laws.specs.Recv.Control.{Open};
 ghost use Rattle.turn_client_proto_messages.specs.TurnRuns.Indications.{is_indication};
-ghost use Rattle.turn_client_proto_step_laws.specs.Recv.Kept.{Kept};
+ghost use Rattle.turn_client_proto_step_laws.specs.Recv.ClientState.{ClientState};
 ghost use Rattle.turn_client_proto_step_laws.specs.Recv.Receipts.{IsReceived, IsWaitingGiven};
-ghost use Rattle.turn_client_proto_handshake_laws.specs.Coming.{HasCome, IsFromServer, IsHeardAs, IsLost, IsPartOf};
+ghost use Rattle.turn_client_proto_handshake_laws.specs.Coming.{HasCome, IsFromServer, IsProcessedAs, IsLost, IsPartOf};
 ghost use Rattle.turn_client_proto_handshake_laws.specs.Stages.{IsOf};
 ghost use Rattle.turn_client_proto_handshake_laws.specs.Sent.{Beginning};
-ghost use Rattle.turn_client_proto_progress_laws.specs.Asking.{HasAsked, Wanted};
+ghost use Rattle.turn_client_proto_progress_laws.specs.Asking.{HasRequested, Wanted};
 ghost use Rattle.turn_client_proto_progress_laws.specs.Holding.{HoldsChannel, HoldsPermission};
 ghost use Rattle.turn_client_proto_progress_laws.specs.Speaking.{Speaks};
 
 use std::convert::AsSlice;
 
-/// A piece that doesn't end a message is kept, and nothing else changes; the message is heard with the piece
-/// that ends it, wherever it was cut, if it is no indication, and nothing of the stream is kept then. Or memory
-/// was refused.
-pub fn pieces_are_taken<T: AsSlice<u8>>()
-    ensures piece { (b : Beginning) (old new : Kept) (came : Transmit T) (now : ℕ)
+/// How a message from the server reaches the client:
+///
+/// - `chunk`: a chunk that does not complete the message is buffered, and nothing else changes.
+/// - `whole`: the chunk that completes it, wherever it was cut, makes the client handle it, if it
+///   is no indication. Afterwards nothing of the stream is buffered.
+///
+/// In both cases memory may run out instead: then the client has failed.
+pub fn chunks_are_taken<T: AsSlice<u8>>()
+    ensures chunk { (b : Beginning) (old new : ClientState) (came : Transmit T) (now : ℕ)
         (answer : TurnRecvRet T) (before message : List ℕ)
         → IsOf b old.core
         → HasCome before old
@@ -40,7 +45,7 @@ pub fn pieces_are_taken<T: AsSlice<u8>>()
         → ((answer ≡ Handled) × (new.core ≡ old.core)
         × HasCome (before ++ T.items came.bytes) new)
         ⊎ IsLost old came answer new }
-    ensures whole { (b : Beginning) (old new : Kept) (came : Transmit T) (now : ℕ)
+    ensures whole { (b : Beginning) (old new : ClientState) (came : Transmit T) (now : ℕ)
         (answer : TurnRecvRet T) (before : List ℕ)
         → IsOf b old.core
         → HasCome before old
@@ -49,36 +54,37 @@ pub fn pieces_are_taken<T: AsSlice<u8>>()
         → refusal (before ++ T.items came.bytes) ≡ None
         → is_indication (class_of (kind_at (before ++ T.items came.bytes))) ≡ false
         → IsReceived T.items old came now answer new
-        → IsHeardAs old (before ++ T.items came.bytes) came now (Open (alive [])) answer new
+        → IsProcessedAs old (before ++ T.items came.bytes) came now (Open (alive [])) answer new
         ⊎ IsLost old came answer new }
 {}
 
-/// While a message is under way, or nothing of one has come, a client that is asked for what waits speaks
-/// still, has asked still, and holds still what it holds: nothing waits but bytes of the peers of connections.
+/// While nothing or a part of a message is buffered, `poll_recv` returns nothing but bytes of the
+/// peers of connections. The client stays established, keeps its pending request, and holds what it
+/// held; the part stays buffered.
 pub fn waiting_bytes_are_given()
-    ensures speaks { (b : Beginning) (realm : List ℕ) (address : SocketAddr) (old new : Kept)
+    ensures speaks { (b : Beginning) (realm : List ℕ) (address : SocketAddr) (old new : ClientState)
         (now : ℕ) (given : Option PeerPayload) (before message : List ℕ)
         → Speaks b realm address old.core
         → HasCome before old
         → (before ≡ []) ⊎ IsPartOf before message
         → IsWaitingGiven old now given new
         → Speaks b realm address new.core × HasCome before new }
-    ensures asked { (b : Beginning) (realm : List ℕ) (address : SocketAddr) (wanted : Wanted)
-        (request : List ℕ) (now at : ℕ) (old new : Kept) (given : Option PeerPayload)
+    ensures requested { (b : Beginning) (realm : List ℕ) (address : SocketAddr) (wanted : Wanted)
+        (request : List ℕ) (now at : ℕ) (old new : ClientState) (given : Option PeerPayload)
         (before message : List ℕ)
-        → HasAsked b realm address wanted request now old.core
+        → HasRequested b realm address wanted request now old.core
         → HasCome before old
         → (before ≡ []) ⊎ IsPartOf before message
         → IsWaitingGiven old at given new
-        → HasAsked b realm address wanted request now new.core × HasCome before new }
-    ensures permission { (b : Beginning) (ip : IpAddr) (old new : Kept) (now : ℕ)
+        → HasRequested b realm address wanted request now new.core × HasCome before new }
+    ensures permission { (b : Beginning) (ip : IpAddr) (old new : ClientState) (now : ℕ)
         (given : Option PeerPayload) (before message : List ℕ)
         → HoldsPermission b ip old.core
         → HasCome before old
         → (before ≡ []) ⊎ IsPartOf before message
         → IsWaitingGiven old now given new
         → HoldsPermission b ip new.core × HasCome before new }
-    ensures channel { (b : Beginning) (channel : ℕ) (peer : SocketAddr) (old new : Kept) (now : ℕ)
+    ensures channel { (b : Beginning) (channel : ℕ) (peer : SocketAddr) (old new : ClientState) (now : ℕ)
         (given : Option PeerPayload) (before message : List ℕ)
         → HoldsChannel b channel peer old.core
         → HasCome before old

@@ -1,4 +1,4 @@
--- Bytes are below 256.
+-- Each byte is below 256.
 use Rattle.std.specs.Prelude.{ℕ, suc, ◌<◌, slice_index, List, [], ◌∷◌}
 use Rattle.std.proofs.Common.{refl, ltb}
 use Rattle.std.proofs.lemmas.Bool.{lt-ltb, and_from}

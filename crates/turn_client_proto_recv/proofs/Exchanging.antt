@@ -1,4 +1,4 @@
--- What a connection keeps of what came over its socket is changed, and nothing else.
+-- Replacing the stream of a connection changes nothing else.
 use Rattle.std.proofs.Common.{◌≡◌, ◌≢◌, ◌&&◌, ℕ, Bool, true, false, eqb, if◌then◌else◌, length, List, [], ◌∷◌, Option, Some, None, option_map, refl, sym, ap, ◌∙◌, subst, inl, inr}
 use Rattle.std.proofs.lemmas.Bool.{cases_Bool}
 use Rattle.std.specs.List.{find, list_any}
@@ -16,13 +16,13 @@ use Rattle.turn_client_proto_allocation.specs.declared.connection.Connection.{Co
 use Rattle.turn_client_proto_connection.specs.Sockets.{has_from, is_from}
 use Rattle.turn_client_proto_connection.specs.Streams.{exchanged, exchanged_in, from, from_in, with_stream}
 use Rattle.turn_client_proto_core.specs.declared.protocol.Protocol.{Protocol}
-use Rattle.turn_client_proto_recv.specs.Hearing.{awaited_at, joining_of}
+use Rattle.turn_client_proto_recv.specs.Processing.{awaited_at, joining_of}
 use Rattle.turn_client_proto_allocation.specs.Same.{is_same_address, is_same_transport}
 use Rattle.turn_client_proto_recv.specs.Datagrams.{IsGivenBack}
-use Rattle.turn_client_proto_recv.specs.SocketPieces.{IsBytesTaken, IsEnded, IsPieceFed, IsRawTaken, IsReceivedAt, IsTakenBy, IsTakenFor, is_joining, socket_of, with_kept}
+use Rattle.turn_client_proto_recv.specs.SocketChunks.{IsBytesTaken, IsEnded, IsChunkFed, IsRawTaken, IsReceivedAt, IsTakenBy, IsTakenFor, is_joining, socket_of, with_stored}
 
 module _ {X : Type 0} (p : X → Bool) (f : X → X) (keeps : (x : X) → p x ≡ true → p (f x) ≡ true) where
-  -- the first that passes is found as it was changed
+  -- If the first element that passes is changed and still passes, the search finds the changed one.
   pub found_changed : (xs : List X) → find p (change_first p f xs) ≡ option_map f (find p xs)
   found_changed [] = refl
   found_changed (x ∷ xs) = elim (cases_Bool (p x)) [
@@ -73,35 +73,35 @@ module _ (here : SocketAddr) (stream : Stream) where
   awaits_so None = refl
   awaits_so (Some c) = refl
 
-  -- what is awaited of it is the same
+  -- What the connection waits for is unchanged.
   pub awaited_exchanged : (all : List Allocation) → awaited_at here (exchanged here stream all) ≡ awaited_at here all
   awaited_exchanged all = ap (option_and_then joining_of) (from_exchanged all) ∙ awaits_so (from here all)
 
-  pub joining_kept : (p : Protocol) → is_joining here (with_kept here stream p) ≡ is_joining here p
-  joining_kept p = ap is_some (awaited_exchanged p.allocations)
+  pub joining_stored : (p : Protocol) → is_joining here (with_stored here stream p) ≡ is_joining here p
+  joining_stored p = ap is_some (awaited_exchanged p.allocations)
 
--- ---- a piece over the socket of a connection that is to be bound
+-- ---- a chunk over the socket of a connection that is to be bound
 
-pub still_joins : (here : SocketAddr) (fresh : Stream) (old first : Protocol) → first ≡ with_kept here fresh old → is_joining here old ≡ true → is_joining here first ≡ true
-still_joins here fresh old first is joins = ap (is_joining here) is ∙ joining_kept here fresh old ∙ joins
+pub still_joins : (here : SocketAddr) (fresh : Stream) (old first : Protocol) → first ≡ with_stored here fresh old → is_joining here old ≡ true → is_joining here first ≡ true
+still_joins here fresh old first is joins = ap (is_joining here) is ∙ joining_stored here fresh old ∙ joins
 
--- what was given is what the connection kept
-pub kept_before : (found : Option Connection) (k : Connection) (stream : Stream) → found ≡ Some k → Some stream ≡ option_map (λ (c : Connection). c.stream) found → stream ≡ k.stream
-kept_before None k stream at given = absurd (Prim.cc at)
-kept_before (Some c) k stream at given = Prim.cc (given ∙ ap (option_map (λ (c : Connection). c.stream)) at)
+-- The stream that was returned is the one that the connection had.
+pub stored_before : (found : Option Connection) (k : Connection) (stream : Stream) → found ≡ Some k → Some stream ≡ option_map (λ (c : Connection). c.stream) found → stream ≡ k.stream
+stored_before None k stream at given = absurd (Prim.cc at)
+stored_before (Some c) k stream at given = Prim.cc (given ∙ ap (option_map (λ (c : Connection). c.stream)) at)
 
 pub none_before : (found : Option Connection) (k : Connection) → found ≡ Some k → None ≡ option_map (λ (c : Connection). c.stream) found → ⊥
 none_before None k at given = Prim.cc at
 none_before (Some c) k at given = Prim.cc given
 
 pub taken_for : {T : Type 0} (items : T → List ℕ) (k : Connection) (now : ℕ) (old first middle new : Protocol) (came : Transmit T) (answer : TurnRecvRet T) (stream fresh left : Stream)
-    → from came.to old.allocations ≡ Some k → Some stream ≡ option_map (λ (c : Connection). c.stream) (from came.to old.allocations) → fresh ≡ alive [] → first ≡ with_kept came.to fresh old
-    → IsPieceFed items came.to now stream first came answer left middle → new ≡ with_kept came.to left middle → IsTakenFor items k now old came answer new
+    → from came.to old.allocations ≡ Some k → Some stream ≡ option_map (λ (c : Connection). c.stream) (from came.to old.allocations) → fresh ≡ alive [] → first ≡ with_stored came.to fresh old
+    → IsChunkFed items came.to now stream first came answer left middle → new ≡ with_stored came.to left middle → IsTakenFor items k now old came answer new
 taken_for items k now old first middle new came answer stream fresh left at given is_fresh first_is fed after = record {
   left = left;
   middle = middle;
-  fed = subst (λ (s : Stream). IsPieceFed items came.to now s (with_kept came.to (alive []) old) came answer left middle) (kept_before (from came.to old.allocations) k stream at given)
-      (subst (λ (p : Protocol). IsPieceFed items came.to now stream p came answer left middle) (first_is ∙ ap (λ (s : Stream). with_kept came.to s old) is_fresh) fed);
+  fed = subst (λ (s : Stream). IsChunkFed items came.to now s (with_stored came.to (alive []) old) came answer left middle) (stored_before (from came.to old.allocations) k stream at given)
+      (subst (λ (p : Protocol). IsChunkFed items came.to now stream p came answer left middle) (first_is ∙ ap (λ (s : Stream). with_stored came.to s old) is_fresh) fed);
   after = after;
 }
 
@@ -123,9 +123,9 @@ not_nothing [] is none = Prim.cc is
 not_nothing (b ∷ l) is none = Prim.cc none
 
 pub given_joined : {T : Type 0} (items : T → List ℕ) (now : ℕ) (old new : Protocol) (came : Transmit T) (answer : TurnRecvRet T) (k : Connection) → socket_of old came ≡ Some k → eqb (length (items came.bytes)) 0 ≡ false → is_some k.awaited ≡ false
-    → eqb (length k.stream.kept) 0 ≡ false → ((c : Connection) → from came.to old.allocations ≡ Some c → c.stream.kept ≢ [] → c.peer ≡ k.peer → IsRawTaken items c old came answer new) → IsReceivedAt items now old came answer new
+    → eqb (length k.stream.stored) 0 ≡ false → ((c : Connection) → from came.to old.allocations ≡ Some c → c.stream.stored ≢ [] → c.peer ≡ k.peer → IsRawTaken items c old came answer new) → IsReceivedAt items now old came answer new
 given_joined items now old new came answer k found some bound waits gives =
     subst (λ (o : Option Connection). MatchOption o (IsGivenBack old came answer new) (λ c. IsTakenBy items c now old came answer new)) (sym found)
     (subst (λ (b : Bool). MatchBool b (IsEnded old came answer new) (IsBytesTaken items k.awaited k now old came answer new)) (sym some)
     (subst (λ (o : Option Binding). IsBytesTaken items o k now old came answer new) (sym (is_bound k.awaited bound))
-    (gives k (found_from old came k found) (not_nothing k.stream.kept waits) refl)))
+    (gives k (found_from old came k found) (not_nothing k.stream.stored waits) refl)))

@@ -1,9 +1,9 @@
-pub mod AskedConnections
-pub mod AskedSockets
+pub mod RequestedConnections
+pub mod RequestedSockets
 pub mod UnderWay
 pub mod Usual
 pub mod Asking
-pub mod Behind
+pub mod Following
 pub mod Bytes
 pub mod Draining
 pub mod Exchanging
@@ -16,7 +16,7 @@ pub mod Streamed
 pub mod Taking
 pub mod Waiting
 pub mod UsualHanding
--- What stands above this crate has these through it.
+-- Re-exports for the crates above this one.
 pub use Rattle.stun_types_message.proofs as StunTypesMessage
 pub use Rattle.turn_types_frame.proofs as TurnTypesFrame
 pub use Rattle.stun_proto_client.proofs as StunProtoClient

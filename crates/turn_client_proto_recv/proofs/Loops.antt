@@ -1,4 +1,4 @@
--- The turns of a pull.
+-- The loop of a pull.
 use Rattle.std.proofs.Common.{◌≡◌, ℕ, ◌<◌, Bool, true, false, length, Option, Some, None, Result, Ok, Err, sym, ap, subst, inl, inr}
 use Rattle.std.specs.Prelude.{OnErr, is_some}
 use Rattle.std.proofs.lemmas.Bool.{cases_Bool}
@@ -7,25 +7,26 @@ use Rattle.turn_types_frame.specs.Streams.{Stream, alive}
 use Rattle.turn_client_proto_api.specs.Payloads.{PeerPayload}
 use Rattle.turn_client_proto_core.specs.Ending.{HasFailed}
 use Rattle.turn_client_proto_core.specs.declared.protocol.Protocol.{Protocol}
-use Rattle.turn_client_proto_recv.specs.Pieces.{Here, IsFrameHandled, IsLostOn, IsTakenOff, Later, Needs}
+use Rattle.turn_client_proto_recv.specs.Chunks.{Here, IsFrameHandled, IsLostOn, IsTakenOff, Later, Needs}
 use Rattle.turn_client_proto_recv.specs.Pulls.{Ends, Gives, Goes, IsPulled, frame_of}
 use Rattle.turn_client_proto_recv.proofs.Steps.{step_of}
 
--- a stream with a whole frame at its front is alive
-pub alive_of : (s : Stream) → ¬ IsNone (looked s) → s ≡ alive s.kept
+-- A stream with a complete frame at its head is valid.
+pub alive_of : (s : Stream) → ¬ IsNone (looked s) → s ≡ alive s.stored
 alive_of s some =
     elim (cases_Bool s.dead) [
       | inl dead ↦ absurd (some (rw dead tt))
-      | inr lives ↦ ap (λ (d : Bool). record { kept = s.kept; dead = d }) lives
+      | inr lives ↦ ap (λ (d : Bool). record { stored = s.stored; dead = d }) lives
     ]
 
-pub shorter : (old : Stream) → ¬ IsNone (looked old) → length (after_look old).kept < length old.kept
+pub shorter : (old : Stream) → ¬ IsNone (looked old) → length (after_look old).stored < length old.stored
 shorter old some =
     let lives = alive_of old some in
-    subst (λ (s : Stream). length (after_look s).kept < length old.kept) (sym lives) (step_of old.kept (subst (λ (s : Stream). ¬ IsNone (looked s)) lives some)).shorter
+    subst (λ (s : Stream). length (after_look s).stored < length old.stored) (sym lives) (step_of old.stored (subst (λ (s : Stream). ¬ IsNone (looked s)) lives some)).shorter
 
 module _ (now : ℕ) (first : Stream) (start : Protocol) where
-  -- where the pull from here on comes to something, or is refused memory, so is the whole one
+  -- The outcome of the pull from here on is the outcome of the whole pull, and so is the failure of a memory
+  -- allocation.
   pub record IsOnward (here : Stream) (state : Protocol) : Type 0 where
     pub ok : (given : Option PeerPayload) (left : Stream) (after : Protocol) → IsPulled (IsFrameHandled now) here state given left after → IsPulled (IsFrameHandled now) first start given left after
     pub err : (after : Protocol) → IsLostOn now here state after → IsLostOn now first start after
@@ -48,13 +49,13 @@ module _ (now : ℕ) (first : Stream) (start : Protocol) where
       err = λ end more. onward.err end (Later here state after end some handled (subst (λ (s : Stream). IsLostOn now s after end) left_is more));
     }
 
-    pub less : (given : Option PeerPayload) → IsTakenOff now here state (Some given) left after → length left.kept < length here.kept
-    less given (some, handled, left_is) = subst (λ (s : Stream). length s.kept < length here.kept) (sym left_is) (shorter here some)
+    pub less : (given : Option PeerPayload) → IsTakenOff now here state (Some given) left after → length left.stored < length here.stored
+    less given (some, handled, left_is) = subst (λ (s : Stream). length s.stored < length here.stored) (sym left_is) (shorter here some)
 
   pub lost : (here : Stream) (state after : Protocol) → IsOnward here state → ¬ IsNone (looked here) → Needs state (frame_of here) → HasFailed state after → IsLostOn now first start after
   lost here state after onward some needs failed = onward.err after (Here here state after some needs failed)
 
--- what holds is so where a call failed, too
+-- What holds anyway holds if a call failed.
 pub on_err : {A : Type 0} {R E : Type 0} (r : Result R E) → A → OnErr r A
 on_err (Ok x) holds = tt
 on_err (Err e) holds = holds

@@ -1,14 +1,14 @@
--- What most functions here are proved by, under one name.
-use Rattle.turn_client_proto_allocation.proofs.Prefixes.{front_kept, whole_kept}
+-- The lemmas that most functions here are proved with, under one name.
+use Rattle.turn_client_proto_allocation.proofs.Prefixes.{head_stored, whole_stored}
 use Rattle.turn_client_proto_core.proofs.Numbers.{unused}
-use Rattle.turn_client_proto_core.specs.Asking.{asked}
+use Rattle.turn_client_proto_core.specs.Asking.{requested}
 use Rattle.turn_client_proto_core.specs.Attempting.{answering}
 use Rattle.turn_client_proto_recv.specs.Closing.{without}
 use Rattle.turn_client_proto_recv.specs.Sockets.{unsocketed}
 
-pub ruleset usual = (front_kept, whole_kept, unused)
+pub ruleset usual = (head_stored, whole_stored, unused)
 
--- What calls make of a client, to be opened: to unfold this one is to unfold all that its line names.
+-- The definitions of the effects of calls. Unfolding this one unfolds all that it names.
 unfoldable pub opened : Type 0
-unfolding answering asked unsocketed without
+unfolding answering requested unsocketed without
 opened = Unit {0}

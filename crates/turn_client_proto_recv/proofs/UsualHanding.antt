@@ -1,7 +1,7 @@
--- What functions here are proved by, under one name of this crate.
+-- The lemmas that functions here are proved with, under one name of this crate.
 use Rattle.turn_client_proto_payload.specs.Payloads.{payload_of}
 
--- What bytes give of a peer, to be opened: to unfold this one is to unfold what its line names.
+-- The definition of what bytes deliver from a peer. Unfolding this one unfolds what it names.
 unfoldable pub opened : Type 0
 unfolding payload_of
 opened = Unit {0}

@@ -1,7 +1,8 @@
--- How bytes come from a client's server (RFC 8656, section 12.5).
+-- How bytes come from the server (RFC 8656, section 12.5).
 use Rattle.turn_types_frame.specs.Streams.{Stream}
 
--- over UDP each datagram by itself; over TCP in a stream, of which some bytes may be kept, until it has ended
+-- Over UDP each datagram comes by itself. Over TCP bytes come in a stream, of which some may be buffered,
+-- until it has ended.
 pub data Control : Type 0 where
   Datagrams : Control
   Open : (stream : Stream) → Control

@@ -1,17 +1,17 @@
 pub mod Closing
 pub mod Connecting
-pub mod Hearing
+pub mod Processing
 pub mod Sockets
 pub mod Control
 pub mod Datagrams
 pub mod HandingIn
-pub mod Kept
-pub mod Pieces
+pub mod ClientState
+pub mod Chunks
 pub mod Pulls
 pub mod Receipts
-pub mod SocketPieces
+pub mod SocketChunks
 pub mod Waiting
--- What stands above this crate has these through it.
+-- Re-exports for the crates above this one.
 pub use Rattle.turn_types_attributes.specs as TurnTypesAttributes
 pub use Rattle.turn_types_frame.specs as TurnTypesFrame
 pub use Rattle.stun_proto_client.specs as StunProtoClient

@@ -1,19 +1,19 @@
--- What is taken from a stream, frame by frame (RFC 8656, section 12.5). Who takes them is in some state, and makes of
--- each what a relation says.
+-- Taking frames from a stream, one by one (RFC 8656, section 12.5). The receiver has a state, and a relation
+-- says how it handles each frame.
 use Rattle.std.specs.Prelude.{◌≡◌, ℕ, List, [], ◌∷◌, ◌++◌, take, Option, Some, None, option_to_list}
 use Rattle.turn_types_frame.specs.StreamAnswers.{IsNone, after_look, joined, looked}
-use Rattle.turn_types_frame.specs.StreamFronts.{front, given_of}
+use Rattle.turn_types_frame.specs.StreamHeads.{head, given_of}
 use Rattle.turn_types_frame.specs.Streams.{Stream}
 
--- what is made of a frame in a state: what it gives, and the state afterwards
+-- How a frame is handled in a state: what it delivers, and the state afterwards.
 abbrev pub Handling : Type 0 → Type 0 → Type 1
 Handling S P = S → List ℕ → Option P → S → Type 0
 
--- the frame at the front of a stream, without padding
+-- The frame at the head of a stream, without its padding.
 abbrev pub frame_of : Stream → List ℕ
-frame_of stream = take (given_of (looked stream)) stream.kept
+frame_of stream = take (given_of (looked stream)) stream.stored
 
--- frames are taken until one gives something, or none is whole
+-- Frames are handled until one delivers something, or none is complete.
 pub data IsPulled {S P : Type 0} (Is : Handling S P) : Stream → S → Option P → Stream → S → Type 0 where
   Ends : (stream : Stream) (state : S) → IsNone (looked stream)
       → IsPulled Is stream state None (after_look stream) state
@@ -26,18 +26,18 @@ pub data IsPulled {S P : Type 0} (Is : Handling S P) : Stream → S → Option P
 
 -- ---- frames one after another, whatever the cuts
 
--- a whole frame without its padding
+-- A complete frame without its padding.
 abbrev pub bare : List ℕ → List ℕ
-bare frame = take (given_of (front frame)) frame
+bare frame = take (given_of (head frame)) frame
 
--- each frame is handled, in order; what they give
+-- The frames are handled in order, and deliver these payloads.
 abbrev pub AreHandled : {S P : Type 0} → Handling S P → S → List (List ℕ) → List P → S → Type 0
 AreHandled Is state [] payloads after = (payloads ≡ []) × (after ≡ state)
 AreHandled {S} {P} Is state (frame ∷ frames) payloads after =
     (middle : S) × (given : Option P) × (later : List P) × Is state (bare frame) given middle
     × (payloads ≡ option_to_list given ++ later) × AreHandled Is middle frames later after
 
--- a stream is drained: pulled until nothing is given
+-- The stream is drained: frames are pulled until nothing is delivered.
 pub data IsDrained {S P : Type 0} (Is : Handling S P) : Stream → S → List P → Stream → S → Type 0 where
   Last : (stream : Stream) (state : S) (left : Stream) (after : S) → IsPulled Is stream state None left after
       → IsDrained Is stream state [] left after
@@ -46,15 +46,15 @@ pub data IsDrained {S P : Type 0} (Is : Handling S P) : Stream → S → List P 
       → IsDrained Is middle between payloads left after
       → IsDrained Is stream state (payload ∷ payloads) left after
 
--- pieces come one after another, and after each the stream is drained
+-- Chunks come one after another, and the stream is drained after each.
 abbrev pub AreFed : {S P : Type 0} → Handling S P → Stream → S → List (List ℕ) → List P → Stream → S → Type 0
 AreFed Is stream state [] payloads left after = (payloads ≡ []) × (left ≡ stream) × (after ≡ state)
-AreFed {S} {P} Is stream state (piece ∷ pieces) payloads left after =
+AreFed {S} {P} Is stream state (chunk ∷ chunks) payloads left after =
     (middle : Stream) × (between : S) × (now : List P) × (later : List P)
-    × IsDrained Is (joined stream piece) state now middle between
-    × (payloads ≡ now ++ later) × AreFed Is middle between pieces later left after
+    × IsDrained Is (joined stream chunk) state now middle between
+    × (payloads ≡ now ++ later) × AreFed Is middle between chunks later left after
 
--- what is made of a frame is one thing
+-- The handling is deterministic: a frame in a state has one result and one state afterwards.
 abbrev pub IsDefinite : {S P : Type 0} → Handling S P → Type 0
 IsDefinite {S} {P} Is = (state : S) (frame : List ℕ) (one other : Option P) (left right : S)
     → Is state frame one left → Is state frame other right → (one ≡ other) × (left ≡ right)

@@ -1,4 +1,4 @@
-//! Sockets that were closed (RFC 6062, section 4.6).
+//! Handling of closed sockets (RFC 6062, section 4.6).
 #![tactic(auto, using(crate::proofs::Usual::usual), unfolding(crate::proofs::Usual::opened))]
 
 ghost use Rattle.std.specs.Prelude.{◌≡◌, OnErr, OnOk, true};
@@ -10,7 +10,7 @@ use stun_types_base::transport::TransportType;
 use turn_client_proto_connection::sockets;
 use turn_client_proto_core::protocol::Protocol;
 
-/// Whether a socket between an own address and the server is that of a connection.
+/// Returns whether a socket between a local address and the server is that of a data connection.
 fn is_joined(protocol: &Protocol, local: SocketAddr, remote: SocketAddr) -> bool
     ensures { result ≡ is_joined local remote protocol.now }
 {
@@ -19,9 +19,13 @@ fn is_joined(protocol: &Protocol, local: SocketAddr, remote: SocketAddr) -> bool
         && sockets::is_any_from(protocol.allocations.as_slice(), local)
 }
 
-/// A socket between an own address and the server was closed. Where it is that of a connection, bound
-/// or not, that goes; no event tells of it, and the first of the sockets that `poll` tells to close is
-/// this one. Else nothing changes. Where memory is refused, `NoMemory`, and nothing changes.
+/// Handles the closing of a socket between a local address and the server. If the socket is that of
+/// a data connection, bound or not, the connection is removed without an event, and the socket is
+/// the next one that `poll` asks the caller to close. For any other socket nothing changes.
+///
+/// # Errors
+///
+/// - `NoMemory`: a memory allocation failed; nothing changed.
 pub fn tcp_closed(
     protocol: &mut Protocol,
     local: SocketAddr,

@@ -1,9 +1,9 @@
-//! What a client makes of a datagram that came from its server.
+//! Handling of datagrams from the server.
 
 ghost use Rattle.std.specs.Bool.{MatchBool};
 ghost use Rattle.turn_client_proto_recv.specs.Datagrams.{IsOfServer, IsTaken};
 
-use crate::handing::{Taken, given, hand_in};
+use crate::handing::{Taken, dispatch, given};
 use std::convert::AsSlice;
 use std::fmt::Debug;
 use stun_types_base::instant::Instant;
@@ -12,7 +12,7 @@ use stun_types_base::transmit::Transmit;
 use turn_client_proto_api::answer::TurnRecvRet;
 use turn_client_proto_core::protocol::Protocol;
 
-/// Whether bytes came from the server to the client's own address, by its transport.
+/// Returns whether bytes came from the server to the client's own address, over its transport.
 pub fn is_of_server<T>(protocol: &Protocol, transmit: &Transmit<T>) -> bool
     ensures { MatchBool result (IsOfServer protocol.now transmit.now)
         (¬ IsOfServer protocol.now transmit.now) }
@@ -22,7 +22,7 @@ pub fn is_of_server<T>(protocol: &Protocol, transmit: &Transmit<T>) -> bool
         && transmit.to == protocol.agent.local_addr()
 }
 
-/// A datagram came from the server.
+/// Handles a datagram from the server.
 pub fn take_datagram<T: AsSlice<u8> + Debug + Drop>(
     protocol: &mut Protocol,
     transmit: Transmit<T>,
@@ -30,7 +30,7 @@ pub fn take_datagram<T: AsSlice<u8> + Debug + Drop>(
 ) -> TurnRecvRet<T>
     ensures { IsTaken T.items protocol.old transmit now result protocol.new }
 {
-    match hand_in(protocol, transmit.bytes.as_slice(), now) {
+    match dispatch(protocol, transmit.bytes.as_slice(), now) {
         Ok(Taken::Given(payload)) => given(transmit, payload),
         Ok(Taken::Handled) => TurnRecvRet::Handled,
         Ok(Taken::Ignored) => TurnRecvRet::Ignored(transmit),

@@ -1,4 +1,4 @@
-//! What a client makes of a message or a channel frame that came from its server.
+//! Handling of a message or a channel frame from the server.
 
 ghost use Rattle.std.specs.Prelude.{◌≡◌, IfOk, None, OnErr};
 ghost use Rattle.stun_types_wire.specs.Grammar.{refusal};
@@ -6,7 +6,7 @@ ghost use Rattle.turn_client_proto_core.specs.Ending.{HasFailed};
 ghost use Rattle.turn_client_proto_core.specs.Receiving.{MayGrow};
 ghost use Rattle.turn_client_proto_payload.specs.Payloads.{payload_of};
 ghost use Rattle.turn_client_proto_recv.specs.HandingIn.{IsFrameTaken};
-ghost use Rattle.turn_client_proto_recv.specs.Datagrams.{IsHandedOver};
+ghost use Rattle.turn_client_proto_recv.specs.Datagrams.{IsDelivered};
 
 use std::convert::AsSlice;
 use std::fmt::Debug;
@@ -20,22 +20,22 @@ use turn_client_proto_core::protocol::Protocol;
 use turn_client_proto_payload::payload::{Payload, payload_framed, payload_in};
 use turn_types_frame::channel::ChannelData;
 
-/// What became of it.
+/// The result of handling a frame.
 #[derive(Debug, Drop)]
 pub enum Taken {
-    /// It carries this of a peer.
+    /// The frame delivers this payload from a peer.
     Given(Payload),
-    /// It was for the client.
+    /// The frame was for the client and delivers nothing.
     Handled,
-    /// It was not.
+    /// The frame was not for the client.
     Ignored,
-    /// It is neither a message nor a channel frame.
+    /// The bytes are neither a message nor a channel frame.
     Garbled,
 }
 
-/// Hands in bytes that came from the server at a moment.
+/// Handles a message or a channel frame from the server.
 #[tactic(auto, unfolding(crate::proofs::UsualHanding::opened))]
-pub fn hand_in(protocol: &mut Protocol, bytes: &[u8], now: Instant) -> Result<Taken, NoMemory>
+pub fn dispatch(protocol: &mut Protocol, bytes: &[u8], now: Instant) -> Result<Taken, NoMemory>
     ensures ok { IfOk result (λ taken. IsFrameTaken protocol.old bytes.now now taken protocol.new) }
     ensures err { OnErr result ((payload_of protocol.old bytes.now ≡ None)
         × (refusal bytes.now ≡ None)
@@ -64,12 +64,12 @@ pub fn hand_in(protocol: &mut Protocol, bytes: &[u8], now: Instant) -> Result<Ta
     }
 }
 
-/// What is given of bytes that came: data by where it stands in them.
+/// Returns what received bytes deliver: data as a range of the bytes.
 pub fn given<T: AsSlice<u8> + Debug + Drop>(
     transmit: Transmit<T>,
     payload: Payload,
 ) -> TurnRecvRet<T>
-    ensures { IsHandedOver T.items transmit payload result }
+    ensures { IsDelivered T.items transmit payload result }
 {
     match payload {
         Payload::Data {

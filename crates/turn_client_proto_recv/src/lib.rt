@@ -1,13 +1,14 @@
-//! What comes to a client: datagrams, pieces of the stream and of the sockets of connections; and
-//! connections to peers over TCP (RFC 6062), from the call that asks for one to the close of its socket.
+//! Handling of what a client receives: datagrams, chunks of the control stream, and chunks of the
+//! sockets of data connections. Also the connections to peers over TCP (RFC 6062), from the call
+//! that requests one to the closing of its socket.
 #![tactic(auto)]
 
+pub mod chunk;
 pub mod closing;
 pub mod connecting;
 pub mod datagram;
 pub mod handing;
-pub mod hearing;
-pub mod piece;
+pub mod processing;
 pub mod pulling;
 pub mod socket;
 pub mod sockets;

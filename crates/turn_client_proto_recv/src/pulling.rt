@@ -1,13 +1,13 @@
-//! The frames that wait in a client's stream, taken one by one.
+//! Handling of the frames that are buffered in a client's stream, one by one.
 
 ghost use Rattle.std.specs.Prelude.{◌≡◌, IfOk, OnErr};
 ghost use Rattle.turn_client_proto_core.specs.Ending.{HasFailed};
-ghost use Rattle.turn_client_proto_recv.specs.Pieces.{GivesData, Needs, data_given};
-ghost use Rattle.turn_client_proto_recv.specs.Pieces.{IsFrameHandled, IsLostOn, IsTakenOff};
+ghost use Rattle.turn_client_proto_recv.specs.Chunks.{GivesData, Needs, data_given};
+ghost use Rattle.turn_client_proto_recv.specs.Chunks.{IsFrameHandled, IsLostOn, IsTakenOff};
 ghost use Rattle.turn_client_proto_recv.specs.Pulls.{IsPulled, frame_of};
 ghost use Rattle.turn_types_frame.specs.StreamAnswers.{IsNone, looked};
 
-use crate::handing::{Taken, hand_in};
+use crate::handing::{Taken, dispatch};
 use std::alloc::Global;
 use std::convert::AsSlice;
 use std::fmt::Debug;
@@ -18,7 +18,7 @@ use turn_client_proto_core::protocol::Protocol;
 use turn_client_proto_payload::payload::Payload;
 use turn_types_frame::tcp::TurnTcpBuffer;
 
-/// The client was refused memory, and fails.
+/// Fails the client after a memory allocation failed. Its events stay.
 pub(crate) fn give_up(protocol: &mut Protocol)
     ensures { HasFailed protocol.old protocol.new }
 {
@@ -26,7 +26,7 @@ pub(crate) fn give_up(protocol: &mut Protocol)
     protocol.fail(events);
 }
 
-/// The data that a frame carries, in a vector of its own; none of a report. Where memory is refused,
+/// Returns the data that a frame carries, in a vector of its own; `None` for a report. Fails with
 /// `NoMemory`.
 pub(crate) fn owned<R: AsSlice<u8> + Debug + Drop>(
     alloc: Global,
@@ -63,7 +63,7 @@ pub(crate) fn owned<R: AsSlice<u8> + Debug + Drop>(
     }
 }
 
-/// Takes up a frame. Answers the data that it carries of a peer.
+/// Handles a frame, and returns the data that it carries from a peer.
 fn take_up<R: AsSlice<u8> + Debug + Drop>(
     protocol: &mut Protocol,
     frame: &[u8],
@@ -74,7 +74,7 @@ fn take_up<R: AsSlice<u8> + Debug + Drop>(
     ensures err { OnErr result (Needs protocol.old frame.now
         × HasFailed protocol.old protocol.new) }
 {
-    match hand_in(protocol, frame, now) {
+    match dispatch(protocol, frame, now) {
         Ok(Taken::Given(payload)) => match owned(protocol.alloc, frame, payload) {
             Ok(given) => Ok(given),
             Err(error) => {
@@ -87,8 +87,8 @@ fn take_up<R: AsSlice<u8> + Debug + Drop>(
     }
 }
 
-/// Takes up the frame at the front of a stream, where one is whole. Answers `None` where none is, and
-/// else the data that it carries of a peer.
+/// Handles the frame at the head of a stream, and returns the data that it carries from a peer.
+/// Returns `None` if no frame is complete.
 fn take_off<R: AsSlice<u8> + Debug + Drop>(
     protocol: &mut Protocol,
     stream: &mut TurnTcpBuffer,
@@ -99,16 +99,20 @@ fn take_off<R: AsSlice<u8> + Debug + Drop>(
     ensures err { OnErr result ((¬ IsNone (looked stream.old))
         × Needs protocol.old (frame_of stream.old) × HasFailed protocol.old protocol.new) }
 {
-    let found = match stream.front() {
+    let found = match stream.head() {
         Some(frame) => Some(take_up(protocol, frame, now)?),
         None => None,
     };
-    stream.drop_front();
+    stream.drop_head();
     Ok(found)
 }
 
-/// Takes up the frames that are whole in a stream, until one carries data of a peer, which is answered.
-/// `None` where none is whole any more. Where memory is refused, `NoMemory`, and the client has failed.
+/// Handles the complete frames of a stream until one carries data from a peer, and returns the
+/// data. Returns `None` when no frame is complete any more.
+///
+/// # Errors
+///
+/// - `NoMemory`: a memory allocation failed, and the client has failed.
 pub fn pull<R: AsSlice<u8> + Debug + Drop>(
     protocol: &mut Protocol,
     stream: &mut TurnTcpBuffer,

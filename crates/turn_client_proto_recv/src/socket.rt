@@ -1,4 +1,4 @@
-//! Sockets that a client is told of (RFC 6062, section 4.3).
+//! Sockets for data connections, as the caller reports them (RFC 6062, section 4.3).
 #![tactic(auto, using(crate::proofs::Usual::usual), unfolding(crate::proofs::Usual::opened))]
 
 ghost use Rattle.std.specs.Prelude.{◌≡◌, ◌≢◌, ◌<◌, ℕ, IfSome, None, OnErr, OnOk, length};
@@ -20,13 +20,13 @@ use turn_client_proto_connection::attempts::attempt_of;
 use turn_client_proto_connection::sockets;
 use turn_client_proto_core::protocol::Protocol;
 use turn_client_proto_messages::answer::AttemptAnswer;
-use turn_client_proto_messages::laws::requests_are_lawful;
+use turn_client_proto_messages::laws::proof_requests_are_lawful;
 use turn_client_proto_messages::request::TurnRequest;
 
-/// So long a CONNECTION_BIND may be answered, in milliseconds.
+/// How long the client waits for the response to a CONNECTION_BIND, in milliseconds.
 pub(crate) const BINDING_TIME: u64 = 39_500;
 
-/// Whether a socket is that of the client's own connection to the server.
+/// Returns whether a socket is that of the client's control connection.
 fn is_own(protocol: &Protocol, socket: Socket5Tuple) -> bool
     ensures { result ≡ is_own protocol.now socket }
 {
@@ -35,7 +35,7 @@ fn is_own(protocol: &Protocol, socket: Socket5Tuple) -> bool
         && socket.to == protocol.server
 }
 
-/// Whether a client takes sockets, where it is told which connection to the server is meant.
+/// Returns whether the client accepts sockets for this control connection.
 fn takes_sockets(protocol: &Protocol, socket: Socket5Tuple) -> bool
     ensures { result ≡ takes_sockets protocol.now socket }
 {
@@ -44,18 +44,30 @@ fn takes_sockets(protocol: &Protocol, socket: Socket5Tuple) -> bool
         && protocol.is_authenticated()
 }
 
-/// Tells of the socket for a connection to a peer, by the number with which `poll` asked for it: by its
-/// own address; or that there is none. Then that connection waits no more, and where there is one, it is
-/// asked that it be bound (RFC 6062, section 4.3), from that address and within 39.5 seconds. Where the peer
-/// began the connection (section 4.4), the server's request is answered: by a success, before that, or by
-/// error 447. Whether `poll` asked for the socket yet isn't looked at, nor whether the allocation's time is
-/// over.
+/// Takes the socket for a connection to a peer, which `poll` requested with the connection's ID:
+/// its local address, or `None` if there is no socket. The connection then no longer waits for a
+/// socket.
 ///
-/// It is refused, by the first that holds, with `NoAllocation` where no connection of the number and to
-/// the peer waits for its socket, where the client has not allocated over TCP or has ended, or where the
-/// five-tuple isn't that of its own connection to the server; with `AlreadyExists` where another
-/// connection has that own address; with `NoMemory`. Nothing changes then but the words that were drawn
-/// where memory is refused. Without a socket memory is asked for only where the peer began the connection.
+/// - With a socket, a CONNECTION_BIND (RFC 6062, section 4.3) is queued, to be sent from the socket
+///   and answered within 39.5 seconds.
+/// - If a peer opened the connection (section 4.4), the server's request is answered too: by a
+///   success, before the CONNECTION_BIND, or by error 447 if there is no socket.
+///
+/// The call doesn't check whether `poll` has requested the socket yet, or whether the allocation
+/// has expired.
+///
+/// # Errors
+///
+/// The first that applies is returned:
+///
+/// - `NoAllocation`: no connection with this ID and peer waits for its socket; or the client has
+///   not allocated over TCP, or has ended; or the five-tuple isn't that of the control connection.
+/// - `AlreadyExists`: another connection has this local address.
+/// - `NoMemory`: a memory allocation failed. Without a socket this can happen only if a peer opened
+///   the connection.
+///
+/// After an error nothing has changed, except for the random words that were generated with
+/// `NoMemory`.
 pub fn allocated_tcp_socket(
     protocol: &mut Protocol,
     id: u32,
@@ -67,7 +79,7 @@ pub fn allocated_tcp_socket(
     ensures { IsSocketAnswered protocol.old id five_tuple peer local now result protocol.new }
 {
     let allocations = protocol.allocations.as_slice();
-    let Some(place) = sockets::place_of(allocations, id, peer) else {
+    let Some(index) = sockets::index_of(allocations, id, peer) else {
         return Err(TcpAllocateError::NoAllocation);
     };
     if !takes_sockets(protocol, five_tuple) {
@@ -82,61 +94,61 @@ pub fn allocated_tcp_socket(
     if sockets::is_any_from(allocations, here) {
         return Err(TcpAllocateError::AlreadyExists);
     }
-    match join(protocol, place, here, peer, id, now) {
+    match join(protocol, index, here, peer, id, now) {
         Ok(()) => Ok(()),
         Err(NoMemory) => Err(TcpAllocateError::NoMemory),
     }
 }
 
-/// What the type of a number keeps, in the words of the contracts: it has 96 bits. It does nothing.
-fn numbers_fit(number: TransactionId)
-    ensures { IsNumber number }
+/// Proof only: a transaction ID has 96 bits, as its type ensures.
+fn proof_number_fits(transaction_id: TransactionId)
+    ensures { IsNumber transaction_id }
 {}
 
-/// There is no socket for a connection: it waits for none any more, and where the peer began it, the server
-/// is told so. Where memory is refused, nothing changes.
+/// Drops a connection for which there is no socket; if a peer opened it, reports that to the
+/// server. With `NoMemory`, nothing has changed.
 fn forgo(protocol: &mut Protocol, connection: u32, peer: SocketAddr) -> Result<(), NoMemory>
     ensures ok { OnOk result (IsSocketLacking protocol.old connection peer protocol.new) }
     ensures err { OnErr result ((protocol.new ≡ protocol.old)
         × (attempt_at connection peer protocol.old ≢ None)) }
 {
     let Some(attempt) = attempt_of(protocol.allocations.as_slice(), connection, peer) else {
-        sockets::let_go(protocol.allocations.as_mut_slice(), connection, peer);
+        sockets::release(protocol.allocations.as_mut_slice(), connection, peer);
         return Ok(());
     };
-    numbers_fit(attempt);
+    proof_number_fits(attempt);
     protocol.answer_attempt(attempt, AttemptAnswer::Failed)?;
-    sockets::let_go(protocol.allocations.as_mut_slice(), connection, peer);
+    sockets::release(protocol.allocations.as_mut_slice(), connection, peer);
     Ok(())
 }
 
-/// A connection that waits in the allocation at a place has a socket: where the peer began it, the server is
-/// told so, and then it is asked that it be bound. Where memory is refused, nothing changes but the words
-/// that were drawn.
+/// Gives a socket to a connection that waits for one in the allocation at `index`: answers
+/// the server's request if a peer opened the connection, and then queues a CONNECTION_BIND. With
+/// `NoMemory`, nothing has changed except that random words were generated.
 fn join(
     protocol: &mut Protocol,
-    place: usize,
+    index: usize,
     here: SocketAddr,
     peer: SocketAddr,
     connection: u32,
     now: Instant,
 ) -> Result<(), NoMemory>
-    requires { place < length protocol.old.allocations }
+    requires { index < length protocol.old.allocations }
     ensures ok { OnOk result ((number : ℕ) × IsNextNumber protocol.old number
         × IfSome (attempt_at connection peer protocol.old) IsNumber
-        × IsBoundAt here place peer connection number now
+        × IsBoundAt here index peer connection number now
         (answering_if Accepted (attempt_at connection peer protocol.old)
         (after_number protocol.old)) protocol.new) }
     ensures err { OnErr result (protocol.new ≡ after_number protocol.old) }
 {
     let attempt = attempt_of(protocol.allocations.as_slice(), connection, peer);
-    let number = protocol.draw_number()?;
+    let number = protocol.generate_id()?;
     let Some(attempt) = attempt else {
-        return bind(protocol, place, here, peer, connection, number, now);
+        return bind(protocol, index, here, peer, connection, number, now);
     };
-    numbers_fit(attempt);
+    proof_number_fits(attempt);
     protocol.answer_attempt(attempt, AttemptAnswer::Accepted)?;
-    match bind(protocol, place, here, peer, connection, number, now) {
+    match bind(protocol, index, here, peer, connection, number, now) {
         Ok(()) => Ok(()),
         Err(e) => {
             protocol.queue.pop_back();
@@ -145,36 +157,39 @@ fn join(
     }
 }
 
-/// Asks by a request of this number that a connection be bound that waits for its socket in the allocation
-/// at a place. Where memory is refused, nothing changes.
+/// Queues a CONNECTION_BIND with this transaction ID, for a connection that waits for its socket in
+/// the allocation at `index`. With `NoMemory`, nothing has changed.
 fn bind(
     protocol: &mut Protocol,
-    place: usize,
+    index: usize,
     here: SocketAddr,
     peer: SocketAddr,
     connection: u32,
-    number: TransactionId,
+    transaction_id: TransactionId,
     now: Instant,
 ) -> Result<(), NoMemory>
-    requires there { place < length protocol.old.allocations }
-    requires unused { IsUnused protocol.old.agent number }
-    ensures ok { OnOk result (IsBoundAt here place peer connection number now protocol.old
+    requires there { index < length protocol.old.allocations }
+    requires unused { IsUnused protocol.old.agent transaction_id }
+    ensures ok { OnOk result (IsBoundAt here index peer connection transaction_id now protocol.old
         protocol.new) }
     ensures err { OnErr result (protocol.new ≡ protocol.old) }
 {
     let expiry = now.saturating_add(Duration::from_millis(BINDING_TIME));
-    let awaited = Binding { number, expiry };
+    let awaited = Binding {
+        number: transaction_id,
+        expiry,
+    };
     let (alloc, allocations) = (protocol.alloc, &mut protocol.allocations);
-    sockets::bind(alloc, allocations, place, here, peer, connection, awaited)?;
+    sockets::bind(alloc, allocations, index, here, peer, connection, awaited)?;
     let request = TurnRequest::ConnectionBind(connection);
-    requests_are_lawful(&request);
-    match protocol.ask_from(here, number, request, now) {
+    proof_requests_are_lawful(&request);
+    match protocol.ask_from(here, transaction_id, request, now) {
         Ok(()) => {
-            sockets::let_go(protocol.allocations.as_mut_slice(), connection, peer);
+            sockets::release(protocol.allocations.as_mut_slice(), connection, peer);
             Ok(())
         }
         Err(e) => {
-            sockets::forget(&mut protocol.allocations, place);
+            sockets::forget(&mut protocol.allocations, index);
             Err(e)
         }
     }

@@ -1,20 +1,20 @@
-//! What a client makes of what comes over the socket of a connection to a peer (RFC 6062, sections 4.3 and
-//! 4.5): frames, until the connection is bound, and then bytes of the peer.
+//! Handling of what is received on the socket of a connection to a peer (RFC 6062, sections 4.3 and
+//! 4.5): frames until the connection is bound, and then the peer's bytes.
 
 ghost use Rattle.std.specs.Prelude.{◌≡◌, ◌≢◌, ◌≤◌, [], false, length, take, true, IfOk, OnErr, OnOk, MatchResult, Some, option_map};
 ghost use Rattle.stun_types_wire.specs.Headers.{AreBytes};
 ghost use Rattle.stun_types_base.specs.declared.transport.TransportType.TheVariants.{Tcp};
 ghost use Rattle.turn_client_proto_recv.specs.Datagrams.{IsHandledAs};
 ghost use Rattle.turn_client_proto_recv.specs.Pulls.{frame_of};
-ghost use Rattle.turn_client_proto_recv.specs.SocketPieces.{IsEnded, IsFed, IsFrameHeard, IsFrontTaken, IsLostAt, IsLostFrom, IsMessageHeard, IsNextTaken, IsPieceFed, IsRawTaken, IsReceivedAt, IsTakenFor, IsTakenFrom, IsWaitingTaken, MayGrowAt, MayGrowBy, is_joining, raw_waiting, socket_of, with_kept};
+ghost use Rattle.turn_client_proto_recv.specs.SocketChunks.{IsEnded, IsFed, IsFrameProcessed, IsHeadTaken, IsLostAt, IsLostFrom, IsMessageProcessed, IsNextTaken, IsChunkFed, IsRawTaken, IsReceivedAt, IsTakenFor, IsTakenFrom, IsWaitingTaken, MayGrowAt, MayGrowBy, is_joining, raw_waiting, socket_of, with_stored};
 ghost use Rattle.turn_client_proto_allocation.specs.declared.connection.Connection.{Connection as Joined};
 ghost use Rattle.turn_client_proto_api.specs.declared.answer.TurnRecvRet.TheVariants as recv;
-ghost use Rattle.turn_client_proto_connection.specs.Streams.{emptied, from, raw_kept as kept_of, raw_of};
+ghost use Rattle.turn_client_proto_connection.specs.Streams.{emptied, from, raw_stored as stored_of, raw_of};
 ghost use Rattle.turn_client_proto_core.specs.Ending.{HasFailed};
 ghost use Rattle.turn_types_frame.specs.StreamAnswers.{IsNone, looked};
 
 use crate::closing::tcp_closed;
-use crate::hearing::{awaited_at, hear_at};
+use crate::processing::{awaited_at, process_at};
 use crate::pulling::give_up;
 use std::convert::AsSlice;
 use std::fmt::Debug;
@@ -34,20 +34,20 @@ use turn_types_frame::tcp::{IncomingTcp, TurnTcpBuffer};
 
 // ---- until the connection is bound
 
-/// Bytes are below 256.
-fn are_bytes(bytes: &[u8])
+/// Proof only: each byte is below 256.
+fn proof_are_bytes(bytes: &[u8])
     ensures { AreBytes bytes.now }
 {}
 
-/// A message came over the socket of an own address. One over a socket that has the client's own address is
-/// one of its connection to the server.
-fn hear_message(
+/// Handles a message on the socket with a local address. On a socket with the client's own address
+/// it is handled as a message of the control connection.
+fn process_message(
     protocol: &mut Protocol,
     here: SocketAddr,
     message: &Message<'_>,
     now: Instant,
 ) -> Result<(), NoMemory>
-    ensures ok { OnOk result (IsMessageHeard here now protocol.old message.now protocol.new) }
+    ensures ok { OnOk result (IsMessageProcessed here now protocol.old message.now protocol.new) }
     ensures err { OnErr result (MayGrowBy here protocol.old message.now
         × HasFailed protocol.old protocol.new) }
 {
@@ -57,37 +57,37 @@ fn hear_message(
             Err(error) => Err(error),
         }
     } else {
-        hear_at(protocol, here, message, now)
+        process_at(protocol, here, message, now)
     }
 }
 
-/// Takes up a frame that came over the socket of an own address.
+/// Handles a frame on the socket with a local address.
 fn take_frame(
     protocol: &mut Protocol,
     here: SocketAddr,
     frame: &[u8],
     now: Instant,
 ) -> Result<(), NoMemory>
-    ensures ok { OnOk result (IsFrameHeard here now protocol.old frame.now protocol.new) }
+    ensures ok { OnOk result (IsFrameProcessed here now protocol.old frame.now protocol.new) }
     ensures err { OnErr result (MayGrowAt here protocol.old frame.now
         × HasFailed protocol.old protocol.new) }
 {
-    are_bytes(frame);
+    proof_are_bytes(frame);
     match Message::from_bytes(frame) {
-        Ok(message) => hear_message(protocol, here, &message, now),
+        Ok(message) => process_message(protocol, here, &message, now),
         Err(_) => Ok(()),
     }
 }
 
-/// Whether the connection that has this own address is to be bound.
+/// Returns whether the connection with this local address is still to be bound.
 fn is_joining(protocol: &Protocol, here: SocketAddr) -> bool
     ensures { result ≡ is_joining here protocol.now }
 {
     awaited_at(protocol.allocations.as_slice(), here).is_some()
 }
 
-/// Takes up the frame at the front of a stream, where one is whole and the connection is to be bound.
-/// Answers whether it did.
+/// Handles the frame at the head of a stream if it is complete and the connection is still to be
+/// bound. Returns whether it did.
 fn take_next(
     protocol: &mut Protocol,
     here: SocketAddr,
@@ -104,19 +104,22 @@ fn take_next(
     if !is_joining(protocol, here) {
         return Ok(false);
     }
-    let is_whole = match stream.front() {
+    let is_whole = match stream.head() {
         Some(frame) => {
             take_frame(protocol, here, frame, now)?;
             true
         }
         None => false,
     };
-    stream.drop_front();
+    stream.drop_head();
     Ok(is_whole)
 }
 
-/// Takes up the frames that are whole in a stream, as long as the connection is to be bound. Where memory is
-/// refused, `NoMemory`, and the client has failed.
+/// Handles the complete frames of a stream while the connection is still to be bound.
+///
+/// # Errors
+///
+/// - `NoMemory`: a memory allocation failed, and the client has failed.
 fn feed(
     protocol: &mut Protocol,
     here: SocketAddr,
@@ -130,7 +133,7 @@ fn feed(
     Ok(())
 }
 
-/// Takes up a frame, and those that are whole behind it.
+/// Handles a frame, and then the complete frames after it.
 fn take_from(
     protocol: &mut Protocol,
     here: SocketAddr,
@@ -147,8 +150,8 @@ fn take_from(
     feed(protocol, here, stream, now)
 }
 
-/// What is answered to a piece, once its frames were taken up.
-fn told<T: AsSlice<u8> + Debug + Drop>(
+/// Returns the result for a chunk whose frames have been handled.
+fn reported<T: AsSlice<u8> + Debug + Drop>(
     done: Result<(), NoMemory>,
     transmit: Transmit<T>,
     is_message: bool,
@@ -168,7 +171,8 @@ fn told<T: AsSlice<u8> + Debug + Drop>(
     }
 }
 
-/// What is answered to a piece whose first frame, a message or none, stands at its front, up to a place.
+/// Returns the result for a chunk whose first frame is its first `end` bytes. `is_message` says
+/// whether that frame is a message.
 fn take_in_place<T: AsSlice<u8> + Debug + Drop>(
     protocol: &mut Protocol,
     stream: &mut TurnTcpBuffer,
@@ -178,15 +182,16 @@ fn take_in_place<T: AsSlice<u8> + Debug + Drop>(
     now: Instant,
 ) -> TurnRecvRet<T>
     requires { end ≤ length (T.items transmit.bytes) }
-    ensures { IsFrontTaken transmit.to now is_message (take end (T.items transmit.bytes))
+    ensures { IsHeadTaken transmit.to now is_message (take end (T.items transmit.bytes))
         stream.old protocol.old transmit result stream.new protocol.new }
 {
     let (frame, _) = transmit.bytes.as_slice().split_at(end);
     let done = take_from(protocol, transmit.to, stream, frame, now);
-    told(done, transmit, is_message)
+    reported(done, transmit, is_message)
 }
 
-/// What is answered to a piece whose first frame, a message or none, began before it.
+/// Returns the result for a chunk whose first frame began in an earlier chunk. `is_message` says
+/// whether that frame is a message.
 fn take_apart<T: AsSlice<u8> + Debug + Drop>(
     protocol: &mut Protocol,
     stream: &mut TurnTcpBuffer,
@@ -195,15 +200,15 @@ fn take_apart<T: AsSlice<u8> + Debug + Drop>(
     is_message: bool,
     now: Instant,
 ) -> TurnRecvRet<T>
-    ensures { IsFrontTaken transmit.to now is_message frame.now
+    ensures { IsHeadTaken transmit.to now is_message frame.now
         stream.old protocol.old transmit result stream.new protocol.new }
 {
     let done = take_from(protocol, transmit.to, stream, frame, now);
-    told(done, transmit, is_message)
+    reported(done, transmit, is_message)
 }
 
-/// A piece came over the socket of a connection that is to be bound, of which this is kept: its whole frames
-/// are taken up.
+/// Handles the complete frames of a chunk on the socket of a connection that is being bound.
+/// `stream` has the bytes buffered before it.
 fn take_frames<T: AsSlice<u8> + Debug + Drop>(
     protocol: &mut Protocol,
     stream: &mut TurnTcpBuffer,
@@ -211,7 +216,7 @@ fn take_frames<T: AsSlice<u8> + Debug + Drop>(
     now: Instant,
 ) -> TurnRecvRet<T>
     requires { is_joining transmit.to protocol.old ≡ true }
-    ensures { IsPieceFed T.items transmit.to now stream.old protocol.old transmit result
+    ensures { IsChunkFed T.items transmit.to now stream.old protocol.old transmit result
         stream.new protocol.new }
 {
     match stream.incoming_tcp(transmit) {
@@ -235,20 +240,20 @@ fn take_frames<T: AsSlice<u8> + Debug + Drop>(
     }
 }
 
-/// The first connection that has this own address keeps another stream. Answers what it kept.
+/// Replaces the stream of the first connection with this local address, and returns the old one.
 fn exchange(
     protocol: &mut Protocol,
     here: SocketAddr,
     stream: TurnTcpBuffer,
 ) -> Option<TurnTcpBuffer>
     ensures given { result ≡ option_map (λ c. c.stream) (from here protocol.old.allocations) }
-    ensures after { protocol.new ≡ with_kept here stream protocol.old }
+    ensures after { protocol.new ≡ with_stored here stream protocol.old }
 {
     streams::exchange(protocol.allocations.as_mut_slice(), here, stream)
 }
 
-/// A piece came over the socket of a connection that is to be bound. While its frames are taken up, what is
-/// kept of it stands beside the client.
+/// Handles a chunk on the socket of a connection that is being bound. The connection's stream is
+/// moved out of the client while its frames are handled.
 fn take_joining<T: AsSlice<u8> + Debug + Drop>(
     protocol: &mut Protocol,
     transmit: Transmit<T>,
@@ -270,14 +275,14 @@ fn take_joining<T: AsSlice<u8> + Debug + Drop>(
 
 // ---- once it is bound
 
-/// Bytes of a peer came over the socket of a connection that is bound, where none waited.
+/// Returns the peer's bytes that came on the socket of a bound connection without buffered bytes.
 fn give_in_place<T: AsSlice<u8> + Debug + Drop>(
     transmit: Transmit<T>,
     peer: SocketAddr,
 ) -> TurnRecvRet<T>
     ensures { result ≡ recv.PeerData (record {
       payload = T.items transmit.bytes;
-      place = Some (0, length (T.items transmit.bytes));
+      index = Some (0, length (T.items transmit.bytes));
       transport = Tcp;
       peer = peer;
     }) }
@@ -290,14 +295,14 @@ fn give_in_place<T: AsSlice<u8> + Debug + Drop>(
     TurnRecvRet::PeerData(TurnPeerData::new(held, TransportType::Tcp, peer))
 }
 
-/// Where some waited: they come first.
+/// Returns the buffered bytes of a bound connection, followed by those that came.
 fn give_joined<T: AsSlice<u8> + Debug + Drop>(
     protocol: &mut Protocol,
     transmit: Transmit<T>,
     peer: SocketAddr,
 ) -> TurnRecvRet<T>
     ensures { (c : Joined) → from transmit.to protocol.old.allocations ≡ Some c
-        → c.stream.kept ≢ []
+        → c.stream.stored ≢ []
         → c.peer ≡ peer
         → IsRawTaken T.items c protocol.old transmit result protocol.new }
 {
@@ -314,9 +319,9 @@ fn give_joined<T: AsSlice<u8> + Debug + Drop>(
     TurnRecvRet::PeerData(TurnPeerData::new(held, TransportType::Tcp, peer))
 }
 
-// ---- a piece
+// ---- a chunk
 
-/// The connection over whose socket bytes came from the server.
+/// Returns the connection on whose socket bytes came from the server.
 fn socket_of<'a, T>(protocol: &'a Protocol, transmit: &Transmit<T>) -> Option<&'a Connection>
     ensures { option_map (λ c. c.now) result ≡ socket_of protocol.now transmit.now }
 {
@@ -327,7 +332,7 @@ fn socket_of<'a, T>(protocol: &'a Protocol, transmit: &Transmit<T>) -> Option<&'
     }
 }
 
-/// The socket of a connection was closed.
+/// Handles the closing of a connection's socket.
 fn end<T: AsSlice<u8> + Debug + Drop>(
     protocol: &mut Protocol,
     transmit: Transmit<T>,
@@ -344,8 +349,8 @@ fn end<T: AsSlice<u8> + Debug + Drop>(
     }
 }
 
-/// Bytes came at a moment, which are none of the client's own connection to the server. What came over no
-/// socket of a connection is given back; a piece of no bytes ends a connection.
+/// Handles bytes that didn't come on the control connection. Bytes that came on no connection's
+/// socket are given back; an empty chunk ends a connection.
 pub fn receive_at<T: AsSlice<u8> + Debug + Drop>(
     protocol: &mut Protocol,
     transmit: Transmit<T>,
@@ -369,11 +374,11 @@ pub fn receive_at<T: AsSlice<u8> + Debug + Drop>(
     give_joined(protocol, transmit, peer)
 }
 
-// ---- bytes that wait
+// ---- buffered bytes
 
-/// What waits of the first bound connection for which some bytes do is taken.
+/// Removes and returns the buffered bytes of the first bound connection that has some.
 fn take_first(protocol: &mut Protocol) -> Option<Raw>
-    ensures given { option_map raw_of result ≡ option_map kept_of (raw_waiting protocol.old) }
+    ensures given { option_map raw_of result ≡ option_map stored_of (raw_waiting protocol.old) }
     ensures after { protocol.new ≡ record protocol.old {
       allocations = emptied protocol.old.allocations;
     } }
@@ -381,8 +386,8 @@ fn take_first(protocol: &mut Protocol) -> Option<Raw>
     take_raw(protocol.alloc, protocol.allocations.as_mut_slice())
 }
 
-/// The bytes of a peer that wait for the first bound connection for which some do, in the order of
-/// allocations and of sockets. It takes no memory.
+/// Removes and returns the buffered bytes of the first bound connection that has some, in the order
+/// of allocations and of sockets. Allocates no memory.
 pub fn take_waiting(protocol: &mut Protocol) -> Option<TurnPeerData<Vec<u8>>>
     ensures { IsWaitingTaken protocol.old result protocol.new }
 {

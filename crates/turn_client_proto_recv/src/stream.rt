@@ -1,12 +1,12 @@
-//! What a client makes of the stream that comes from its server over TCP (RFC 8656, section 12.5): of what
-//! is kept of it while it stands, and nothing once it has ended.
+//! Handling of the TCP stream from the server (RFC 8656, section 12.5). While the stream is open,
+//! its buffered bytes are stored; once it has ended, nothing is.
 
 ghost use Rattle.std.specs.Bool.{MatchBool};
 ghost use Rattle.std.specs.Prelude.{IfOk, OnErr};
 ghost use Rattle.turn_client_proto_recv.specs.Receipts.{IsGivenBy, IsLostBy, IsOfStream, IsReceivedBy, control_of, over_tcp};
 
+use crate::chunk::take_chunk;
 use crate::datagram::is_of_server;
-use crate::piece::take_piece;
 use crate::pulling::pull;
 use crate::sockets::{receive_at, take_waiting};
 use std::convert::AsSlice;
@@ -19,7 +19,7 @@ use turn_client_proto_api::data::TurnPeerData;
 use turn_client_proto_core::protocol::Protocol;
 use turn_types_frame::tcp::TurnTcpBuffer;
 
-/// Whether a piece is one of the stream that comes from the server, to a client that has not failed.
+/// Returns whether a chunk belongs to the stream from the server, and the client has not failed.
 fn is_of_stream<T>(protocol: &Protocol, transmit: &Transmit<T>) -> bool
     ensures { MatchBool result (IsOfStream protocol.now transmit.now)
         (¬ IsOfStream protocol.now transmit.now) }
@@ -27,8 +27,8 @@ fn is_of_stream<T>(protocol: &Protocol, transmit: &Transmit<T>) -> bool
     protocol.agent.remote_addr().is_some() && is_of_server(protocol, transmit)
 }
 
-/// Bytes came at a moment. A piece of no bytes ends the server's stream; what is no piece of it may be one of
-/// what comes over the socket of a connection, and is given back else.
+/// Handles received bytes. An empty chunk ends the control stream. Bytes that don't belong to that
+/// stream are handled as bytes on the socket of a connection, or given back if they are neither.
 pub fn receive<T: AsSlice<u8> + Debug + Drop>(
     protocol: &mut Protocol,
     control: &mut Option<TurnTcpBuffer>,
@@ -48,11 +48,12 @@ pub fn receive<T: AsSlice<u8> + Debug + Drop>(
         *control = None;
         return TurnRecvRet::Handled;
     }
-    take_piece(protocol, stream, transmit, now)
+    take_chunk(protocol, stream, transmit, now)
 }
 
-/// The bytes of a peer that wait: of those of bound connections the first, and else the data that a frame in
-/// the stream carries. A client that has failed holds nothing, and so gives none.
+/// Returns buffered data from a peer: the bytes of the first bound connection that has some, else
+/// the data that a frame in the control stream carries. A client that has failed has no
+/// allocations, and so returns none.
 pub fn ask(
     protocol: &mut Protocol,
     control: &mut Option<TurnTcpBuffer>,

@@ -1,4 +1,4 @@
--- What becomes of the parts of a client that a run tells of, where nothing is gained.
+-- What becomes of the parts of a client that a run looks at, if nothing is gained.
 use Rattle.std.proofs.Common.{◌≡◌, ℕ, true, false, List, [], ◌∷◌, ◌++◌, refl, sym, ap, ◌∙◌, subst, ◌⊎◌, inl, inr}
 use Rattle.std.specs.declared.net.socket_addr.SocketAddr.{SocketAddr}
 use Rattle.turn_client_proto_timers.specs.StunTypesWire.Grammar.{number_at, refusal}
@@ -8,71 +8,71 @@ use Rattle.turn_client_proto_timers.specs.StunProtoAgent.State.{Agent}
 use Rattle.turn_client_proto_timers.proofs.StunProtoAgent.Numbers.{sent}
 use Rattle.turn_client_proto_timers.specs.TurnRuns.Members.{IsIn}
 use Rattle.turn_client_proto_timers.specs.TurnRuns.Messages as run
-use Rattle.turn_client_proto_timers.specs.TurnRuns.StunWire.{stun_wire, told_by}
+use Rattle.turn_client_proto_timers.specs.TurnRuns.StunWire.{stun_wire, decoded_by}
 use Rattle.turn_client_proto_timers.specs.Core.Authenticating.{numbers_sent}
 use Rattle.turn_client_proto_timers.specs.Messages.Waiting.{Queued}
 use Rattle.turn_client_proto_timers.specs.Core.declared.protocol.Phase.{Phase}
-use Rattle.turn_client_proto_step_laws.specs.ClientWords.{Has, HasItself, HasPermission, HasChannel, HasConnection, IsAttempted, IsWaiting, IsAnswered, IsKept, IsOutstanding, IsQueued, IsPending, OfPermission, OfChannel, OfNewPermission, OfNewChannel, OfRefresh, OfConnect, OfAttempt, OfBinding, IsTaken, Outstanding, Allocating, Pending, Knows, ByWaiting, ByConnection, Waits}
+use Rattle.turn_client_proto_step_laws.specs.ClientWords.{Has, HasItself, HasPermission, HasChannel, HasConnection, IsAttempted, IsWaiting, IsAnswered, IsStored, IsOutstanding, IsQueued, IsPending, OfPermission, OfChannel, OfNewPermission, OfNewChannel, OfRefresh, OfConnect, OfAttempt, OfBinding, IsTaken, Outstanding, Allocating, Pending, Knows, ByWaiting, ByConnection, Waits}
 use Rattle.turn_client_proto_step_laws.specs.Held.{Allocation, Channel, Connecting, Connection, PendingChannel, PendingPermission, PendingRefresh, Permission, Waiting}
 use Rattle.turn_client_proto_step_laws.specs.RunClient.{Parts}
 use Rattle.turn_client_proto_step_laws.proofs.Agents.{message_read, outstanding_before, outstanding_sent}
 use Rattle.turn_client_proto_step_laws.proofs.Lists.{in_either}
 
--- one of these requests has this number
-pub record HasNumber (number : ℕ) (begun : List run.Message) : Type 0 where
+-- One of these requests has this transaction ID.
+pub record HasNumber (number : ℕ) (started : List run.Message) : Type 0 where
   pub one : run.Message
-  pub listed : IsIn one begun
+  pub listed : IsIn one started
   pub is : one.number ≡ number
 
--- all that is there afterwards was there before, but for these requests
-pub record Adds (begun : List run.Message) (old new : Parts) : Type 0 where
-  pub outstanding : (m : run.Message) → IsOutstanding new.agent m → IsOutstanding old.agent m ⊎ IsIn m begun
-  pub queued : (m : run.Message) → IsQueued new.queue m → IsQueued old.queue m ⊎ IsIn m begun
-  pub taken : (n : ℕ) → IsTaken new n → IsTaken old n ⊎ HasNumber n begun
-  pub kept : (h : run.Held) → IsKept new.allocations h → IsKept old.allocations h
+-- All that is there afterwards was there before, except for these requests.
+pub record Adds (started : List run.Message) (old new : Parts) : Type 0 where
+  pub outstanding : (m : run.Message) → IsOutstanding new.agent m → IsOutstanding old.agent m ⊎ IsIn m started
+  pub queued : (m : run.Message) → IsQueued new.queue m → IsQueued old.queue m ⊎ IsIn m started
+  pub taken : (n : ℕ) → IsTaken new n → IsTaken old n ⊎ HasNumber n started
+  pub stored : (h : run.Held) → IsStored new.allocations h → IsStored old.allocations h
   pub waits : (n : ℕ) (peer : SocketAddr) → Waits new.allocations n peer → Waits old.allocations n peer
   pub attempted : (n : ℕ) → IsAttempted new.allocations new.queue n → IsAttempted old.allocations old.queue n
 
-pub adds_none : (begun : List run.Message) (p : Parts) → Adds begun p p
-adds_none begun p = record {
+pub adds_none : (started : List run.Message) (p : Parts) → Adds started p p
+adds_none started p = record {
   outstanding = λ m h. inl h;
   queued = λ m h. inl h;
   taken = λ n h. inl h;
-  kept = λ h k. k;
+  stored = λ h k. k;
   waits = λ n peer h. h;
   attempted = λ n h. h;
 }
 
--- where nothing more was asked for, what was is no matter
-pub widened : (begun : List run.Message) (old new : Parts) → Adds [] old new → Adds begun old new
-widened begun old new is = record {
+-- A change that adds no request is also one that may add these.
+pub widened : (started : List run.Message) (old new : Parts) → Adds [] old new → Adds started old new
+widened started old new is = record {
   outstanding = λ m h. elim (is.outstanding m h) [ inl was ↦ inl was | inr none ↦ absurd none ];
   queued = λ m h. elim (is.queued m h) [ inl was ↦ inl was | inr none ↦ absurd none ];
   taken = λ n h. elim (is.taken n h) [ inl was ↦ inl was | inr none ↦ absurd none.listed ];
-  kept = is.kept;
+  stored = is.stored;
   waits = is.waits;
   attempted = is.attempted;
 }
 
--- one change and then another
-pub adds_both : (begun : List run.Message) (old mid new : Parts) → Adds begun old mid → Adds begun mid new → Adds begun old new
-adds_both begun old mid new first second = record {
+-- One change and then another.
+pub adds_both : (started : List run.Message) (old mid new : Parts) → Adds started old mid → Adds started mid new → Adds started old new
+adds_both started old mid new first second = record {
   outstanding = λ m h. elim (second.outstanding m h) [ inl was ↦ first.outstanding m was | inr now ↦ inr now ];
   queued = λ m h. elim (second.queued m h) [ inl was ↦ first.queued m was | inr now ↦ inr now ];
   taken = λ n h. elim (second.taken n h) [ inl was ↦ first.taken n was | inr now ↦ inr now ];
-  kept = λ h k. first.kept h (second.kept h k);
+  stored = λ h k. first.stored h (second.stored h k);
   waits = λ n peer h. first.waits n peer (second.waits n peer h);
   attempted = λ n h. first.attempted n (second.attempted n h);
 }
 
 -- ---- the agent
 
-pub agent_less : (begun : List run.Message) (p : Parts) (agent : Agent) → NothingNew p.agent agent → Adds begun p (record p { agent = agent })
-agent_less begun p agent none = record {
+pub agent_less : (started : List run.Message) (p : Parts) (agent : Agent) → NothingNew p.agent agent → Adds started p (record p { agent = agent })
+agent_less started p agent none = record {
   outstanding = λ m h. inl (outstanding_before p.agent agent none m h);
   queued = λ m h. inl h;
   taken = λ n h. inl (taken n h);
-  kept = λ h k. k;
+  stored = λ h k. k;
   waits = λ n peer h. h;
   attempted = λ n h. h;
 }
@@ -82,43 +82,43 @@ agent_less begun p agent none = record {
     taken n (Allocating listed) = Allocating listed
     taken n (Pending a listed is) = Pending a listed is
 
--- a request is sent
-pub agent_more : (p : Parts) (bytes : List ℕ) (to : SocketAddr) (now : ℕ) → Adds (told_by bytes ∷ []) p (record p { agent = with_request p.agent bytes to now })
+-- A request becomes outstanding.
+pub agent_more : (p : Parts) (bytes : List ℕ) (to : SocketAddr) (now : ℕ) → Adds (decoded_by bytes ∷ []) p (record p { agent = with_request p.agent bytes to now })
 agent_more p bytes to now = record {
   outstanding = λ m h. elim (outstanding_sent p.agent bytes to now m h) [ inl was ↦ inl was | inr own ↦ inr (inl own) ];
   queued = λ m h. inl h;
   taken = taken;
-  kept = λ h k. k;
+  stored = λ h k. k;
   waits = λ n peer h. h;
   attempted = λ n h. h;
 }
   where
-    taken : (n : ℕ) → IsTaken (record p { agent = with_request p.agent bytes to now }) n → IsTaken p n ⊎ HasNumber n (told_by bytes ∷ [])
+    taken : (n : ℕ) → IsTaken (record p { agent = with_request p.agent bytes to now }) n → IsTaken p n ⊎ HasNumber n (decoded_by bytes ∷ [])
     taken n (Outstanding t there) = elim (sent p.agent bytes to now n t there) [
       | inl was ↦ inl (Outstanding t was)
-      | inr own ↦ inr (record { one = told_by bytes; listed = inl refl; is = sym own.0 })
+      | inr own ↦ inr (record { one = decoded_by bytes; listed = inl refl; is = sym own.0 })
     ]
     taken n (Allocating listed) = inl (Allocating listed)
     taken n (Pending a listed is) = inl (Pending a listed is)
 
 -- ---- the queue
 
--- a request waits, too
-pub queue_more : (p : Parts) (q : Queued) → q.is_request ≡ true → Adds (told_by q.bytes ∷ []) p (record p { queue = p.queue ++ q ∷ [] })
+-- A request is queued.
+pub queue_more : (p : Parts) (q : Queued) → q.is_request ≡ true → Adds (decoded_by q.bytes ∷ []) p (record p { queue = p.queue ++ q ∷ [] })
 queue_more p q request = record {
   outstanding = λ m h. inl h;
   queued = queued;
   taken = λ n h. inl (taken n h);
-  kept = λ h k. k;
+  stored = λ h k. k;
   waits = λ n peer h. h;
   attempted = attempted;
 }
   where
-    queued : (m : run.Message) → IsQueued (p.queue ++ q ∷ []) m → IsQueued p.queue m ⊎ IsIn m (told_by q.bytes ∷ [])
+    queued : (m : run.Message) → IsQueued (p.queue ++ q ∷ []) m → IsQueued p.queue m ⊎ IsIn m (decoded_by q.bytes ∷ [])
     queued m h = elim (in_either h.queued p.queue (q ∷ []) h.listed) [
       | inl was ↦ inl (record { queued = h.queued; listed = was; is_request = h.is_request; shows = h.shows })
       | inr own ↦ elim own [
-        | inl is ↦ inr (inl (message_read (refusal q.bytes) (told_by q.bytes) m (ap (λ (x : Queued). stun_wire.shown x.bytes) is ∙ h.shows)))
+        | inl is ↦ inr (inl (message_read (refusal q.bytes) (decoded_by q.bytes) m (ap (λ (x : Queued). stun_wire.visible x.bytes) is ∙ h.shows)))
         | inr none ↦ absurd none
       ]
     ]
@@ -138,7 +138,7 @@ queue_more p q request = record {
       ]
     ]
 
--- no request waits but those that waited
+-- A reply that is queued adds no queued request.
 pub still_queued : (queue : List Queued) (q : Queued) → q.is_request ≡ false → (m : run.Message) → IsQueued (queue ++ q ∷ []) m → IsQueued queue m
 still_queued queue q response m h = elim (in_either h.queued queue (q ∷ []) h.listed) [
   | inl was ↦ record { queued = h.queued; listed = was; is_request = h.is_request; shows = h.shows }
@@ -148,13 +148,13 @@ still_queued queue q response m h = elim (in_either h.queued queue (q ∷ []) h.
   ]
 ]
 
--- the response to a request of the server's waits, which was not answered before
+-- The response to a request of the server's that was not answered before is queued.
 pub queue_answers : (p : Parts) (q : Queued) → q.is_request ≡ false → IsAttempted p.allocations p.queue (number_at q.bytes) → Adds [] p (record p { queue = p.queue ++ q ∷ [] })
 queue_answers p q response waits = record {
   outstanding = λ m h. inl h;
   queued = λ m h. inl (still_queued p.queue q response m h);
   taken = λ n h. inl (taken n h);
-  kept = λ h k. k;
+  stored = λ h k. k;
   waits = λ n peer h. h;
   attempted = attempted;
 }
@@ -174,13 +174,13 @@ queue_answers p q response waits = record {
       ]
     ]
 
--- a message of the queue is taken out
+-- A message is removed from the queue.
 pub queue_less : (p : Parts) (rest : List Queued) → ((x : Queued) → IsIn x rest → IsIn x p.queue) → Adds [] p (record p { queue = rest })
 queue_less p rest there = record {
   outstanding = λ m h. inl h;
   queued = λ m h. inl (record { queued = h.queued; listed = there h.queued h.listed; is_request = h.is_request; shows = h.shows });
   taken = λ n h. inl (taken n h);
-  kept = λ h k. k;
+  stored = λ h k. k;
   waits = λ n peer h. h;
   attempted = attempted;
 }
@@ -196,25 +196,25 @@ queue_less p rest there = record {
 
 -- ---- how far the client is
 
--- ALLOCATEs were sent under these numbers: they were sent before, or are among these requests
-pub phase_moved : (begun : List run.Message) (p : Parts) (phase : Phase) → ((n : ℕ) → IsIn n (numbers_sent phase) → IsIn n (numbers_sent p.phase) ⊎ HasNumber n begun) → Adds begun p (record p { phase = phase })
-phase_moved begun p phase old = record {
+-- ALLOCATEs were sent with these transaction IDs: either before, or they are among these requests.
+pub phase_moved : (started : List run.Message) (p : Parts) (phase : Phase) → ((n : ℕ) → IsIn n (numbers_sent phase) → IsIn n (numbers_sent p.phase) ⊎ HasNumber n started) → Adds started p (record p { phase = phase })
+phase_moved started p phase old = record {
   outstanding = λ m h. inl h;
   queued = λ m h. inl h;
   taken = taken;
-  kept = λ h k. k;
+  stored = λ h k. k;
   waits = λ n peer h. h;
   attempted = λ n h. h;
 }
   where
-    taken : (n : ℕ) → IsTaken (record p { phase = phase }) n → IsTaken p n ⊎ HasNumber n begun
+    taken : (n : ℕ) → IsTaken (record p { phase = phase }) n → IsTaken p n ⊎ HasNumber n started
     taken n (Outstanding t there) = inl (Outstanding t there)
     taken n (Allocating listed) = elim (old n listed) [ inl was ↦ inl (Allocating was) | inr now ↦ inr now ]
     taken n (Pending a listed is) = inl (Pending a listed is)
 
 -- ---- the allocations
 
--- an allocation has nothing that it hadn't before, and awaits nothing new but these REFRESH requests
+-- An allocation has nothing that it hadn't before, and awaits nothing new except these REFRESH requests.
 pub record IsLess (more : List PendingRefresh) (before after : Allocation) : Type 0 where
   pub transport : after.transport ≡ before.transport
   pub address : after.address ≡ before.address
@@ -227,7 +227,7 @@ pub record IsLess (more : List PendingRefresh) (before after : Allocation) : Typ
   pub waiting : (w : Waiting) → IsIn w after.waiting → IsIn w before.waiting
   pub connections : (c : Connection) → IsIn c after.connections → IsIn c before.connections
 
--- what an allocation was before
+-- What an allocation was before.
 pub record WasMore (more : List PendingRefresh) (old : List Allocation) (after : Allocation) : Type 0 where
   pub before : Allocation
   pub listed : IsIn before old
@@ -260,22 +260,22 @@ module _ (more : List PendingRefresh) (before after : Allocation) (less : IsLess
   pending_before n (OfAttempt w listed is) = inl (OfAttempt w (less.waiting w listed) is)
   pending_before n (OfBinding c listed b awaited is) = inl (OfBinding c (less.connections c listed) b awaited is)
 
--- the allocations change so; the REFRESH requests that are awaited are among those that are made
-pub allocations_less : (begun : List run.Message) (more : List PendingRefresh) (p : Parts) (new : List Allocation) → AreLess more p.allocations new
-    → ((r : PendingRefresh) → IsIn r more → HasNumber r.number begun) → Adds begun p (record p { allocations = new })
-allocations_less begun more p new less made = record {
+-- The allocations change in this way; the REFRESH requests that they await are among those that are made.
+pub allocations_less : (started : List run.Message) (more : List PendingRefresh) (p : Parts) (new : List Allocation) → AreLess more p.allocations new
+    → ((r : PendingRefresh) → IsIn r more → HasNumber r.number started) → Adds started p (record p { allocations = new })
+allocations_less started more p new less made = record {
   outstanding = λ m h. inl h;
   queued = λ m h. inl h;
   taken = taken;
-  kept = λ h k. let was = less k.allocation k.listed in record { allocation = was.before; listed = was.listed; has = has_before more was.before k.allocation was.less h k.has };
+  stored = λ h k. let was = less k.allocation k.listed in record { allocation = was.before; listed = was.listed; has = has_before more was.before k.allocation was.less h k.has };
   waits = λ n peer h. let was = less h.allocation h.listed in record { allocation = was.before; listed = was.listed; knows = knows_before more was.before h.allocation was.less n peer h.knows };
   attempted = attempted;
 }
   where
-    number_made : (n : ℕ) (r : PendingRefresh) → IsIn r more → r.number ≡ n → HasNumber n begun
+    number_made : (n : ℕ) (r : PendingRefresh) → IsIn r more → r.number ≡ n → HasNumber n started
     number_made n r listed is = let h = made r listed in record { one = h.one; listed = h.listed; is = h.is ∙ is }
 
-    taken : (n : ℕ) → IsTaken (record p { allocations = new }) n → IsTaken p n ⊎ HasNumber n begun
+    taken : (n : ℕ) → IsTaken (record p { allocations = new }) n → IsTaken p n ⊎ HasNumber n started
     taken n (Outstanding t there) = inl (Outstanding t there)
     taken n (Allocating listed) = inl (Allocating listed)
     taken n (Pending a listed is) =

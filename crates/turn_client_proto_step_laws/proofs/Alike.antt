@@ -1,4 +1,4 @@
--- What a client reads of a message is what a run tells of it.
+-- A client decodes from a message what a run says of it.
 use Rattle.std.specs.Prelude.{◌==◌, IsSome, cond, is_some}
 use Rattle.std.proofs.Common.{◌≡◌, ℕ, Bool, true, false, if◌then◌else◌, List, [], ◌∷◌, Option, Some, None, refl, sym, ap, ◌∙◌}
 use Rattle.std.proofs.lemmas.Bool.{eqb-true}
@@ -7,20 +7,20 @@ use Rattle.std.specs.List.{AllByRecursion, filter_map, find, take_while}
 use Rattle.std.specs.Option.{option_and_then}
 use Rattle.byteorder.specs.Endian.{big_number}
 use Rattle.turn_client_proto_timers.specs.StunTypesWire.Attributes.{Attr}
-use Rattle.turn_client_proto_timers.specs.StunTypesWire.Grammar.{number_at, shown}
+use Rattle.turn_client_proto_timers.specs.StunTypesWire.Grammar.{number_at, visible}
 use Rattle.turn_client_proto_timers.specs.StunTypesWrite.ValueReading.{value_refusal}
 use Rattle.turn_client_proto_recv.specs.TurnTypesAttributes.TurnRegistry.{connection_id_kind, lifetime_kind, xor_relayed_address_kind}
-use Rattle.turn_client_proto_timers.specs.TurnTypesPeer.TurnShows.{address_in, addresses_shown, each_shown, number_in, number_shown, unless_refused}
-use Rattle.turn_client_proto_timers.specs.Messages.Told.{connection_told, lifetime_told, relayed_told}
+use Rattle.turn_client_proto_timers.specs.TurnTypesPeer.TurnShows.{address_in, addresses_visible, each_visible, number_in, number_visible, unless_refused}
+use Rattle.turn_client_proto_timers.specs.Messages.Reported.{connection_reported, lifetime_reported, relayed_reported}
 
 -- ---- addresses
 
--- what is there of an option
+-- An option with a value tests as such.
 some_there : {A : Type 0} (o : Option A) → IsSome o → is_some o ≡ true
 some_there None h = absurd (Prim.cc h)
 some_there (Some x) h = refl
 
--- where all pass, none is left out
+-- If all elements pass, none is left out.
 all_taken : (number : ℕ) (all : List Attr) → AllByRecursion (λ a. IsSome (address_in number a)) all → take_while (λ a. is_some (address_in number a)) all ≡ all
 all_taken number [] each = refl
 all_taken number (a ∷ all) each =
@@ -29,12 +29,12 @@ all_taken number (a ∷ all) each =
     ∙ (ap (λ (b : Bool). cond b (a ∷ take_while p all) []) (some_there (address_in number a) each.0)
     ∙ ap (λ (l : List Attr). a ∷ l) (all_taken number all each.1))
 
-pub relayed_alike : (bytes : List ℕ) → AllByRecursion (λ a. IsSome (address_in (number_at bytes) a)) (each_shown xor_relayed_address_kind bytes) → relayed_told bytes ≡ addresses_shown xor_relayed_address_kind bytes
-relayed_alike bytes each = ap (filter_map (address_in (number_at bytes))) (all_taken (number_at bytes) (each_shown xor_relayed_address_kind bytes) each)
+pub relayed_alike : (bytes : List ℕ) → AllByRecursion (λ a. IsSome (address_in (number_at bytes) a)) (each_visible xor_relayed_address_kind bytes) → relayed_reported bytes ≡ addresses_visible xor_relayed_address_kind bytes
+relayed_alike bytes each = ap (filter_map (address_in (number_at bytes))) (all_taken (number_at bytes) (each_visible xor_relayed_address_kind bytes) each)
 
--- ---- numbers
+-- ---- transaction IDs
 
--- the number in an attribute of a type, where it is well formed
+-- The number in an attribute of this type, if it is well formed.
 abbrev in_four : ℕ → Attr → Option ℕ
 in_four kind a = unless_refused (value_refusal kind 4 4 a) (Some (big_number 4 a.value))
 
@@ -47,8 +47,8 @@ first_alike kind (a ∷ rest) =
       | false ↦ λ other. first_alike kind rest
     ] refl
 
-pub lifetime_alike : (bytes : List ℕ) → lifetime_told bytes ≡ number_shown 4 lifetime_kind bytes
-lifetime_alike bytes = first_alike lifetime_kind (shown bytes)
+pub lifetime_alike : (bytes : List ℕ) → lifetime_reported bytes ≡ number_visible 4 lifetime_kind bytes
+lifetime_alike bytes = first_alike lifetime_kind (visible bytes)
 
-pub connection_alike : (bytes : List ℕ) → connection_told bytes ≡ number_shown 4 connection_id_kind bytes
-connection_alike bytes = first_alike connection_id_kind (shown bytes)
+pub connection_alike : (bytes : List ℕ) → connection_reported bytes ≡ number_visible 4 connection_id_kind bytes
+connection_alike bytes = first_alike connection_id_kind (visible bytes)

@@ -18,12 +18,12 @@ use Rattle.turn_client_proto_timers.proofs.StunProtoAgent.Numbers.{answered_with
 use Rattle.turn_client_proto_recv.specs.TurnTypesAttributes.TurnRegistry.{allocate_method}
 use Rattle.turn_client_proto_timers.specs.TurnRuns.Members.{IsIn}
 use Rattle.turn_client_proto_timers.specs.TurnRuns.Messages as run
-use Rattle.turn_client_proto_timers.specs.TurnRuns.Steps.{ClientStep, IsAnswered, Told, WasKnown}
-use Rattle.turn_client_proto_timers.specs.TurnRuns.StunWire.{told_by}
+use Rattle.turn_client_proto_timers.specs.TurnRuns.Steps.{ClientStep, IsAnswered, Reported, WasKnown}
+use Rattle.turn_client_proto_timers.specs.TurnRuns.StunWire.{decoded_by}
 use Rattle.turn_client_proto_timers.specs.Api.declared.event.TurnEvent.TheVariants.{AllocationCreateFailed}
 use Rattle.turn_client_proto_timers.specs.Messages.Granting.{are_of_one_family, families_without, first_of_each, is_wanted}
-use Rattle.turn_client_proto_timers.specs.Messages.Telling.{created}
-use Rattle.turn_client_proto_timers.specs.Messages.Told.{relayed_told}
+use Rattle.turn_client_proto_timers.specs.Messages.Reporting.{created}
+use Rattle.turn_client_proto_timers.specs.Messages.Reported.{relayed_reported}
 use Rattle.turn_client_proto_timers.specs.Core.Allocating.{allocated, brought, phase_by}
 use Rattle.turn_client_proto_timers.specs.Core.Authenticating.{numbers_sent}
 use Rattle.turn_client_proto_timers.specs.Core.Responding.{accepted, judged}
@@ -35,23 +35,23 @@ use Rattle.turn_client_proto_step_laws.specs.Held.{Allocation}
 use Rattle.turn_client_proto_step_laws.specs.RunClient.{Client, moved, parts_of}
 use Rattle.turn_client_proto_step_laws.specs.RunSteps.{IsRunStep, call_of}
 use Rattle.turn_client_proto_step_laws.specs.Sound.{AreAllocates, IsOrderly}
-use Rattle.turn_client_proto_step_laws.proofs.Agents.{has_other, message_shown, outstanding_before}
+use Rattle.turn_client_proto_step_laws.proofs.Agents.{has_other, message_listed, outstanding_before}
 use Rattle.turn_client_proto_step_laws.proofs.Asking.{IsUnderWay}
 use Rattle.turn_client_proto_step_laws.proofs.Lists.{in_filter, in_map}
-use Rattle.turn_client_proto_step_laws.proofs.Gaining.{anything, fresh, fresh_distinct, in_firsts, kept_gained, none_asked, none_attempted, none_bound, none_connects, none_peers, none_pending, none_sent, none_short, none_twice, none_waits, relayed_shown, told_created, told_of}
+use Rattle.turn_client_proto_step_laws.proofs.Gaining.{anything, fresh, fresh_distinct, in_firsts, stored_gained, none_requested, none_attempted, none_bound, none_connects, none_peers, none_pending, none_sent, none_short, none_twice, none_waits, relayed_listed, reported_created, reported_of}
 use Rattle.turn_client_proto_step_laws.proofs.Orderly.{until_all}
-use Rattle.turn_client_proto_step_laws.proofs.Plain.{counts_none, failures_tell_nothing, held_is_kept, joined, none_told, notices}
-use Rattle.turn_client_proto_step_laws.proofs.Realms.{IsGoing, TakesRealm, realm_going, realm_kept}
+use Rattle.turn_client_proto_step_laws.proofs.Plain.{counts_none, failures_report_nothing, held_is_stored, joined, none_decoded, notices}
+use Rattle.turn_client_proto_step_laws.proofs.Realms.{IsGoing, TakesRealm, realm_going, realm_stored}
 use Rattle.turn_client_proto_step_laws.proofs.Signed.{signed_arrives}
 
 -- ---- the request
 
--- the request under a number is an ALLOCATE for the client's transport
+-- The request with this transaction ID is an ALLOCATE for the client's transport.
 pub record IsAllocateSent (c : Client) (number : ℕ) : Type 0 where
   pub transaction : Transaction
   pub there : finite.get c.core.agent.outstanding number ≡ Some transaction
-  pub method : (told_by transaction.bytes).method ≡ allocate_method
-  pub transport : (told_by transaction.bytes).transport ≡ Some c.core.allocates
+  pub method : (decoded_by transaction.bytes).method ≡ allocate_method
+  pub transport : (decoded_by transaction.bytes).transport ≡ Some c.core.allocates
 
 sent_by : (c : Client) (number : ℕ) (found : Option Transaction) → AreAllocates c.core.allocates c.core.agent → finite.get c.core.agent.outstanding number ≡ found → is_some found ≡ true → IsAllocateSent c number
 sent_by c number None are there h = absurd (Prim.cc h)
@@ -71,12 +71,12 @@ module _ (c : Client) (signer : signers.Client) (bytes : List ℕ) (lifetime now
   abbrev transport : TransportType
   transport = c.core.allocates
 
-  -- the addresses that count
+  -- The addresses that the client accepts.
   abbrev all : List SocketAddr
-  all = first_of_each are_of_one_family (filter (is_wanted c.core.families) (relayed_told bytes))
+  all = first_of_each are_of_one_family (filter (is_wanted c.core.families) (relayed_reported bytes))
 
-  abbrev gained : List Told
-  gained = map (told_of transport number) all
+  abbrev gained : List Reported
+  gained = map (reported_of transport number) all
 
   abbrev agent : Agent
   agent = after_message c.core.agent bytes c.core.server
@@ -90,10 +90,10 @@ module _ (c : Client) (signer : signers.Client) (bytes : List ℕ) (lifetime now
   shows_numbers : ShowsNumbers agent
   shows_numbers = still_shows c.core.agent agent (handled_new c.core.agent bytes c.core.server) orderly.numbers
 
-  -- each thing gained is one of the addresses
-  by_address : (P : Told → Type 0) → ((x : SocketAddr) → IsIn x all → P (told_of transport number x)) → (t : Told) → IsIn t gained → P t
+  -- Each gained item is one of the addresses.
+  by_address : (P : Reported → Type 0) → ((x : SocketAddr) → IsIn x all → P (reported_of transport number x)) → (t : Reported) → IsIn t gained → P t
   by_address P f t listed =
-      let image = in_map (told_of transport number) t all listed in
+      let image = in_map (reported_of transport number) t all listed in
       subst P (sym image.is) (f image.source image.listed)
 
   taken : (phase : Phase) → phase ≡ phase_by (map (fresh transport number lifetime now) all) → (n : ℕ)
@@ -102,35 +102,35 @@ module _ (c : Client) (signer : signers.Client) (bytes : List ℕ) (lifetime now
   taken phase is n (Allocating listed) = none_sent n (map (fresh transport number lifetime now) all) (subst (λ (f : Phase). IsIn n (numbers_sent f)) is listed)
   taken phase is n (Pending a listed pending) = none_pending transport number lifetime now all n a listed pending
 
-  answers : (t : Told) → IsIn t gained → IsAnswered client_words (call_of c (bytes ∷ []) None [] (moved c c.drawn core)) [] (run.Holds t.held) t.number
-  answers = by_address (λ (t : Told). IsAnswered client_words (call_of c (bytes ∷ []) None [] (moved c c.drawn core)) [] (run.Holds t.held) t.number) (λ x listed. record {
+  answers : (t : Reported) → IsIn t gained → IsAnswered client_words (call_of c (bytes ∷ []) None [] (moved c c.transmitted core)) [] (run.Holds t.held) t.number
+  answers = by_address (λ (t : Reported). IsAnswered client_words (call_of c (bytes ∷ []) None [] (moved c c.transmitted core)) [] (run.Holds t.held) t.number) (λ x listed. record {
     bytes = bytes;
-    response = told_by bytes;
-    arrives = signed_arrives c bytes (moved c c.drawn core) message own;
+    response = decoded_by bytes;
+    arrives = signed_arrives c bytes (moved c c.transmitted core) message own;
     number_is = refl;
-    request = told_by sent.transaction.bytes;
-    waited = inl (record { number = number; transaction = sent.transaction; there = sent.there; shows = message_shown sent.transaction.bytes (orderly.messages number sent.transaction sent.there) });
+    request = decoded_by sent.transaction.bytes;
+    waited = inl (record { number = number; transaction = sent.transaction; there = sent.there; shows = message_listed sent.transaction.bytes (orderly.messages number sent.transaction sent.there) });
     request_is = orderly.numbers number sent.transaction sent.there;
     asks = (sent.method, sent.transport);
-    brings = (success, relayed_shown bytes x (in_filter (is_wanted c.core.families) x (relayed_told bytes) (in_firsts x (filter (is_wanted c.core.families) (relayed_told bytes)) listed)).0);
+    brings = (success, relayed_listed bytes x (in_filter (is_wanted c.core.families) x (relayed_reported bytes) (in_firsts x (filter (is_wanted c.core.families) (relayed_reported bytes)) listed)).0);
   })
 
-  -- so many events tell of what was gained
-  told : notices core.events ≡ notices c.core.events ++ map (λ (t : Told). t.notice) gained
+  -- One event for each gained item is queued.
+  reported : notices core.events ≡ notices c.core.events ++ map (λ (t : Reported). t.notice) gained
   unfolding allocated accepted
-  told =
+  reported =
       let allocations : List Allocation = map (fresh transport number lifetime now) all in
-      none_told (c.core.events ++ map created allocations) (map AllocationCreateFailed (families_without c.core.families allocations)) (failures_tell_nothing (families_without c.core.families allocations))
+      none_decoded (c.core.events ++ map created allocations) (map AllocationCreateFailed (families_without c.core.families allocations)) (failures_report_nothing (families_without c.core.families allocations))
       ∙ joined c.core.events (map created allocations)
-      ∙ ap (λ (l : List run.Notice). notices c.core.events ++ l) (told_created transport number lifetime now all)
+      ∙ ap (λ (l : List run.Notice). notices c.core.events ++ l) (reported_created transport number lifetime now all)
 
-  -- the client has not ended, neither before nor afterwards
+  -- The client has not ended, neither before nor afterwards.
   realms : TakesRealm (bytes ∷ []) c.core core
   unfolding allocated accepted
   realms realm is =
-      under_way.realms realm (realm_going c.core.phase signer.challenge realm going (realm_kept (phase_by (map (fresh transport number lifetime now) all)) signer.challenge realm is))
+      under_way.realms realm (realm_going c.core.phase signer.challenge realm going (realm_stored (phase_by (map (fresh transport number lifetime now) all)) signer.challenge realm is))
 
-  step : ClientStep client_words (call_of c (bytes ∷ []) None [] (moved c c.drawn core))
+  step : ClientStep client_words (call_of c (bytes ∷ []) None [] (moved c c.transmitted core))
   unfolding allocated accepted
   step = record {
     account = refl;
@@ -138,25 +138,25 @@ module _ (c : Client) (signer : signers.Client) (bytes : List ℕ) (lifetime now
     realms = realms;
     counted = (counts_none c core refl).counted;
     few = (counts_none c core refl).few;
-    begun = [];
+    started = [];
     requests = λ m h. absurd h;
     numbered = omega arith;
     outstanding = λ m h. inl (outstanding_before c.core.agent agent (handled_new c.core.agent bytes c.core.server) m h);
     queued = λ m h. inl h;
     taken = λ n h. inl (taken (phase_by (map (fresh transport number lifetime now) all)) refl n h);
-    draws = λ drawn m h shows. absurd (Prim.cc h);
+    draws = λ generated m h shows. absurd (Prim.cc h);
     handles = λ x h. inl h;
     buffers = λ x h. inr h;
     gained = gained;
-    gains = λ h k. inr (kept_gained transport number lifetime now all h k);
+    gains = λ h k. inr (stored_gained transport number lifetime now all h k);
     answers = answers;
-    once = none_twice transport number (filter (is_wanted c.core.families) (relayed_told bytes));
-    spent = λ t m listed h same. absurd (has_other c.core.agent agent number m shows_numbers without h (same ∙ by_address (λ (x : Told). x.number ≡ number) (λ x there. refl) t listed));
-    known = by_address (λ (t : Told). WasKnown client_words c t.held) (λ x listed. tt);
-    is_of = by_address (λ (t : Told). run.IsOf t.notice t.held) (λ x listed. refl);
-    tells = told;
-    shows = λ h k. held_is_kept core.allocations h k;
-    shown = λ h i. absurd i;
+    once = none_twice transport number (filter (is_wanted c.core.families) (relayed_reported bytes));
+    spent = λ t m listed h same. absurd (has_other c.core.agent agent number m shows_numbers without h (same ∙ by_address (λ (x : Reported). x.number ≡ number) (λ x there. refl) t listed));
+    known = by_address (λ (t : Reported). WasKnown client_words c t.held) (λ x listed. tt);
+    is_of = by_address (λ (t : Reported). run.IsOf t.notice t.held) (λ x listed. refl);
+    decodes = reported;
+    shows = λ h k. held_is_stored core.allocations h k;
+    visible = λ h i. absurd i;
     waits = λ n peer w. none_waits transport number lifetime now all n peer w;
     attempted = λ n h. inl (none_attempted transport number lifetime now all c.core.allocations c.core.queue n h);
     delivers = λ p h. absurd h;
@@ -166,7 +166,7 @@ module _ (c : Client) (signer : signers.Client) (bytes : List ℕ) (lifetime now
   pub allocated_step : IsRunStep c (bytes ∷ []) None [] core
   unfolding allocated accepted
   allocated_step = record {
-    after = moved c c.drawn core;
+    after = moved c c.transmitted core;
     core_is = refl;
     waits = refl;
     step = step;
@@ -177,7 +177,7 @@ module _ (c : Client) (signer : signers.Client) (bytes : List ℕ) (lifetime now
         allocates = anything _ (map (fresh transport number lifetime now) all);
         queued = orderly.queued;
         lifetimes = λ a listed. none_short transport number lifetime now all a listed;
-        permissions = λ a listed. none_asked transport number lifetime now all agent a listed;
+        permissions = λ a listed. none_requested transport number lifetime now all agent a listed;
         channels = λ a listed. none_bound transport number lifetime now all agent a listed;
         peers = λ a listed. none_peers transport number lifetime now all a listed;
         connects = λ a listed. none_connects transport number lifetime now all agent a listed;

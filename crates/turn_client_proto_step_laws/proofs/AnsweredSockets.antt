@@ -1,4 +1,4 @@
--- What a message that came over the socket of a connection makes of what came over sockets.
+-- What a message from the socket of a connection does to the bytes buffered from sockets.
 use Rattle.std.proofs.Common.{◌≡◌, ℕ, ◌==◌, Bool, true, false, ◌&&◌, List, [], map, Option, Some, None, Ok, Err, refl, sym, ap, ◌∙◌, subst, inl, inr}
 use Rattle.std.specs.List.{find}
 use Rattle.std.specs.Prelude.{is_none, length, not, option_and_then}
@@ -11,11 +11,11 @@ use Rattle.turn_client_proto_timers.specs.StunProtoAgent.Handling.{is_awaited}
 use Rattle.turn_client_proto_timers.specs.TurnRuns.Members.{IsIn}
 use Rattle.turn_client_proto_timers.specs.Connection.Sockets.{closed, has_from, is_from}
 use Rattle.turn_client_proto_timers.specs.Connection.Streams.{awaiting, first_raw, from, has_raw, waits_from, waits_in}
-use Rattle.turn_client_proto_recv.specs.Hearing.{IsAnswerHeard, IsAnswerJudged, IsAskedAnew, IsHeardAt, IsOfBinding, IsSettled, asked_anew, awaited_at, bound_at, broken_off, is_answer, is_of_binding, is_success_class}
-use Rattle.turn_client_proto_recv.specs.declared.hearing.Joining.{Joining}
+use Rattle.turn_client_proto_recv.specs.Processing.{IsAnswerProcessed, IsAnswerJudged, IsRequestedAnew, IsProcessedAt, IsOfBinding, IsSettled, requested_anew, awaited_at, bound_at, aborted, is_answer, is_of_binding, is_success_class}
+use Rattle.turn_client_proto_recv.specs.declared.processing.Joining.{Joining}
 use Rattle.turn_client_proto_timers.specs.Allocation.Same.{is_same_address}
 use Rattle.turn_client_proto_recv.specs.Sockets.{binding_time}
-use Rattle.turn_client_proto_timers.specs.StunTypesBase.Moments.{moment_after}
+use Rattle.turn_client_proto_timers.specs.StunTypesBase.Times.{time_after}
 use Rattle.turn_client_proto_timers.specs.Core.Responding.{accepted, answered, judged}
 use Rattle.turn_client_proto_timers.specs.Core.declared.protocol.Protocol.{Protocol}
 use Rattle.turn_client_proto_step_laws.specs.Held.{Allocation, Binding, Connection}
@@ -31,41 +31,42 @@ use Rattle.turn_client_proto_step_laws.proofs.Streaming.{from_first, from_here}
 
 -- ---- what becomes of the allocations
 
--- they stay; or connections of an own address go; or the first of it awaits something else, or is bound
+-- The allocations stay; or the connections with this own address are removed; or the first of them awaits
+-- another response, or is bound.
 pub data IsLeft (here : SocketAddr) (old new : List Allocation) : Type 0 where
   Stays : new ≡ old → IsLeft here old new
   Goes : new ≡ map (closed here) old → IsLeft here old new
   Turns : (awaited : Option Binding) → new ≡ waits_from here awaited old → IsLeft here old new
 
 module _ (here : SocketAddr) (bytes : List ℕ) (now : ℕ) (new : Protocol) where
-  breaks : (peer : SocketAddr) (p : Protocol) → new ≡ broken_off here peer p → IsLeft here p.allocations new.allocations
-  unfolding broken_off
+  breaks : (peer : SocketAddr) (p : Protocol) → new ≡ aborted here peer p → IsLeft here p.allocations new.allocations
+  unfolding aborted
   breaks peer p is = Goes (ap (λ (x : Protocol). x.allocations) is)
 
-  breaks_accepted : (peer : SocketAddr) (p : Protocol) → new ≡ broken_off here peer (accepted bytes p) → IsLeft here p.allocations new.allocations
-  unfolding broken_off accepted
+  breaks_accepted : (peer : SocketAddr) (p : Protocol) → new ≡ aborted here peer (accepted bytes p) → IsLeft here p.allocations new.allocations
+  unfolding aborted accepted
   breaks_accepted peer p is = Goes (ap (λ (x : Protocol). x.allocations) is)
 
-  breaks_answered : (peer : SocketAddr) (p : Protocol) → new ≡ broken_off here peer (answered bytes p) → IsLeft here p.allocations new.allocations
-  unfolding broken_off answered
+  breaks_answered : (peer : SocketAddr) (p : Protocol) → new ≡ aborted here peer (answered bytes p) → IsLeft here p.allocations new.allocations
+  unfolding aborted answered
   breaks_answered peer p is = Goes (ap (λ (x : Protocol). x.allocations) is)
 
   binds : (peer : SocketAddr) (p : Protocol) → new ≡ bound_at here peer (accepted bytes p) → IsLeft here p.allocations new.allocations
   unfolding bound_at accepted
   binds peer p is = Turns None (ap (λ (x : Protocol). x.allocations) is)
 
-  asks_anew : (connection : ℕ) (p : Protocol) → IsAskedAnew here connection now p new → IsLeft here p.allocations new.allocations
-  unfolding asked_anew
-  asks_anew connection p is = Turns (Some (record { number = is.number; expiry = moment_after now binding_time })) (ap (λ (x : Protocol). x.allocations) is.after)
+  asks_anew : (connection : ℕ) (p : Protocol) → IsRequestedAnew here connection now p new → IsLeft here p.allocations new.allocations
+  unfolding requested_anew
+  asks_anew connection p is = Turns (Some (record { number = is.number; expiry = time_after now binding_time })) (ap (λ (x : Protocol). x.allocations) is.after)
 
   settles : (peer : SocketAddr) (p : Protocol) → IsSettled here peer p bytes new → IsLeft here p.allocations new.allocations
   settles peer p h =
       by_test (is_awaited p.agent bytes)
       (λ (_ : is_awaited p.agent bytes ≡ true) one. by_test (is_success_class (class_of (kind_at bytes)))
       (λ (_ : is_success_class (class_of (kind_at bytes)) ≡ true) (o : new ≡ bound_at here peer (accepted bytes p)). binds peer p o)
-      (λ (_ : is_success_class (class_of (kind_at bytes)) ≡ false) (o : new ≡ broken_off here peer (accepted bytes p)). breaks_accepted peer p o)
+      (λ (_ : is_success_class (class_of (kind_at bytes)) ≡ false) (o : new ≡ aborted here peer (accepted bytes p)). breaks_accepted peer p o)
       one)
-      (λ (_ : is_awaited p.agent bytes ≡ false) (o : new ≡ broken_off here peer p). breaks peer p o) h
+      (λ (_ : is_awaited p.agent bytes ≡ false) (o : new ≡ aborted here peer p). breaks peer p o) h
 
   judges : (verdict : Verdict) (j : Joining) (p : Protocol) → IsAnswerJudged verdict here j p bytes now new → IsLeft here p.allocations new.allocations
   judges (Ok (ResendRequest choice)) j p h = asks_anew j.connection p h
@@ -80,27 +81,27 @@ module _ (here : SocketAddr) (bytes : List ℕ) (now : ℕ) (new : Protocol) whe
     of_binding None h = Stays (ap (λ (x : Protocol). x.allocations) h)
     of_binding (Some j) h =
         by_test (is_answer j.number bytes)
-        (λ (_ : is_answer j.number bytes ≡ true) (o : IsAnswerHeard here j old bytes now new). judges o.verdict j (judged o.auth old) o.outcome)
-        (λ (_ : is_answer j.number bytes ≡ false) (o : new ≡ broken_off here j.peer old). breaks j.peer old o) h
+        (λ (_ : is_answer j.number bytes ≡ true) (o : IsAnswerProcessed here j old bytes now new). judges o.verdict j (judged o.auth old) o.outcome)
+        (λ (_ : is_answer j.number bytes ≡ false) (o : new ≡ aborted here j.peer old). breaks j.peer old o) h
 
-    pub heard_left : IsHeardAt here old bytes now new → IsLeft here old.allocations new.allocations
-    heard_left is =
+    pub processed_left : IsProcessedAt here old bytes now new → IsLeft here old.allocations new.allocations
+    processed_left is =
         by_test (is_of_binding old bytes)
         (λ (_ : is_of_binding old bytes ≡ true) (o : IsOfBinding (awaited_at here old.allocations) here old bytes now new). of_binding (awaited_at here old.allocations) o)
         (λ (_ : is_of_binding old bytes ≡ false) (o : new ≡ old). Stays (ap (λ (x : Protocol). x.allocations) o)) is
 
 -- ---- bytes that wait
 
--- nothing is kept of what came over the socket of an own address
+-- Nothing is buffered of what came over the socket with this own address.
 abbrev pub IsEmptyAt : SocketAddr → List Allocation → Type 0
-IsEmptyAt here all = (k : Connection) → from here all ≡ Some k → k.stream.kept ≡ []
+IsEmptyAt here all = (k : Connection) → from here all ≡ Some k → k.stream.stored ≡ []
 
 never_both : (b : Bool) → (b && false) ≡ true → ⊥
 never_both true h = Prim.cc h
 never_both false h = Prim.cc h
 
-nothing_raw : (awaited : Option Binding) (kept : List ℕ) → kept ≡ [] → (is_none awaited && not (length kept == 0)) ≡ true → ⊥
-nothing_raw awaited kept none h = never_both (is_none awaited) (subst (λ (l : List ℕ). (is_none awaited && not (length l == 0)) ≡ true) none h)
+nothing_raw : (awaited : Option Binding) (stored : List ℕ) → stored ≡ [] → (is_none awaited && not (length stored == 0)) ≡ true → ⊥
+nothing_raw awaited stored none h = never_both (is_none awaited) (subst (λ (l : List ℕ). (is_none awaited && not (length l == 0)) ≡ true) none h)
 
 module _ (here : SocketAddr) (all : List Allocation) where
   turned_raw : (awaited : Option Binding) → IsEmptyAt here all → NoneRaw all → NoneRaw (waits_from here awaited all)
@@ -114,7 +115,7 @@ module _ (here : SocketAddr) (all : List Allocation) where
           | inr own ↦
               let k = own.0 in
               let is : from here all ≡ Some k = ap (option_and_then (λ (x : Allocation). find (is_from here) x.connections)) changed.1 ∙ own.1 in
-              nothing_raw awaited k.stream.kept (nothing k is) (subst (λ (x : Connection). has_raw x ≡ true) own.2 raw)
+              nothing_raw awaited k.stream.stored (nothing k is) (subst (λ (x : Connection). has_raw x ≡ true) own.2 raw)
         ]
   ]
 
@@ -123,19 +124,19 @@ module _ (here : SocketAddr) (all : List Allocation) where
   left_none new (Goes is) nothing none = ap first_raw is ∙ still_none all (map (closed here) all) (of_less all (map (closed here) all) (each_less [] (closed here) (closed_less here) all)) none
   left_none new (Turns awaited is) nothing none = ap first_raw is ∙ raw_none (waits_from here awaited all) (turned_raw awaited nothing (none_raw all none))
 
-pub answered_none : (old new : Protocol) (here : SocketAddr) (bytes : List ℕ) (now : ℕ) → IsHeardAt here old bytes now new → IsEmptyAt here old.allocations → first_raw old.allocations ≡ None → first_raw new.allocations ≡ None
-answered_none old new here bytes now is nothing none = left_none here old.allocations new.allocations (heard_left here bytes now new old is) nothing none
+pub answered_none : (old new : Protocol) (here : SocketAddr) (bytes : List ℕ) (now : ℕ) → IsProcessedAt here old bytes now new → IsEmptyAt here old.allocations → first_raw old.allocations ≡ None → first_raw new.allocations ≡ None
+answered_none old new here bytes now is nothing none = left_none here old.allocations new.allocations (processed_left here bytes now new old is) nothing none
 
--- ---- what is kept of each stream
+-- ---- what is stored of each stream
 
--- the connection of an own address was there, and keeps the same
+-- The connection with this own address was there before, and its stream is unchanged.
 pub record IsKeeping (there : SocketAddr) (old : List Allocation) (k : Connection) : Type 0 where
   pub before : Connection
   pub was : from there old ≡ Some before
   pub same : k.stream ≡ before.stream
 
 module _ (here there : SocketAddr) (all : List Allocation) where
-  -- what is found of an allocation that is found
+  -- What is found in an allocation that is found.
   joined_found : (x : Allocation) (k : Connection) → find (has_from there) all ≡ Some x → find (is_from there) x.connections ≡ Some k → from there all ≡ Some k
   joined_found x k found at = ap (option_and_then (λ (y : Allocation). find (is_from there) y.connections)) found ∙ at
 
@@ -187,5 +188,5 @@ module _ (here there : SocketAddr) (all : List Allocation) where
   left_keeps new (Goes is) k found = gone_keeps k (ap (from there) (sym is) ∙ found)
   left_keeps new (Turns awaited is) k found = turned_keeps awaited k (ap (from there) (sym is) ∙ found)
 
-pub answered_keeps : (old new : Protocol) (here there : SocketAddr) (bytes : List ℕ) (now : ℕ) (k : Connection) → IsHeardAt here old bytes now new → from there new.allocations ≡ Some k → IsKeeping there old.allocations k
-answered_keeps old new here there bytes now k is found = left_keeps here there old.allocations new.allocations (heard_left here bytes now new old is) k found
+pub answered_keeps : (old new : Protocol) (here there : SocketAddr) (bytes : List ℕ) (now : ℕ) (k : Connection) → IsProcessedAt here old bytes now new → from there new.allocations ≡ Some k → IsKeeping there old.allocations k
+answered_keeps old new here there bytes now k is found = left_keeps here there old.allocations new.allocations (processed_left here bytes now new old is) k found

@@ -1,4 +1,5 @@
--- A channel that a request asks for, or that it is to renew: its peer can be named, and what is outstanding asks for it.
+-- A channel that a request asks for or renews: XOR-PEER-ADDRESS carries its peer completely, and the
+-- outstanding request asks for it.
 use Rattle.std.proofs.Common.{◌≡◌, ℕ, Some, sym, ap, ◌∙◌, subst}
 use Rattle.std.specs.FinMap as map
 use Rattle.std.specs.List.{find}
@@ -8,19 +9,19 @@ use Rattle.turn_client_proto_timers.specs.StunProtoTransaction.Agents.{Transacti
 use Rattle.turn_client_proto_timers.specs.TurnRuns.Members.{IsIn}
 use Rattle.turn_client_proto_timers.specs.TurnRuns.Messages as run
 use Rattle.turn_client_proto_timers.specs.TurnRuns.Names.{socket_ip}
-use Rattle.turn_client_proto_timers.specs.TurnRuns.StunWire.{told_by}
+use Rattle.turn_client_proto_timers.specs.TurnRuns.StunWire.{decoded_by}
 use Rattle.turn_client_proto_timers.specs.Allocation.Awaited.{asks_for_channel, asks_for_permission, renews_channel}
-use Rattle.turn_client_proto_timers.specs.Allocation.Requested.{awaits_reply}
-use Rattle.turn_client_proto_timers.specs.Allocation.declared.requested.Asked.TheVariants.{ChannelRenewal, NewChannel}
+use Rattle.turn_client_proto_timers.specs.Allocation.PendingRequests.{awaits_reply}
+use Rattle.turn_client_proto_timers.specs.Allocation.declared.pending.PendingRequest.TheVariants.{ChannelRenewal, NewChannel}
 use Rattle.turn_client_proto_step_laws.specs.Held.{Allocation, Channel, PendingChannel, PendingPermission}
 use Rattle.turn_client_proto_step_laws.specs.RunClient.{Parts}
 use Rattle.turn_client_proto_step_laws.specs.Sound.{AsksFor, IsOrderly, IsWhole}
-use Rattle.turn_client_proto_step_laws.proofs.Awaited.{IsAskedOf, IsFoundBy, OfAskedChannel, OfConnection, OfLifetime, OfNew, OfRenewal, OfRenewedChannel}
+use Rattle.turn_client_proto_step_laws.proofs.Awaited.{IsRequestedOf, IsFoundBy, OfRequestedChannel, OfConnection, OfLifetime, OfNew, OfRenewal, OfRenewedChannel}
 use Rattle.turn_client_proto_step_laws.proofs.Lists.{found_in, found_passes, inside}
 use Rattle.turn_client_proto_step_laws.proofs.Permits.{same_peer}
 use Rattle.turn_client_proto_step_laws.proofs.Taken.{among}
 
--- the first allocation that awaits the response to a request, and a channel to which that belongs
+-- The first allocation that awaits the response to a request, and the channel of that request.
 pub record IsChannelOf (p : Parts) (number : ℕ) (transport : TransportType) (channel : ℕ) (peer : SocketAddr) : Type 0 where
   pub allocation : Allocation
   pub found : find (awaits_reply number) p.allocations ≡ Some allocation
@@ -30,7 +31,7 @@ pub record IsChannelOf (p : Parts) (number : ℕ) (transport : TransportType) (c
   pub asks : AsksFor p.agent (run.Channel channel peer) number
 
 module _ (p : Parts) (number : ℕ) (transport : TransportType) (channel : ℕ) (peer : SocketAddr) (orderly : IsOrderly p) where
-  -- what is so of a channel is so of this one
+  -- What holds of a channel holds of one with an equal number and peer.
   alike : (n : ℕ) (to : SocketAddr) → n ≡ channel → to ≡ peer → AsksFor p.agent (run.Channel n to) number → AsksFor p.agent (run.Channel channel peer) number
   alike n to same like asks =
       subst (λ (k : ℕ). AsksFor p.agent (run.Channel k peer) number) same (subst (λ (x : SocketAddr). AsksFor p.agent (run.Channel n x) number) like asks)
@@ -39,8 +40,8 @@ module _ (p : Parts) (number : ℕ) (transport : TransportType) (channel : ℕ) 
     there : IsIn a p.allocations
     there = found_in (awaits_reply number) p.allocations a found
 
-    pub asked_channel : (c : PendingChannel) → find (asks_for_channel number) a.pending_channels ≡ Some c → a.transport ≡ transport → c.channel ≡ channel → c.peer ≡ peer → IsChannelOf p number transport channel peer
-    asked_channel c at is_transport same like =
+    pub requested_channel : (c : PendingChannel) → find (asks_for_channel number) a.pending_channels ≡ Some c → a.transport ≡ transport → c.channel ≡ channel → c.peer ≡ peer → IsChannelOf p number transport channel peer
+    requested_channel c at is_transport same like =
         let listed = found_in (asks_for_channel number) a.pending_channels c at in
         let has = among number c.numbers (found_passes (asks_for_channel number) a.pending_channels c at) in
         record {
@@ -48,8 +49,8 @@ module _ (p : Parts) (number : ℕ) (transport : TransportType) (channel : ℕ) 
           found = found;
           listed = there;
           is_transport = is_transport;
-          whole = subst IsWhole like ((orderly.peers a there).asked c listed);
-          asks = alike c.channel c.peer same like ((orderly.channels a there).asked c listed number has);
+          whole = subst IsWhole like ((orderly.peers a there).requested c listed);
+          asks = alike c.channel c.peer same like ((orderly.channels a there).requested c listed number has);
         }
 
     pub renewed_channel : (c : Channel) → find (renews_channel number) a.channels ≡ Some c → a.transport ≡ transport → c.number ≡ channel → c.peer ≡ peer → IsChannelOf p number transport channel peer
@@ -65,54 +66,54 @@ module _ (p : Parts) (number : ℕ) (transport : TransportType) (channel : ℕ) 
           asks = alike c.number c.peer same like ((orderly.channels a there).renewed c listed number has);
         }
 
-    asked_of_channel : IsAskedOf number a (NewChannel transport channel peer) → IsChannelOf p number transport channel peer
-    asked_of_channel (OfLifetime l at same) = absurd (Prim.cc same)
-    asked_of_channel (OfAskedChannel c at same) = asked_channel c at (Prim.cc same) (Prim.cc same) (Prim.cc same)
-    asked_of_channel (OfRenewedChannel c at same) = absurd (Prim.cc same)
-    asked_of_channel (OfNew q at same) = absurd (Prim.cc same)
-    asked_of_channel (OfRenewal q at same) = absurd (Prim.cc same)
-    asked_of_channel (OfConnection k at same) = absurd (Prim.cc same)
+    requested_of_channel : IsRequestedOf number a (NewChannel transport channel peer) → IsChannelOf p number transport channel peer
+    requested_of_channel (OfLifetime l at same) = absurd (Prim.cc same)
+    requested_of_channel (OfRequestedChannel c at same) = requested_channel c at (Prim.cc same) (Prim.cc same) (Prim.cc same)
+    requested_of_channel (OfRenewedChannel c at same) = absurd (Prim.cc same)
+    requested_of_channel (OfNew q at same) = absurd (Prim.cc same)
+    requested_of_channel (OfRenewal q at same) = absurd (Prim.cc same)
+    requested_of_channel (OfConnection k at same) = absurd (Prim.cc same)
 
-    renewed_of_channel : IsAskedOf number a (ChannelRenewal transport channel peer) → IsChannelOf p number transport channel peer
+    renewed_of_channel : IsRequestedOf number a (ChannelRenewal transport channel peer) → IsChannelOf p number transport channel peer
     renewed_of_channel (OfLifetime l at same) = absurd (Prim.cc same)
-    renewed_of_channel (OfAskedChannel c at same) = absurd (Prim.cc same)
+    renewed_of_channel (OfRequestedChannel c at same) = absurd (Prim.cc same)
     renewed_of_channel (OfRenewedChannel c at same) = renewed_channel c at (Prim.cc same) (Prim.cc same) (Prim.cc same)
     renewed_of_channel (OfNew q at same) = absurd (Prim.cc same)
     renewed_of_channel (OfRenewal q at same) = absurd (Prim.cc same)
     renewed_of_channel (OfConnection k at same) = absurd (Prim.cc same)
 
-  -- one that was asked for
+  -- A channel that is requested.
   pub channel_of : IsFoundBy number p.allocations (NewChannel transport channel peer) → IsChannelOf p number transport channel peer
-  channel_of first = asked_of_channel first.allocation first.found first.is
+  channel_of first = requested_of_channel first.allocation first.found first.is
 
-  -- one that is to be renewed
+  -- A channel that is renewed.
   pub renewal_of : IsFoundBy number p.allocations (ChannelRenewal transport channel peer) → IsChannelOf p number transport channel peer
   renewal_of first = renewed_of_channel first.allocation first.found first.is
 
-  -- a permission for which that request asks, too, is that of the channel's peer
+  -- A permission that the request also asks for is that of the channel's peer.
   pub permission_of : (is : IsChannelOf p number transport channel peer) (t : Transaction) → map.get p.agent.outstanding number ≡ Some t
       → (a : Allocation) → IsIn a p.allocations → (q : PendingPermission) → find (asks_for_permission number) a.pending_permissions ≡ Some q → socket_ip peer ≡ q.ip
   permission_of is t outstanding a listed q at =
       let has = among number q.numbers (found_passes (asks_for_permission number) a.pending_permissions q at) in
       let member = found_in (asks_for_permission number) a.pending_permissions q at in
-      same_peer (told_by t.bytes) channel peer a.transport q.ip (is.asks t outstanding) (orderly.permissions a listed q member number has t outstanding)
+      same_peer (decoded_by t.bytes) channel peer a.transport q.ip (is.asks t outstanding) (orderly.permissions a listed q member number has t outstanding)
 
 -- ---- the channel that was found
 
 module _ (number : ℕ) (a : Allocation) (transport : TransportType) (channel : ℕ) (peer : SocketAddr) where
-  -- the first one that a request asks for has the number and the peer of what is asked for
-  pub first_asked : IsAskedOf number a (NewChannel transport channel peer) → (c : PendingChannel) → find (asks_for_channel number) a.pending_channels ≡ Some c → (c.channel ≡ channel) × (c.peer ≡ peer)
-  first_asked (OfLifetime l at same) c found = absurd (Prim.cc same)
-  first_asked (OfAskedChannel b at same) c found = let own : c ≡ b = inside (sym found ∙ at) in (ap (λ (x : PendingChannel). x.channel) own ∙ Prim.cc same, ap (λ (x : PendingChannel). x.peer) own ∙ Prim.cc same)
-  first_asked (OfRenewedChannel b at same) c found = absurd (Prim.cc same)
-  first_asked (OfNew q at same) c found = absurd (Prim.cc same)
-  first_asked (OfRenewal q at same) c found = absurd (Prim.cc same)
-  first_asked (OfConnection k at same) c found = absurd (Prim.cc same)
+  -- The first channel that the request asks for has the number and the peer of what is requested.
+  pub first_requested : IsRequestedOf number a (NewChannel transport channel peer) → (c : PendingChannel) → find (asks_for_channel number) a.pending_channels ≡ Some c → (c.channel ≡ channel) × (c.peer ≡ peer)
+  first_requested (OfLifetime l at same) c found = absurd (Prim.cc same)
+  first_requested (OfRequestedChannel b at same) c found = let own : c ≡ b = inside (sym found ∙ at) in (ap (λ (x : PendingChannel). x.channel) own ∙ Prim.cc same, ap (λ (x : PendingChannel). x.peer) own ∙ Prim.cc same)
+  first_requested (OfRenewedChannel b at same) c found = absurd (Prim.cc same)
+  first_requested (OfNew q at same) c found = absurd (Prim.cc same)
+  first_requested (OfRenewal q at same) c found = absurd (Prim.cc same)
+  first_requested (OfConnection k at same) c found = absurd (Prim.cc same)
 
-  -- and so the first one that it is to renew
-  pub first_renewed : IsAskedOf number a (ChannelRenewal transport channel peer) → (c : Channel) → find (renews_channel number) a.channels ≡ Some c → (c.number ≡ channel) × (c.peer ≡ peer)
+  -- So has the first channel that the request renews.
+  pub first_renewed : IsRequestedOf number a (ChannelRenewal transport channel peer) → (c : Channel) → find (renews_channel number) a.channels ≡ Some c → (c.number ≡ channel) × (c.peer ≡ peer)
   first_renewed (OfLifetime l at same) c found = absurd (Prim.cc same)
-  first_renewed (OfAskedChannel b at same) c found = absurd (Prim.cc same)
+  first_renewed (OfRequestedChannel b at same) c found = absurd (Prim.cc same)
   first_renewed (OfRenewedChannel b at same) c found = let own : c ≡ b = inside (sym found ∙ at) in (ap (λ (x : Channel). x.number) own ∙ Prim.cc same, ap (λ (x : Channel). x.peer) own ∙ Prim.cc same)
   first_renewed (OfNew q at same) c found = absurd (Prim.cc same)
   first_renewed (OfRenewal q at same) c found = absurd (Prim.cc same)

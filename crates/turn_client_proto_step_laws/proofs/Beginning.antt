@@ -1,4 +1,4 @@
--- A new client is sound, and nothing was asked of it.
+-- The invariant holds of a new client, and nothing was called on it.
 use Rattle.std.proofs.Common.{◌≡◌, ℕ, ◌*◌, ◌≤◌, List, length, Some, None, refl, sym, ap, ◌∙◌, subst}
 use Rattle.std.specs.FinMap as map
 use Rattle.std.specs.Ordering.{nat_cmp}
@@ -97,7 +97,7 @@ module _ (transport : TransportType) (here server : SocketAddr) (config : Config
     none_outstanding = λ m h. none_there h.number h.transaction h.there;
     none_queued = λ m h. none_queued h.queued h.listed;
     none_taken = none_taken;
-    none_kept = λ h k. none_listed k.allocation k.listed;
+    none_stored = λ h k. none_listed k.allocation k.listed;
     none_waits = λ number peer h. none_listed h.allocation h.listed;
     none_attempted = none_attempted;
     none_buffered = λ bytes h. absurd h;

@@ -1,4 +1,5 @@
--- An allocation after each call that changes its channels: what is new was gained, and requests are known.
+-- An allocation after each call that changes its channels: what is new was gained, and its requests are
+-- known.
 use Rattle.std.proofs.Common.{◌≡◌, ℕ, true, false, not, List, [], ◌∷◌, ◌++◌, Option, Some, if◌then◌else◌, map, refl, sym, subst}
 use Rattle.std.specs.List.{filter, find, list_any}
 use Rattle.std.specs.Option.{option_map}
@@ -9,47 +10,47 @@ use Rattle.turn_client_proto_timers.specs.TurnRuns.Messages as run
 use Rattle.turn_client_proto_timers.specs.TurnRuns.Names.{socket_ip}
 use Rattle.turn_client_proto_timers.specs.Allocation.Awaited.{asks_for_channel, asks_for_permission, renews_channel, renews_permission}
 use Rattle.turn_client_proto_timers.specs.Allocation.Permissions as permissions
-use Rattle.turn_client_proto_timers.specs.Allocation.Requested.{asked_too, permission_too}
+use Rattle.turn_client_proto_timers.specs.Allocation.PendingRequests.{reissued_under, permission_too}
 use Rattle.turn_client_proto_timers.specs.Peers.Channel.Binding.{asking}
-use Rattle.turn_client_proto_timers.specs.Allocation.Channels.{asked_again, has_lapsed, is_over, lapsed_of, not_asked_by, not_forgotten, not_over, not_renewed_by, polled_channel, renewed_again, renewed_channel, renewed_first, wants_renewal}
-use Rattle.turn_client_proto_timers.specs.Peers.Channel.Granted.{bound, channel_end, granted_to, let_lapse, renewed, turned_down}
-use Rattle.turn_client_proto_timers.specs.Peers.Channel.Lapsing.{lapsed, lapsing, last_place, polled, without}
+use Rattle.turn_client_proto_timers.specs.Allocation.Channels.{requested_again, has_expired, is_over, expired_of, not_pending_request, not_forgotten, not_over, not_renewed_by, polled_channel, renewed_again, renewed_channel, renewed_first, wants_renewal}
+use Rattle.turn_client_proto_timers.specs.Peers.Channel.Granted.{bound, channel_end, granted_to, expire_due, renewed, rejected}
+use Rattle.turn_client_proto_timers.specs.Peers.Channel.Expiring.{expired, expiring, last_index, polled, without}
 use Rattle.turn_client_proto_timers.specs.Peers.Channel.Wanting.{renewing}
-use Rattle.turn_client_proto_timers.specs.Allocation.declared.requested.Asked.TheVariants.{ChannelRenewal, NewChannel}
+use Rattle.turn_client_proto_timers.specs.Allocation.declared.pending.PendingRequest.TheVariants.{ChannelRenewal, NewChannel}
 use Rattle.turn_client_proto_timers.specs.Core.Binding.{asking_channel, permission_beside}
 use Rattle.turn_client_proto_timers.specs.Peers.Permission.Asking.{knows}
 use Rattle.turn_client_proto_timers.specs.Messages.declared.request.TurnRequest.TheVariants.{ChannelBind}
-use Rattle.turn_client_proto_step_laws.specs.Held.{Allocation, Channel, LapsedChannel, PendingChannel, PendingPermission}
-use Rattle.turn_client_proto_step_laws.proofs.Chaining.{both_permitting, lapsed_permitting}
+use Rattle.turn_client_proto_step_laws.specs.Held.{Allocation, Channel, ExpiredChannel, PendingChannel, PendingPermission}
+use Rattle.turn_client_proto_step_laws.proofs.Chaining.{both_permitting, expired_permitting}
 use Rattle.turn_client_proto_step_laws.proofs.Channels.{all_polled, all_renewed, fewer, fewer_wanted, once_more as channel_once_more, one_awaiting as channel_awaiting, one_more as one_channel_more}
 use Rattle.turn_client_proto_step_laws.proofs.Permissions.{once_more, one_awaiting, one_more}
 use Rattle.turn_client_proto_step_laws.proofs.Permits.{asks_by, binds_channel, permits_peer}
 use Rattle.turn_client_proto_step_laws.proofs.Permitting.{Asking, Gaining, IsNow, IsPermitting, bound_itself, itself, kin_itself, known_itself, none_asks, none_gained, wanted_itself, with_channel, with_channels, with_lists}
 
--- ---- as time goes on
+-- ---- as time passes
 
 pub polled_permitting : (over : Option ℕ) (now : ℕ) (a : Allocation) → IsPermitting none_gained none_asks a (polled over now a)
-unfolding polled lapsed
+unfolding polled expired
 polled_permitting over now a =
-    let place : Option ℕ = last_place (has_lapsed now) a.channels in
-    let channels : List Channel = map (polled_channel over) (without a.channels place) in
+    let index : Option ℕ = last_index (has_expired now) a.channels in
+    let channels : List Channel = map (polled_channel over) (without a.channels index) in
     let wanted : List PendingChannel = not_over over a.pending_channels in
-    let gone : List LapsedChannel = not_forgotten now (a.lapsed_channels ++ option_to_list (option_map lapsed_of (lapsing now a.channels))) in
-    lapsed_permitting none_gained none_asks a (record a { channels = channels; pending_channels = wanted }) gone
-    (with_channels none_gained none_asks a channels wanted (all_polled none_asks a.channels over place) (fewer_wanted none_asks a.pending_channels (λ c. not (is_over over c))))
+    let gone : List ExpiredChannel = not_forgotten now (a.expired_channels ++ option_to_list (option_map expired_of (expiring now a.channels))) in
+    expired_permitting none_gained none_asks a (record a { channels = channels; pending_channels = wanted }) gone
+    (with_channels none_gained none_asks a channels wanted (all_polled none_asks a.channels over index) (fewer_wanted none_asks a.pending_channels (λ c. not (is_over over c))))
 
 -- ---- a response
 
-pub turned_down_permitting : (number : ℕ) (a : Allocation) → IsPermitting none_gained none_asks a (turned_down number a)
-unfolding turned_down
-turned_down_permitting number a =
-    with_channels none_gained none_asks a a.channels (not_asked_by number a.pending_channels)
+pub rejected_permitting : (number : ℕ) (a : Allocation) → IsPermitting none_gained none_asks a (rejected number a)
+unfolding rejected
+rejected_permitting number a =
+    with_channels none_gained none_asks a a.channels (not_pending_request number a.pending_channels)
     (bound_itself none_asks a.channels) (fewer_wanted none_asks a.pending_channels (λ c. not (asks_for_channel number c)))
 
-pub let_lapse_permitting : (number : ℕ) (a : Allocation) → IsPermitting none_gained none_asks a (let_lapse number a)
-unfolding let_lapse
-let_lapse_permitting number a =
-    lapsed_permitting none_gained none_asks a (record a { channels = not_renewed_by number a.channels }) (a.lapsed_channels ++ map lapsed_of (filter (renews_channel number) a.channels))
+pub expire_due_permitting : (number : ℕ) (a : Allocation) → IsPermitting none_gained none_asks a (expire_due number a)
+unfolding expire_due
+expire_due_permitting number a =
+    expired_permitting none_gained none_asks a (record a { channels = not_renewed_by number a.channels }) (a.expired_channels ++ map expired_of (filter (renews_channel number) a.channels))
     (with_channels none_gained none_asks a (not_renewed_by number a.channels) a.pending_channels
     (fewer none_asks a.channels (λ c. not (renews_channel number c))) (wanted_itself none_asks a.pending_channels))
 
@@ -61,19 +62,19 @@ renewed_permitting number now a =
 
 pub bound_permitting : (New : Gaining) (Now : Asking) (channel : ℕ) (peer : SocketAddr) (number now : ℕ) (a : Allocation) → New (run.Channel channel peer) → IsPermitting New Now a (bound channel peer number now a)
 bound_permitting New Now channel peer number now a new =
-    with_channel New Now a (granted_to channel peer now) (not_asked_by number a.pending_channels) refl new (fewer_wanted Now a.pending_channels (λ c. not (asks_for_channel number c)))
+    with_channel New Now a (granted_to channel peer now) (not_pending_request number a.pending_channels) refl new (fewer_wanted Now a.pending_channels (λ c. not (asks_for_channel number c)))
 
 -- ---- a CHANNEL_BIND
 
 module _ (channel : ℕ) (peer : SocketAddr) (number : ℕ) where
-  -- it asks for its channel and for a permission of its peer's address
+  -- The request asks for its channel, and for a permission for its peer's address.
   abbrev Now : Asking
   Now = asks_by (ChannelBind channel peer) number
 
   is_now : IsNow Now number
   is_now = (run.Channel channel peer, binds_channel channel peer number)
 
-  -- a channel of that number and peer
+  -- A channel with that number and peer.
   of_it : (n : ℕ) (to : SocketAddr) → n ≡ channel → to ≡ peer → Now (run.Channel n to) number
   of_it n to same alike =
       subst (λ (k : ℕ). Now (run.Channel k to) number) (sym same)
@@ -89,49 +90,49 @@ module _ (channel : ℕ) (peer : SocketAddr) (number : ℕ) where
             (one_more Now a.transport (socket_ip peer) number a.pending_permissions (permits_peer channel peer (socket_ip peer) number a.transport refl))
       ]
 
-  -- it is made by a call
+  -- A call makes the request.
   pub asking_permitting : (a : Allocation) → IsPermitting none_gained Now a (asking_channel channel peer number a)
   asking_permitting a =
       let pending : PendingChannel = record { channel = channel; peer = peer; numbers = number ∷ [] } in
-      let asked : IsPermitting none_gained Now a (asking pending a) =
+      let requested : IsPermitting none_gained Now a (asking pending a) =
       with_channels none_gained Now a a.channels (a.pending_channels ++ pending ∷ []) (bound_itself Now a.channels)
       (one_channel_more Now a.pending_channels channel peer number (binds_channel channel peer number)) in
-      both_permitting none_gained Now a (asking pending a) (asking_channel channel peer number a) asked (beside_permitting (asking pending a))
+      both_permitting none_gained Now a (asking pending a) (asking_channel channel peer number a) requested (beside_permitting (asking pending a))
 
-  -- it renews the first channel that is to be renewed
+  -- The request renews the first channel that is to be renewed.
   pub renewing_permitting : (now : ℕ) (a : Allocation) → ((c : Channel) → find (wants_renewal now) a.channels ≡ Some c → (c.number ≡ channel) × (c.peer ≡ peer)) → IsPermitting none_gained Now a (renewing now number a)
   renewing_permitting now a is =
       with_channels none_gained Now a (renewed_first now number a.channels) a.pending_channels
       (channel_awaiting Now a.channels (wants_renewal now) number (λ c found. let same = is c found in of_it c.number c.peer same.0 same.1)) (wanted_itself Now a.pending_channels)
 
-  -- it is made in place of another one
+  -- The request replaces another one.
   module _ (before : ℕ) (transport : TransportType) where
     too_permitting : (a : Allocation) → ((p : PendingPermission) → find (asks_for_permission before) a.pending_permissions ≡ Some p → socket_ip peer ≡ p.ip) → IsPermitting none_gained Now a (permission_too before number a)
     unfolding permission_too
     too_permitting a same =
         elim (list_any (asks_for_permission before) a.pending_permissions) as (λ b. IsPermitting none_gained Now a
-        (if b then record a { pending_permissions = permissions.asked_again before number a.pending_permissions } else record a { permissions = permissions.renewed_again before number a.permissions })) [
+        (if b then record a { pending_permissions = permissions.requested_again before number a.pending_permissions } else record a { permissions = permissions.renewed_again before number a.permissions })) [
           | true ↦
-              with_lists none_gained Now a a.permissions (permissions.asked_again before number a.pending_permissions) (kin_itself Now a.permissions)
+              with_lists none_gained Now a a.permissions (permissions.requested_again before number a.pending_permissions) (kin_itself Now a.permissions)
               (once_more Now a.transport before number a.pending_permissions (λ p found. permits_peer channel peer p.ip number a.transport (same p found)))
           | false ↦
               with_lists none_gained Now a (permissions.renewed_again before number a.permissions) a.pending_permissions
               (one_awaiting Now number is_now a.permissions (renews_permission before)) (known_itself Now a.transport a.pending_permissions)
         ]
 
-    pub asked_too_permitting : (a : Allocation) → ((c : PendingChannel) → find (asks_for_channel before) a.pending_channels ≡ Some c → (c.channel ≡ channel) × (c.peer ≡ peer))
+    pub reissued_under_permitting : (a : Allocation) → ((c : PendingChannel) → find (asks_for_channel before) a.pending_channels ≡ Some c → (c.channel ≡ channel) × (c.peer ≡ peer))
         → ((p : PendingPermission) → find (asks_for_permission before) a.pending_permissions ≡ Some p → socket_ip peer ≡ p.ip)
-        → IsPermitting none_gained Now a (asked_too (NewChannel transport channel peer) before number a)
-    asked_too_permitting a is same =
-        let mid : Allocation = record a { pending_channels = asked_again before number a.pending_channels } in
+        → IsPermitting none_gained Now a (reissued_under (NewChannel transport channel peer) before number a)
+    reissued_under_permitting a is same =
+        let mid : Allocation = record a { pending_channels = requested_again before number a.pending_channels } in
         let first : IsPermitting none_gained Now a mid =
-        with_channels none_gained Now a a.channels (asked_again before number a.pending_channels) (bound_itself Now a.channels)
+        with_channels none_gained Now a a.channels (requested_again before number a.pending_channels) (bound_itself Now a.channels)
         (channel_once_more Now a.pending_channels before number (λ c found. let own = is c found in of_it c.channel c.peer own.0 own.1)) in
         both_permitting none_gained Now a mid (permission_too before number mid) first (too_permitting mid same)
 
     pub renewed_too_permitting : (a : Allocation) → ((c : Channel) → find (renews_channel before) a.channels ≡ Some c → (c.number ≡ channel) × (c.peer ≡ peer))
         → ((p : PendingPermission) → find (asks_for_permission before) a.pending_permissions ≡ Some p → socket_ip peer ≡ p.ip)
-        → IsPermitting none_gained Now a (asked_too (ChannelRenewal transport channel peer) before number a)
+        → IsPermitting none_gained Now a (reissued_under (ChannelRenewal transport channel peer) before number a)
     renewed_too_permitting a is same =
         let mid : Allocation = record a { channels = renewed_again before number a.channels } in
         let first : IsPermitting none_gained Now a mid =

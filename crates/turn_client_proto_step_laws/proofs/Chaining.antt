@@ -5,7 +5,7 @@ use Rattle.std.specs.declared.net.socket_addr.SocketAddr.{SocketAddr}
 use Rattle.turn_client_proto_timers.specs.StunTypesBase.declared.transport.TransportType.{TransportType}
 use Rattle.turn_client_proto_timers.specs.TurnRuns.Members.{IsIn}
 use Rattle.turn_client_proto_timers.specs.TurnRuns.Messages as run
-use Rattle.turn_client_proto_step_laws.specs.Held.{Allocation, Channel, LapsedChannel, PendingChannel, PendingPermission, Permission}
+use Rattle.turn_client_proto_step_laws.specs.Held.{Allocation, Channel, ExpiredChannel, PendingChannel, PendingPermission, Permission}
 use Rattle.turn_client_proto_step_laws.proofs.Permitting.{ArePermitting, Asking, Gaining, IsNow, IsPermitting, Stood, StoodBound, WasAsking, WasBinding, WasRenewing, WasWanted, WasWanting}
 
 module _ (New : Gaining) (Now : Asking) where
@@ -40,7 +40,7 @@ module _ (New : Gaining) (Now : Asking) where
       ]
     ]
 
-    -- what is so of a channel is so of another one of the same number and peer
+    -- What holds of a channel holds of one with an equal number and peer.
     alike : (P : ℕ → SocketAddr → Type 0) (number other : ℕ) (peer to : SocketAddr) → number ≡ other → peer ≡ to → P other to → P number peer
     alike P number other peer to same like is = subst (λ (n : ℕ). P n peer) (sym same) (subst (λ (x : SocketAddr). P other x) (sym like) is)
 
@@ -97,9 +97,9 @@ module _ (New : Gaining) (Now : Asking) where
       connections = λ c listed. first.connections c (second.connections c listed);
     }
 
-  -- channels that have lapsed are no matter
-  pub lapsed_permitting : (old new : Allocation) (lapsed : List LapsedChannel) → IsPermitting New Now old new → IsPermitting New Now old (record new { lapsed_channels = lapsed })
-  lapsed_permitting old new lapsed is = record {
+  -- Expired channels do not matter.
+  pub expired_permitting : (old new : Allocation) (expired : List ExpiredChannel) → IsPermitting New Now old new → IsPermitting New Now old (record new { expired_channels = expired })
+  expired_permitting old new expired is = record {
     transport = is.transport;
     address = is.address;
     permissions = is.permissions;

@@ -1,4 +1,5 @@
--- What becomes of allocations where a connection is bound, or is asked for once more, or keeps something else of what came over its socket.
+-- What becomes of allocations if a connection is bound, its binding is requested once more, or its buffered
+-- bytes change.
 use Rattle.std.proofs.Common.{◌≡◌, ◌⊎◌, ℕ, Bool, List, Option, Some, None, refl, sym, ap, ◌∙◌, subst, inl, inr}
 use Rattle.std.specs.List.{find}
 use Rattle.std.specs.Prelude.{option_and_then}
@@ -7,42 +8,43 @@ use Rattle.turn_client_proto_timers.specs.Allocation.Changes.{change_first}
 use Rattle.turn_client_proto_timers.specs.Peers.Channel.Numbers.{AreDistinct}
 use Rattle.turn_client_proto_timers.specs.TurnRuns.Members.{IsIn}
 use Rattle.turn_client_proto_timers.specs.TurnRuns.Messages as run
-use Rattle.turn_client_proto_step_laws.specs.ClientWords.{Has, HasItself, HasPermission, HasChannel, HasConnection, IsAttempted, IsWaiting, IsAnswered, IsKept, IsPending, OfPermission, OfChannel, OfNewPermission, OfNewChannel, OfRefresh, OfConnect, OfAttempt, OfBinding, IsTaken, Outstanding, Allocating, Pending, Knows, ByWaiting, ByConnection, Waits}
+use Rattle.turn_client_proto_step_laws.specs.ClientWords.{Has, HasItself, HasPermission, HasChannel, HasConnection, IsAttempted, IsWaiting, IsAnswered, IsStored, IsPending, OfPermission, OfChannel, OfNewPermission, OfNewChannel, OfRefresh, OfConnect, OfAttempt, OfBinding, IsTaken, Outstanding, Allocating, Pending, Knows, ByWaiting, ByConnection, Waits}
 use Rattle.turn_client_proto_step_laws.specs.Held.{Allocation, Binding, Connection}
 use Rattle.turn_client_proto_step_laws.specs.RunClient.{Parts}
-use Rattle.turn_client_proto_step_laws.specs.Sound.{AreAsked, AreBinding, AreShort, AreWhole, AsksFor, IsOrderly}
+use Rattle.turn_client_proto_step_laws.specs.Sound.{AreRequested, AreBinding, AreShort, AreWhole, AsksFor, IsOrderly}
 use Rattle.turn_client_proto_step_laws.proofs.Adding.{Adds, HasNumber}
 use Rattle.turn_client_proto_step_laws.proofs.Lists.{found_in, in_first}
 
 -- ---- one connection
 
--- which connections are bound now, and which are asked for now, by which request
+-- Which connections are bound now, and which bindings are requested now, by which request.
 abbrev pub Bounding : Type 1
 Bounding = Connection → Type 0
 
 abbrev pub Rebinding : Type 1
 Rebinding = Connection → Binding → Type 0
 
--- none is
+-- No connection is bound.
 abbrev pub none_bound : Bounding
 none_bound c = ⊥
 
 abbrev pub none_rebound : Rebinding
 none_rebound c b = ⊥
 
--- what a connection is held as, once it is bound
+-- The item that a connection is once it is bound.
 abbrev pub held_as : Connection → run.Held
 held_as c = run.Connection c.here c.peer c.connection
 
--- it has the addresses and the number of before; it was bound or is so now; and what it awaits it awaited, or awaits now
+-- The connection has the addresses and the ID of before; it was bound or is bound now; and what it awaits it
+-- awaited, or awaits now.
 pub record IsTurned (New : Bounding) (Now : Rebinding) (before after : Connection) : Type 0 where
   pub here_is : after.here ≡ before.here
   pub peer_is : after.peer ≡ before.peer
   pub number_is : after.connection ≡ before.connection
   pub is_bound : after.awaited ≡ None → (before.awaited ≡ None) ⊎ New after
-  pub asked : (b : Binding) → after.awaited ≡ Some b → (before.awaited ≡ Some b) ⊎ Now after b
+  pub requested : (b : Binding) → after.awaited ≡ Some b → (before.awaited ≡ Some b) ⊎ Now after b
 
--- what a connection was before
+-- What a connection was before.
 pub record WasTurned (New : Bounding) (Now : Rebinding) (old : List Connection) (after : Connection) : Type 0 where
   pub before : Connection
   pub listed : IsIn before old
@@ -50,12 +52,12 @@ pub record WasTurned (New : Bounding) (Now : Rebinding) (old : List Connection) 
 
 -- ---- one allocation
 
--- an allocation is as before but for its connections
+-- An allocation is as before except for its connections.
 pub record IsChanging (New : Bounding) (Now : Rebinding) (before after : Allocation) : Type 0 where
   pub others : after ≡ record before { connections = after.connections }
   pub connections : (c : Connection) → IsIn c after.connections → WasTurned New Now before.connections c
 
--- what an allocation was before
+-- What an allocation was before.
 pub record WasChanging (New : Bounding) (Now : Rebinding) (old : List Allocation) (after : Allocation) : Type 0 where
   pub before : Allocation
   pub listed : IsIn before old
@@ -66,12 +68,12 @@ AreChanging New Now old new = (a : Allocation) → IsIn a new → WasChanging Ne
 
 module _ (New : Bounding) (Now : Rebinding) where
   same : (c : Connection) → IsTurned New Now c c
-  same c = record { here_is = refl; peer_is = refl; number_is = refl; is_bound = λ e. inl e; asked = λ b e. inl e }
+  same c = record { here_is = refl; peer_is = refl; number_is = refl; is_bound = λ e. inl e; requested = λ b e. inl e }
 
   itself : (a : Allocation) → IsChanging New Now a a
   itself a = record { others = refl; connections = λ c h. record { before = c; listed = h; is = same c } }
 
-  -- the first connection that passes is changed so
+  -- The first connection that passes is changed in this way.
   pub one_changing : (passes : Connection → Bool) (f : Connection → Connection) (a : Allocation)
       → ((c : Connection) → find passes a.connections ≡ Some c → IsTurned New Now c (f c)) → IsChanging New Now a (record a { connections = change_first passes f a.connections })
   one_changing passes f a is = record {
@@ -86,7 +88,7 @@ module _ (New : Bounding) (Now : Rebinding) where
     ];
   }
 
-  -- the first allocation that passes is
+  -- The first allocation that passes is changed in this way.
   pub first_changing : (passes : Allocation → Bool) (f : Allocation → Allocation) (old : List Allocation)
       → ((a : Allocation) → find passes old ≡ Some a → IsChanging New Now a (f a)) → AreChanging New Now old (change_first passes f old)
   first_changing passes f old is a listed = elim (in_first passes f a old listed) [
@@ -107,7 +109,7 @@ module _ (New : Bounding) (Now : Rebinding) where
       ∙ ap (λ (x : SocketAddr). run.Connection x before.peer before.connection) is.here_is
 
   module _ (before after : Allocation) (is : IsChanging New Now before after) where
-    -- with these connections, and all else as before
+    -- The allocation with these connections, and all else as before.
     abbrev mixed : Allocation
     mixed = record before { connections = after.connections }
 
@@ -145,7 +147,7 @@ module _ (New : Bounding) (Now : Rebinding) where
     pending_mixed n (OfAttempt w listed has) = inl (OfAttempt w listed has)
     pending_mixed n (OfBinding c listed b awaits has) =
         let was = is.connections c listed in
-        elim (was.is.asked b awaits) [ inl old ↦ inl (OfBinding was.before was.listed b old has) | inr now ↦ inr (c, b, now, has) ]
+        elim (was.is.requested b awaits) [ inl old ↦ inl (OfBinding was.before was.listed b old has) | inr now ↦ inr (c, b, now, has) ]
 
     pending_before : (n : ℕ) → IsPending n after → IsPending n before ⊎ ((c : Connection) × (b : Binding) × Now c b × (b.number ≡ n))
     pending_before n pending = pending_mixed n (subst (λ (a : Allocation). IsPending n a) is.others pending)
@@ -153,8 +155,8 @@ module _ (New : Bounding) (Now : Rebinding) where
   -- ---- all of them
 
   module _ (p : Parts) (new : List Allocation) (are : AreChanging New Now p.allocations new) where
-    pub kept_changing : (h : run.Held) → IsKept new h → IsKept p.allocations h ⊎ ((c : Connection) × New c × (held_as c ≡ h))
-    kept_changing h k =
+    pub stored_changing : (h : run.Held) → IsStored new h → IsStored p.allocations h ⊎ ((c : Connection) × New c × (held_as c ≡ h))
+    stored_changing h k =
         let was = are k.allocation k.listed in
         elim (has_before was.before k.allocation was.is h k.has) [
           | inl had ↦ inl (record { allocation = was.before; listed = was.listed; has = had })
@@ -182,7 +184,8 @@ module _ (New : Bounding) (Now : Rebinding) where
         let was = are a listed in
         IsWaiting was.before was.listed w (subst (λ (x : Allocation). IsIn w x.waiting) was.is.others has) number
 
-    -- what is outstanding under the number that a connection awaits now asks that it be bound
+    -- The request that is outstanding with the transaction ID that a connection awaits now asks that it be
+    -- bound.
     pub changing_orderly : ((c : Connection) (b : Binding) → Now c b → AsksFor p.agent (held_as c) b.number) → AreDistinct new → IsOrderly p → IsOrderly (record p { allocations = new })
     changing_orderly asks distinct is = record {
       numbers = is.numbers;
@@ -192,41 +195,42 @@ module _ (New : Bounding) (Now : Rebinding) where
       lifetimes = λ a listed. let was = are a listed in
           subst (λ (x : Allocation). AreShort x.pending_refreshes) (sym was.is.others) (is.lifetimes was.before was.listed);
       permissions = λ a listed. let was = are a listed in
-          subst (λ (x : Allocation). AreAsked p.agent x) (sym was.is.others) (is.permissions was.before was.listed);
-      channels = λ a listed. let was = are a listed in let asked = is.channels was.before was.listed in
-          subst (λ (x : Allocation). AreBinding p.agent x) (sym was.is.others) (record { asked = asked.asked; renewed = asked.renewed });
+          subst (λ (x : Allocation). AreRequested p.agent x) (sym was.is.others) (is.permissions was.before was.listed);
+      channels = λ a listed. let was = are a listed in let requested = is.channels was.before was.listed in
+          subst (λ (x : Allocation). AreBinding p.agent x) (sym was.is.others) (record { requested = requested.requested; renewed = requested.renewed });
       peers = λ a listed. let was = are a listed in let all = is.peers was.before was.listed in
-          subst (λ (x : Allocation). AreWhole x) (sym was.is.others) (record { asked = all.asked; standing = all.standing });
-      connects = λ a listed. let was = are a listed in let asked = is.connects was.before was.listed in record {
-        asked = λ c there. asked.asked c (subst (λ (x : Allocation). IsIn c x.connecting) was.is.others there);
-        whole = λ c there. asked.whole c (subst (λ (x : Allocation). IsIn c x.connecting) was.is.others there);
-        binds = λ c there b awaits. let turned = was.is.connections c there in elim (turned.is.asked b awaits) [
+          subst (λ (x : Allocation). AreWhole x) (sym was.is.others) (record { requested = all.requested; standing = all.standing });
+      connects = λ a listed. let was = are a listed in let requested = is.connects was.before was.listed in record {
+        requested = λ c there. requested.requested c (subst (λ (x : Allocation). IsIn c x.connecting) was.is.others there);
+        whole = λ c there. requested.whole c (subst (λ (x : Allocation). IsIn c x.connecting) was.is.others there);
+        binds = λ c there b awaits. let turned = was.is.connections c there in elim (turned.is.requested b awaits) [
           | inl old ↦
-              subst (λ (h : run.Held). AsksFor p.agent h b.number) (sym (held_same turned.before c turned.is)) (asked.binds turned.before turned.listed b old)
+              subst (λ (h : run.Held). AsksFor p.agent h b.number) (sym (held_same turned.before c turned.is)) (requested.binds turned.before turned.listed b old)
           | inr now ↦ asks c b now
         ];
       };
       distinct = distinct;
     }
 
--- the allocations change so, and none is bound now; the requests that are to bind one are among those that are made
-pub allocations_changing : (begun : List run.Message) (Now : Rebinding) (p : Parts) (new : List Allocation) → AreChanging none_bound Now p.allocations new
-    → ((c : Connection) (b : Binding) → Now c b → HasNumber b.number begun) → Adds begun p (record p { allocations = new })
-allocations_changing begun Now p new are made = record {
+-- The allocations change in this way, and no connection is bound now; the requests that are to bind one are
+-- among those that are made.
+pub allocations_changing : (started : List run.Message) (Now : Rebinding) (p : Parts) (new : List Allocation) → AreChanging none_bound Now p.allocations new
+    → ((c : Connection) (b : Binding) → Now c b → HasNumber b.number started) → Adds started p (record p { allocations = new })
+allocations_changing started Now p new are made = record {
   outstanding = λ m h. inl h;
   queued = λ m h. inl h;
   taken = λ n h. elim (taken_changing none_bound Now p new are n h) [
     | inl was ↦ inl was
     | inr now ↦ let one = made now.0 now.1 now.2 in inr (record { one = one.one; listed = one.listed; is = one.is ∙ now.3 })
   ];
-  kept = λ h k. elim (kept_changing none_bound Now p new are h k) [ inl was ↦ was | inr gained ↦ absurd gained.1 ];
+  stored = λ h k. elim (stored_changing none_bound Now p new are h k) [ inl was ↦ was | inr gained ↦ absurd gained.1 ];
   waits = waits_changing none_bound Now p new are;
   attempted = attempted_changing none_bound Now p new are;
 }
 
 -- ---- the connection that is found
 
--- the first that passes, of the first allocation that does
+-- The first connection that passes, in the first allocation that does.
 pub record IsFirst (passes : Allocation → Bool) (test : Connection → Bool) (all : List Allocation) (c : Connection) : Type 0 where
   pub allocation : Allocation
   pub found : find passes all ≡ Some allocation

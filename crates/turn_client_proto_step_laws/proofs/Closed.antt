@@ -1,4 +1,4 @@
--- Behind the close of a socket no connection of its own address is left (RFC 6062, section 4.6).
+-- After a socket was closed, no connection with its own address is left (RFC 6062, section 4.6).
 use Rattle.std.proofs.Common.{◌≡◌, ℕ, Bool, true, false, if◌then◌else◌, List, map, not, refl, sym, ap, ◌∙◌, subst}
 use Rattle.std.specs.List.{filter}
 use Rattle.std.specs.declared.net.socket_addr.SocketAddr.{SocketAddr}
@@ -7,12 +7,12 @@ use Rattle.turn_client_proto_recv.specs.Closing.{after_close, is_joined, without
 use Rattle.turn_client_proto_timers.specs.Connection.Sockets.{closed, has_from, is_any_from, is_from}
 use Rattle.turn_client_proto_timers.specs.TurnRuns.Messages as run
 use Rattle.turn_client_proto_timers.specs.Core.declared.protocol.Protocol.{Protocol}
-use Rattle.turn_client_proto_step_laws.specs.ClientWords.{Has, HasChannel, HasConnection, HasItself, HasPermission, IsKept}
+use Rattle.turn_client_proto_step_laws.specs.ClientWords.{Has, HasChannel, HasConnection, HasItself, HasPermission, IsStored}
 use Rattle.turn_client_proto_step_laws.specs.Held.{Allocation, Connection}
 use Rattle.turn_client_proto_step_laws.proofs.Lists.{any_passes, in_filter, in_map, passes_one}
 use Rattle.turn_client_proto_step_laws.proofs.SameSockets.{same_itself}
 
--- of a connection that an allocation has, the own address is found there
+-- The connection that an allocation has is found there by its own address.
 abbrev IsFound : Allocation → run.Held → Type 0
 IsFound a (run.Allocation transport address) = Unit {0}
 IsFound a (run.Permission transport ip) = Unit {0}
@@ -25,8 +25,8 @@ found a _ (HasPermission p listed) = tt
 found a _ (HasChannel c listed) = tt
 found a _ (HasConnection c listed bound) = any_passes (is_from c.here) a.connections c listed (same_itself c.here)
 
-kept_from : (here peer : SocketAddr) (number : ℕ) (all : List Allocation) → IsKept all (run.Connection here peer number) → is_any_from here all ≡ true
-kept_from here peer number all kept = any_passes (has_from here) all kept.allocation kept.listed (found kept.allocation (run.Connection here peer number) kept.has)
+stored_from : (here peer : SocketAddr) (number : ℕ) (all : List Allocation) → IsStored all (run.Connection here peer number) → is_any_from here all ≡ true
+stored_from here peer number all stored = any_passes (has_from here) all stored.allocation stored.listed (found stored.allocation (run.Connection here peer number) stored.has)
 
 none_from : (here : SocketAddr) (a : Allocation) → has_from here (closed here a) ≡ true → ⊥
 unfolding closed
@@ -42,9 +42,9 @@ none_left here old is =
     let image = in_map (closed here) one.one old.allocations one.listed in
     none_from here image.source (subst (λ (a : Allocation). has_from here a ≡ true) image.is one.passes)
 
-pub none_over : (old new : Protocol) (here peer : SocketAddr) (number : ℕ) → old.agent.transport ≡ Tcp → new ≡ after_close here old.server old → IsKept new.allocations (run.Connection here peer number) → ⊥
-none_over old new here peer number tcp is kept =
-    by (is_joined here old.server old) refl (subst (λ (p : Protocol). is_any_from here p.allocations ≡ true) is (kept_from here peer number new.allocations kept))
+pub none_over : (old new : Protocol) (here peer : SocketAddr) (number : ℕ) → old.agent.transport ≡ Tcp → new ≡ after_close here old.server old → IsStored new.allocations (run.Connection here peer number) → ⊥
+none_over old new here peer number tcp is stored =
+    by (is_joined here old.server old) refl (subst (λ (p : Protocol). is_any_from here p.allocations ≡ true) is (stored_from here peer number new.allocations stored))
   where
     by : (b : Bool) → is_joined here old.server old ≡ b → is_any_from here (if b then without here old else old).allocations ≡ true → ⊥
     by true at any = none_left here old any

@@ -1,13 +1,13 @@
--- Where a stream is cut does not matter to who handles its frames.
+-- It does not matter to the handler of its frames where a stream is cut.
 use Rattle.std.proofs.Common.{◌≡◌, ℕ, Bool, true, false, List, [], ◌∷◌, ◌++◌, Option, Some, None, refl, sym, ap, ◌∙◌, subst, inl, inr}
 use Rattle.std.specs.Prelude.{option_to_list}
 use Rattle.std.specs.List.{concat}
 use Rattle.std.proofs.lemmas.Bool.{cases_Bool}
 use Rattle.std.proofs.lemmas.List.{append_assoc}
-use Rattle.turn_client_proto_recv.specs.TurnTypesFrame.declared.front.Front.{Front}
-use Rattle.turn_client_proto_recv.specs.TurnTypesFrame.declared.front.Front.TheVariants.{Message, Channel, Partial, Broken}
+use Rattle.turn_client_proto_recv.specs.TurnTypesFrame.declared.head.FrameHead.{FrameHead}
+use Rattle.turn_client_proto_recv.specs.TurnTypesFrame.declared.head.FrameHead.TheVariants.{Message, Channel, Incomplete, Invalid}
 use Rattle.turn_client_proto_recv.specs.TurnTypesFrame.StreamAnswers.{IsNone, looked, after_look, joined as grown}
-use Rattle.turn_client_proto_recv.specs.TurnTypesFrame.StreamFronts.{front}
+use Rattle.turn_client_proto_recv.specs.TurnTypesFrame.StreamHeads.{head}
 use Rattle.turn_client_proto_recv.specs.TurnTypesFrame.Streams.{Fed, Stream, alive, dead_stream, fed, left_by}
 use Rattle.turn_client_proto_recv.proofs.TurnTypesFrame.Feeding.{cut_anywhere}
 use Rattle.turn_client_proto_recv.proofs.TurnTypesFrame.Framing.{given_are_frames}
@@ -15,63 +15,63 @@ use Rattle.turn_client_proto_recv.specs.Pulls.{AreFed, AreHandled, Handling, IsD
 use Rattle.turn_client_proto_recv.proofs.Steps.{IsStep, step_of, none_of}
 
 module _ {S P : Type 0} (Is : Handling S P) where
-  -- frames are handled, and then more of them
+  -- Frames are handled, and then more of them.
   joined : (xs ys : List (List ℕ)) (state middle after : S) (ps qs : List P) → AreHandled Is state xs ps middle → AreHandled Is middle ys qs after → AreHandled Is state (xs ++ ys) (ps ++ qs) after
   joined [] ys state middle after ps qs one two =
       subst (λ (l : List P). AreHandled Is state ys (l ++ qs) after) (sym one.0) (subst (λ (m : S). AreHandled Is m ys qs after) one.1 two)
   joined (x ∷ xs) ys state middle after ps qs (between, given, later, is, parts, others) two =
       (between, given, later ++ qs, is, ap (λ (l : List P). l ++ qs) parts ∙ append_assoc (option_to_list given) later qs, joined xs ys between middle after later qs others two)
 
-  -- what follows a pull, in the words of all frames
+  -- What follows a pull, stated for all frames.
   abbrev Rest : Option P → Stream → S → List P → Stream → S → Type 0
   Rest None middle between ps left after = (ps ≡ []) × (left ≡ middle) × (after ≡ between)
-  Rest (Some p) middle between ps left after = AreHandled Is between (fed middle.kept).frames ps after × (left ≡ (fed middle.kept).stream)
+  Rest (Some p) middle between ps left after = AreHandled Is between (fed middle.stored).frames ps after × (left ≡ (fed middle.stored).stream)
 
-  same_frame : (stream : Stream) (kept frame : List ℕ) (state after : S) (given : Option P) → stream ≡ alive kept → bare frame ≡ frame_of (alive kept) → Is state (frame_of stream) given after → Is state (bare frame) given after
-  same_frame stream kept frame state after given is same holds =
+  same_frame : (stream : Stream) (stored frame : List ℕ) (state after : S) (given : Option P) → stream ≡ alive stored → bare frame ≡ frame_of (alive stored) → Is state (frame_of stream) given after → Is state (bare frame) given after
+  same_frame stream stored frame state after given is same holds =
       subst (λ (f : List ℕ). Is state f given after) (ap frame_of is ∙ sym same) holds
 
-  one_first : (kept : List ℕ) (state middle after : S) (given : Option P) (ps : List P) (left : Stream) (step : IsStep kept) → Is state (bare step.frame) given middle
-      → AreHandled Is middle (fed (after_look (alive kept)).kept).frames ps after × (left ≡ (fed (after_look (alive kept)).kept).stream)
-      → AreHandled Is state (fed kept).frames (option_to_list given ++ ps) after × (left ≡ (fed kept).stream)
-  one_first kept state middle after given ps left step holds (others, stream) = (
+  one_first : (stored : List ℕ) (state middle after : S) (given : Option P) (ps : List P) (left : Stream) (step : IsStep stored) → Is state (bare step.frame) given middle
+      → AreHandled Is middle (fed (after_look (alive stored)).stored).frames ps after × (left ≡ (fed (after_look (alive stored)).stored).stream)
+      → AreHandled Is state (fed stored).frames (option_to_list given ++ ps) after × (left ≡ (fed stored).stream)
+  one_first stored state middle after given ps left step holds (others, stream) = (
     subst (λ (f : Fed). AreHandled Is state f.frames (option_to_list given ++ ps) after) (sym step.fed_is) (middle, given, ps, holds, refl, others),
     stream ∙ ap (λ (f : Fed). f.stream) (sym step.fed_is),
   )
 
-  pulled : (stream : Stream) (state : S) (given : Option P) (middle : Stream) (between : S) → IsPulled Is stream state given middle between → (kept : List ℕ) → stream ≡ alive kept
-      → (ps : List P) (left : Stream) (after : S) → Rest given middle between ps left after → AreHandled Is state (fed kept).frames (option_to_list given ++ ps) after × (left ≡ (fed kept).stream)
-  pulled _ _ _ _ _ (Ends stream state none) kept is ps left after (nothing, left_is, after_is) =
-      let empty = none_of kept (subst (λ (s : Stream). IsNone (looked s)) is none) in (
+  pulled : (stream : Stream) (state : S) (given : Option P) (middle : Stream) (between : S) → IsPulled Is stream state given middle between → (stored : List ℕ) → stream ≡ alive stored
+      → (ps : List P) (left : Stream) (after : S) → Rest given middle between ps left after → AreHandled Is state (fed stored).frames (option_to_list given ++ ps) after × (left ≡ (fed stored).stream)
+  pulled _ _ _ _ _ (Ends stream state none) stored is ps left after (nothing, left_is, after_is) =
+      let empty = none_of stored (subst (λ (s : Stream). IsNone (looked s)) is none) in (
         subst (λ (l : List (List ℕ)). AreHandled Is state l ps after) (sym empty.0) (nothing, after_is),
         left_is ∙ ap after_look is ∙ sym empty.1,
       )
-  pulled _ _ _ _ _ (Gives stream state payload between some holds) kept is ps left after (others, left_is) =
-      let step = step_of kept (subst (λ (s : Stream). IsNone (looked s) → ⊥) is some) in
-      let same : (after_look stream).kept ≡ (after_look (alive kept)).kept = ap (λ (s : Stream). (after_look s).kept) is in
-      one_first kept state between after (Some payload) ps left step (same_frame stream kept step.frame state between (Some payload) is step.is_bare holds)
+  pulled _ _ _ _ _ (Gives stream state payload between some holds) stored is ps left after (others, left_is) =
+      let step = step_of stored (subst (λ (s : Stream). IsNone (looked s) → ⊥) is some) in
+      let same : (after_look stream).stored ≡ (after_look (alive stored)).stored = ap (λ (s : Stream). (after_look s).stored) is in
+      one_first stored state between after (Some payload) ps left step (same_frame stream stored step.frame state between (Some payload) is step.is_bare holds)
       (subst (λ (l : List ℕ). AreHandled Is between (fed l).frames ps after × (left ≡ (fed l).stream)) same (others, left_is))
-  pulled _ _ _ _ _ (Goes stream state between given middle end some holds more) kept is ps left after rest =
-      let step = step_of kept (subst (λ (s : Stream). IsNone (looked s) → ⊥) is some) in
-      one_first kept state between after None (option_to_list given ++ ps) left step (same_frame stream kept step.frame state between None is step.is_bare holds)
-      (pulled (after_look stream) between given middle end more (after_look (alive kept)).kept (ap after_look is ∙ step.lives) ps left after rest)
+  pulled _ _ _ _ _ (Goes stream state between given middle end some holds more) stored is ps left after rest =
+      let step = step_of stored (subst (λ (s : Stream). IsNone (looked s) → ⊥) is some) in
+      one_first stored state between after None (option_to_list given ++ ps) left step (same_frame stream stored step.frame state between None is step.is_bare holds)
+      (pulled (after_look stream) between given middle end more (after_look (alive stored)).stored (ap after_look is ∙ step.lives) ps left after rest)
 
-  stays_alive : (stream : Stream) (state : S) (given : Option P) (middle : Stream) (between : S) → IsPulled Is stream state given middle between → (kept : List ℕ) → stream ≡ alive kept
-      → (payload : P) → given ≡ Some payload → middle ≡ alive middle.kept
-  stays_alive _ _ _ _ _ (Ends stream state none) kept is payload some = absurd (Prim.cc some)
-  stays_alive _ _ _ _ _ (Gives stream state p between some holds) kept is payload told =
-      let step = step_of kept (subst (λ (s : Stream). IsNone (looked s) → ⊥) is some) in
-      subst (λ (s : Stream). after_look s ≡ alive (after_look s).kept) (sym is) step.lives
-  stays_alive _ _ _ _ _ (Goes stream state between given middle end some holds more) kept is payload told =
-      let step = step_of kept (subst (λ (s : Stream). IsNone (looked s) → ⊥) is some) in
-      stays_alive (after_look stream) between given middle end more (after_look (alive kept)).kept (ap after_look is ∙ step.lives) payload told
+  stays_alive : (stream : Stream) (state : S) (given : Option P) (middle : Stream) (between : S) → IsPulled Is stream state given middle between → (stored : List ℕ) → stream ≡ alive stored
+      → (payload : P) → given ≡ Some payload → middle ≡ alive middle.stored
+  stays_alive _ _ _ _ _ (Ends stream state none) stored is payload some = absurd (Prim.cc some)
+  stays_alive _ _ _ _ _ (Gives stream state p between some holds) stored is payload reported =
+      let step = step_of stored (subst (λ (s : Stream). IsNone (looked s) → ⊥) is some) in
+      subst (λ (s : Stream). after_look s ≡ alive (after_look s).stored) (sym is) step.lives
+  stays_alive _ _ _ _ _ (Goes stream state between given middle end some holds more) stored is payload reported =
+      let step = step_of stored (subst (λ (s : Stream). IsNone (looked s) → ⊥) is some) in
+      stays_alive (after_look stream) between given middle end more (after_look (alive stored)).stored (ap after_look is ∙ step.lives) payload reported
 
-  drained : (stream : Stream) (state : S) (ps : List P) (left : Stream) (after : S) → IsDrained Is stream state ps left after → (kept : List ℕ) → stream ≡ alive kept
-      → AreHandled Is state (fed kept).frames ps after × (left ≡ (fed kept).stream)
-  drained _ _ _ _ _ (Last stream state left after pull) kept is = pulled stream state None left after pull kept is [] left after (refl, refl, refl)
-  drained _ _ _ _ _ (More stream state payload middle between ps left after pull others) kept is =
-      let lives = stays_alive stream state (Some payload) middle between pull kept is payload refl in
-      pulled stream state (Some payload) middle between pull kept is ps left after (drained middle between ps left after others middle.kept lives)
+  drained : (stream : Stream) (state : S) (ps : List P) (left : Stream) (after : S) → IsDrained Is stream state ps left after → (stored : List ℕ) → stream ≡ alive stored
+      → AreHandled Is state (fed stored).frames ps after × (left ≡ (fed stored).stream)
+  drained _ _ _ _ _ (Last stream state left after pull) stored is = pulled stream state None left after pull stored is [] left after (refl, refl, refl)
+  drained _ _ _ _ _ (More stream state payload middle between ps left after pull others) stored is =
+      let lives = stays_alive stream state (Some payload) middle between pull stored is payload refl in
+      pulled stream state (Some payload) middle between pull stored is ps left after (drained middle between ps left after others middle.stored lives)
 
   -- ---- a dead stream
 
@@ -85,33 +85,33 @@ module _ {S P : Type 0} (Is : Handling S P) where
   drained_dead _ _ _ _ _ (More stream state payload middle between ps left after pull others) dead =
       absurd (Prim.cc (pulled_dead stream state (Some payload) middle between pull dead).0)
 
-  -- ---- pieces
+  -- ---- chunks
 
-  is_alive : (s : Stream) → s.dead ≡ false → s ≡ alive s.kept
-  is_alive s lives = ap (λ (d : Bool). record { kept = s.kept; dead = d }) lives
+  is_alive : (s : Stream) → s.dead ≡ false → s ≡ alive s.stored
+  is_alive s lives = ap (λ (d : Bool). record { stored = s.stored; dead = d }) lives
 
-  dead_by : (f : Front) (bytes : List ℕ) → (left_by f bytes).dead ≡ true → left_by f bytes ≡ dead_stream
+  dead_by : (f : FrameHead) (bytes : List ℕ) → (left_by f bytes).dead ≡ true → left_by f bytes ≡ dead_stream
   dead_by (Message size) bytes dead = absurd (Prim.cc dead)
   dead_by (Channel len) bytes dead = absurd (Prim.cc dead)
-  dead_by Partial bytes dead = absurd (Prim.cc dead)
-  dead_by Broken bytes dead = refl
+  dead_by Incomplete bytes dead = absurd (Prim.cc dead)
+  dead_by Invalid bytes dead = refl
 
   dead_fed : (bytes : List ℕ) → (fed bytes).stream.dead ≡ true → (fed bytes).stream ≡ dead_stream
   dead_fed bytes dead =
       let all = given_are_frames bytes in
-      let is : (fed bytes).stream ≡ left_by (front all.0) all.0 = all.2 in
-      is ∙ dead_by (front all.0) all.0 (ap (λ (s : Stream). s.dead) (sym is) ∙ dead)
+      let is : (fed bytes).stream ≡ left_by (head all.0) all.0 = all.2 in
+      is ∙ dead_by (head all.0) all.0 (ap (λ (s : Stream). s.dead) (sym is) ∙ dead)
 
   fed_more_dead : (bytes more : List ℕ) → (fed bytes).stream.dead ≡ true → fed (bytes ++ more) ≡ fed bytes
   fed_more_dead bytes more dead = sym (cut_anywhere bytes more) ∙ rw dead refl
 
   fed_more : (bytes more : List ℕ) → (fed bytes).stream.dead ≡ false
-      → fed (bytes ++ more) ≡ record { frames = (fed bytes).frames ++ (fed ((fed bytes).stream.kept ++ more)).frames; stream = (fed ((fed bytes).stream.kept ++ more)).stream }
+      → fed (bytes ++ more) ≡ record { frames = (fed bytes).frames ++ (fed ((fed bytes).stream.stored ++ more)).frames; stream = (fed ((fed bytes).stream.stored ++ more)).stream }
   fed_more bytes more lives = sym (cut_anywhere bytes more) ∙ rw lives refl
 
-  fed_on : (pieces : List (List ℕ)) (bytes : List ℕ) (stream : Stream) (first state after : S) (before ps : List P) (left : Stream) → stream ≡ (fed bytes).stream
-      → AreHandled Is first (fed bytes).frames before state → AreFed Is stream state pieces ps left after
-      → AreHandled Is first (fed (bytes ++ concat pieces)).frames (before ++ ps) after × (left ≡ (fed (bytes ++ concat pieces)).stream)
+  fed_on : (chunks : List (List ℕ)) (bytes : List ℕ) (stream : Stream) (first state after : S) (before ps : List P) (left : Stream) → stream ≡ (fed bytes).stream
+      → AreHandled Is first (fed bytes).frames before state → AreFed Is stream state chunks ps left after
+      → AreHandled Is first (fed (bytes ++ concat chunks)).frames (before ++ ps) after × (left ≡ (fed (bytes ++ concat chunks)).stream)
   fed_on [] bytes stream first state after before ps left is done (nothing, left_is, after_is) =
       let whole : bytes ++ [] ≡ bytes = nil bytes in
       subst (λ (b : List ℕ). AreHandled Is first (fed b).frames (before ++ ps) after × (left ≡ (fed b).stream)) (sym whole) (
@@ -123,21 +123,21 @@ module _ {S P : Type 0} (Is : Handling S P) where
       nil : {X : Type 0} (xs : List X) → xs ++ [] ≡ xs
       nil [] = refl
       nil {X} (x ∷ xs) = ap (λ (l : List X). x ∷ l) (nil xs)
-  fed_on (piece ∷ pieces) bytes stream first state after before ps left is done (middle, between, now, later, drains, parts, others) =
-      let assoc : (bytes ++ piece) ++ concat pieces ≡ bytes ++ (piece ++ concat pieces) = append_assoc bytes piece (concat pieces) in
+  fed_on (chunk ∷ chunks) bytes stream first state after before ps left is done (middle, between, now, later, drains, parts, others) =
+      let assoc : (bytes ++ chunk) ++ concat chunks ≡ bytes ++ (chunk ++ concat chunks) = append_assoc bytes chunk (concat chunks) in
       let payloads : (before ++ now) ++ later ≡ before ++ ps = append_assoc before now later ∙ ap (λ (l : List P). before ++ l) (sym parts) in
-      let next : (middle ≡ (fed (bytes ++ piece)).stream) × AreHandled Is first (fed (bytes ++ piece)).frames (before ++ now) between = (elim (cases_Bool (fed bytes).stream.dead) [
+      let next : (middle ≡ (fed (bytes ++ chunk)).stream) × AreHandled Is first (fed (bytes ++ chunk)).frames (before ++ now) between = (elim (cases_Bool (fed bytes).stream.dead) [
         | inl dead ↦ died dead
         | inr lives ↦ lived lives
       ]) in
-      subst (λ (l : List P). AreHandled Is first (fed (bytes ++ (piece ++ concat pieces))).frames l after × (left ≡ (fed (bytes ++ (piece ++ concat pieces))).stream)) payloads
+      subst (λ (l : List P). AreHandled Is first (fed (bytes ++ (chunk ++ concat chunks))).frames l after × (left ≡ (fed (bytes ++ (chunk ++ concat chunks))).stream)) payloads
       (subst (λ (b : List ℕ). AreHandled Is first (fed b).frames ((before ++ now) ++ later) after × (left ≡ (fed b).stream)) assoc
-      (fed_on pieces (bytes ++ piece) middle first between after (before ++ now) later left next.0 next.1 others))
+      (fed_on chunks (bytes ++ chunk) middle first between after (before ++ now) later left next.0 next.1 others))
     where
-      died : (fed bytes).stream.dead ≡ true → (middle ≡ (fed (bytes ++ piece)).stream) × AreHandled Is first (fed (bytes ++ piece)).frames (before ++ now) between
+      died : (fed bytes).stream.dead ≡ true → (middle ≡ (fed (bytes ++ chunk)).stream) × AreHandled Is first (fed (bytes ++ chunk)).frames (before ++ now) between
       died dead =
-          let all = drained_dead (grown stream piece) state now middle between drains (ap (λ (s : Stream). s.dead) is ∙ dead) in
-          let same = fed_more_dead bytes piece dead in (
+          let all = drained_dead (grown stream chunk) state now middle between drains (ap (λ (s : Stream). s.dead) is ∙ dead) in
+          let same = fed_more_dead bytes chunk dead in (
             all.1 ∙ sym (dead_fed bytes dead) ∙ ap (λ (f : Fed). f.stream) (sym same),
             subst (λ (f : Fed). AreHandled Is first f.frames (before ++ now) between) (sym same)
                 (subst (λ (l : List P). AreHandled Is first (fed bytes).frames (before ++ l) between) (sym all.0)
@@ -148,15 +148,15 @@ module _ {S P : Type 0} (Is : Handling S P) where
           none [] = refl
           none {X} (x ∷ xs) = ap (λ (l : List X). x ∷ l) (none xs)
 
-      lived : (fed bytes).stream.dead ≡ false → (middle ≡ (fed (bytes ++ piece)).stream) × AreHandled Is first (fed (bytes ++ piece)).frames (before ++ now) between
+      lived : (fed bytes).stream.dead ≡ false → (middle ≡ (fed (bytes ++ chunk)).stream) × AreHandled Is first (fed (bytes ++ chunk)).frames (before ++ now) between
       lived lives =
-          let kept : List ℕ = (fed bytes).stream.kept in
-          let alive_is : grown stream piece ≡ alive (kept ++ piece) = ap (λ (s : Stream). grown s piece) (is ∙ is_alive (fed bytes).stream lives) in
-          let all = drained (grown stream piece) state now middle between drains (kept ++ piece) alive_is in
-          let same = fed_more bytes piece lives in (
+          let stored : List ℕ = (fed bytes).stream.stored in
+          let alive_is : grown stream chunk ≡ alive (stored ++ chunk) = ap (λ (s : Stream). grown s chunk) (is ∙ is_alive (fed bytes).stream lives) in
+          let all = drained (grown stream chunk) state now middle between drains (stored ++ chunk) alive_is in
+          let same = fed_more bytes chunk lives in (
             all.1 ∙ ap (λ (f : Fed). f.stream) (sym same),
             subst (λ (f : Fed). AreHandled Is first f.frames (before ++ now) between) (sym same)
-                (joined (fed bytes).frames (fed (kept ++ piece)).frames first state between before now done all.0),
+                (joined (fed bytes).frames (fed (stored ++ chunk)).frames first state between before now done all.0),
           )
 
   -- ---- for every cut
@@ -168,17 +168,17 @@ module _ {S P : Type 0} (Is : Handling S P) where
       let rest = one_way definite frames m left right later later' others (subst (λ (s : S). AreHandled Is s frames later' right) (sym same.1) others') in
       (parts ∙ ap (λ (o : Option P). option_to_list o ++ later) same.0 ∙ ap (λ (l : List P). option_to_list g' ++ l) rest.0 ∙ sym parts', rest.1)
 
-  pub all_frames : (state after : S) (kept : List ℕ) (pieces : List (List ℕ)) (ps : List P) (left : Stream) → (fed kept).frames ≡ [] → (fed kept).stream ≡ alive kept
-      → AreFed Is (alive kept) state pieces ps left after → AreHandled Is state (fed (kept ++ concat pieces)).frames ps after × (left ≡ (fed (kept ++ concat pieces)).stream)
-  all_frames state after kept pieces ps left none stream feeds =
-      fed_on pieces kept (alive kept) state state after [] ps left (sym stream) (subst (λ (l : List (List ℕ)). AreHandled Is state l [] state) (sym none) (refl, refl)) feeds
+  pub all_frames : (state after : S) (stored : List ℕ) (chunks : List (List ℕ)) (ps : List P) (left : Stream) → (fed stored).frames ≡ [] → (fed stored).stream ≡ alive stored
+      → AreFed Is (alive stored) state chunks ps left after → AreHandled Is state (fed (stored ++ concat chunks)).frames ps after × (left ≡ (fed (stored ++ concat chunks)).stream)
+  all_frames state after stored chunks ps left none stream feeds =
+      fed_on chunks stored (alive stored) state state after [] ps left (sym stream) (subst (λ (l : List (List ℕ)). AreHandled Is state l [] state) (sym none) (refl, refl)) feeds
 
-  pub every_cut : (state one other : S) (kept : List ℕ) (pieces cuts : List (List ℕ)) (ps qs : List P) (left right : Stream) → IsDefinite Is → (fed kept).frames ≡ [] → (fed kept).stream ≡ alive kept
-      → concat pieces ≡ concat cuts → AreFed Is (alive kept) state pieces ps left one → AreFed Is (alive kept) state cuts qs right other → (ps ≡ qs) × (left ≡ right) × (one ≡ other)
-  every_cut state one other kept pieces cuts ps qs left right definite none stream same first second =
-      let a = all_frames state one kept pieces ps left none stream first in
-      let b = all_frames state other kept cuts qs right none stream second in
-      let b' : AreHandled Is state (fed (kept ++ concat pieces)).frames qs other × (right ≡ (fed (kept ++ concat pieces)).stream) =
-      subst (λ (l : List ℕ). AreHandled Is state (fed (kept ++ l)).frames qs other × (right ≡ (fed (kept ++ l)).stream)) (sym same) b in
-      let both = one_way definite (fed (kept ++ concat pieces)).frames state one other ps qs a.0 b'.0 in
+  pub every_cut : (state one other : S) (stored : List ℕ) (chunks cuts : List (List ℕ)) (ps qs : List P) (left right : Stream) → IsDefinite Is → (fed stored).frames ≡ [] → (fed stored).stream ≡ alive stored
+      → concat chunks ≡ concat cuts → AreFed Is (alive stored) state chunks ps left one → AreFed Is (alive stored) state cuts qs right other → (ps ≡ qs) × (left ≡ right) × (one ≡ other)
+  every_cut state one other stored chunks cuts ps qs left right definite none stream same first second =
+      let a = all_frames state one stored chunks ps left none stream first in
+      let b = all_frames state other stored cuts qs right none stream second in
+      let b' : AreHandled Is state (fed (stored ++ concat chunks)).frames qs other × (right ≡ (fed (stored ++ concat chunks)).stream) =
+      subst (λ (l : List ℕ). AreHandled Is state (fed (stored ++ l)).frames qs other × (right ≡ (fed (stored ++ l)).stream)) (sym same) b in
+      let both = one_way definite (fed (stored ++ concat chunks)).frames state one other ps qs a.0 b'.0 in
       (both.0, a.1 ∙ sym b'.1, both.1)

@@ -1,8 +1,8 @@
--- What is drawn to be sent is a step of a run.
+-- What `poll_transmit` transmits is a step of a run.
 use Rattle.std.proofs.Common.{◌≡◌, ℕ, true, false, List, [], ◌∷◌, Option, Some, None, refl, sym, ap, ◌∙◌, subst, arith, inl, inr}
 use Rattle.std.specs.Option.{option_map}
 use Rattle.turn_client_proto_timers.specs.StunTypesWire.Grammar.{refusal}
-use Rattle.turn_client_proto_timers.specs.StunProtoAgent.Sending.{kept_under, with_request}
+use Rattle.turn_client_proto_timers.specs.StunProtoAgent.Sending.{stored_under, with_request}
 use Rattle.turn_client_proto_timers.specs.StunProtoTransaction.Agents.{transmitted}
 use Rattle.turn_client_proto_timers.specs.StunProtoAgent.Numbers.{NothingNew}
 use Rattle.turn_client_proto_timers.specs.StunProtoAgent.State.{Agent, is_tcp}
@@ -10,7 +10,7 @@ use Rattle.turn_client_proto_timers.proofs.StunProtoAgent.Numbers.{transmitted_n
 use Rattle.turn_client_proto_timers.specs.TurnRuns.Members.{IsIn}
 use Rattle.turn_client_proto_timers.specs.TurnRuns.Messages as run
 use Rattle.turn_client_proto_timers.specs.TurnRuns.Steps.{MayDraw}
-use Rattle.turn_client_proto_timers.specs.TurnRuns.StunWire.{stun_wire, told_by}
+use Rattle.turn_client_proto_timers.specs.TurnRuns.StunWire.{stun_wire, decoded_by}
 use Rattle.std.specs.List.{find}
 use Rattle.std.specs.declared.net.ip_addr.IpAddr.{IpAddr}
 use Rattle.std.specs.declared.net.socket_addr.SocketAddr.{SocketAddr}
@@ -28,7 +28,7 @@ use Rattle.turn_client_proto_timers.proofs.Messages.Peers.{peer_read}
 use Rattle.turn_client_proto_timers.specs.Messages.Requests.{allocation_lifetime, request_text}
 use Rattle.turn_client_proto_timers.specs.Messages.declared.request.TurnRequest.{TurnRequest}
 use Rattle.turn_client_proto_timers.specs.Messages.declared.request.TurnRequest.TheVariants.{ChannelBind, CreatePermission, FirstAllocate, Refresh}
-use Rattle.turn_client_proto_timers.specs.Drawing.{Again, Fresh, IsAnswerSent, IsBegun, IsChannelRenewalSent, IsDrawn, IsFirstSent, IsNextSent, IsQueuedSent, IsRefreshSent, IsRenewalSent, IsRenewed, IsRepeated, IsStill, Sends, after_sending, first_allocated, first_bound, first_permitted, first_refreshed, is_resting, sent_at_once}
+use Rattle.turn_client_proto_timers.specs.Drawing.{Again, Fresh, IsAnswerSent, IsStarted, IsChannelRenewalSent, IsTransmitted, IsFirstSent, IsNextSent, IsQueuedSent, IsRefreshSent, IsRenewalSent, IsRenewed, IsRepeated, IsStill, Sends, after_sending, first_allocated, first_bound, first_permitted, first_refreshed, is_resting, sent_at_once}
 use Rattle.turn_client_proto_timers.specs.Api.Sent.{Sent}
 use Rattle.turn_client_proto_timers.specs.Core.Numbering.{after_number}
 use Rattle.turn_client_proto_timers.specs.Messages.Waiting.{Queued, is_answer}
@@ -47,7 +47,7 @@ use Rattle.turn_client_proto_step_laws.proofs.Asking.{IsUnderWay, asks, at_first
 use Rattle.turn_client_proto_step_laws.proofs.Binding as binding
 use Rattle.turn_client_proto_step_laws.proofs.Ending.{still, still_can}
 use Rattle.turn_client_proto_step_laws.proofs.Lessening.{first_less, one_awaited, same_first_distinct}
-use Rattle.turn_client_proto_step_laws.proofs.Orderly.{IsAllocate, agent_orderly, allocations_orderly, before_all, drawn_orderly, phase_orderly, until_map}
+use Rattle.turn_client_proto_step_laws.proofs.Orderly.{IsAllocate, agent_orderly, allocations_orderly, before_all, transmitted_orderly, phase_orderly, until_map}
 use Rattle.turn_client_proto_step_laws.proofs.Permissions.{first_permitting, renewing_permitting}
 use Rattle.turn_client_proto_step_laws.proofs.Lists.{found_in, in_others, inside}
 use Rattle.turn_client_proto_step_laws.proofs.Permits.{asks_by, channel_fit, made_number, permission_fit}
@@ -59,14 +59,14 @@ use Rattle.turn_client_proto_step_laws.proofs.Realms.{going_at, realm_going}
 use Rattle.turn_client_proto_step_laws.proofs.Refreshing.{allocated, refresh_made, refresh_of, refresh_short}
 use Rattle.turn_client_proto_step_laws.proofs.Wanting.{IsToRenew, first_to_renew, renewal_whole}
 
--- the bytes that are sent
+-- The bytes that are transmitted.
 abbrev pub bytes_of : Option Sent → Option (List ℕ)
 bytes_of answer = option_map (λ s. s.bytes) answer
 
-shows_own : (own bytes : List ℕ) (m : run.Message) → Some own ≡ Some bytes → stun_wire.shown bytes ≡ Some m → stun_wire.shown own ≡ Some m
-shows_own own bytes m same shows = subst (λ (b : List ℕ). stun_wire.shown b ≡ Some m) (sym (Prim.cc same)) shows
+shows_own : (own bytes : List ℕ) (m : run.Message) → Some own ≡ Some bytes → stun_wire.visible bytes ≡ Some m → stun_wire.visible own ≡ Some m
+shows_own own bytes m same shows = subst (λ (b : List ℕ). stun_wire.visible b ≡ Some m) (sym (Prim.cc same)) shows
 
--- nothing is sent
+-- Nothing is transmitted.
 rests : (c : Client) (answer : Option Sent) (new : Protocol) → IsSound c → IsStill c.core answer new → IsRunStep c [] (bytes_of answer) [] new
 rests c answer new sound is = subst (λ (o : Option Sent). IsRunStep c [] (bytes_of o) [] new) (sym is.0) (still c [] new sound is.1)
 
@@ -74,30 +74,30 @@ rests c answer new sound is = subst (λ (o : Option Sent). IsRunStep c [] (bytes
 
 repeats : (c : Client) (now : ℕ) (sent : Sent) (new : Protocol) → IsSound c → IsRepeated c.core now sent new → IsRunStep c [] (Some sent.bytes) [] new
 repeats c now sent new sound is =
-    let agent : Agent = kept_under c.core.agent is.number (transmitted (is_tcp c.core.agent.transport) is.transaction) in
+    let agent : Agent = stored_under c.core.agent is.number (transmitted (is_tcp c.core.agent.transport) is.transaction) in
     let core : Protocol = after_sending now (record c.core { agent = agent }) in
     let none : NothingNew c.core.agent agent = transmitted_new c.core.agent agent now (inr (record { number = is.number; transaction = is.transaction; least = is.least; after = refl })) in
     let own : sent.bytes ≡ is.transaction.bytes = ap (λ (s : Sent). s.bytes) is.is_sent in
     subst (λ (p : Protocol). IsRunStep c [] (Some sent.bytes) [] p) (sym is.after)
-    (run_step [] [] (Some sent.bytes) [] c c.drawn core
-    (quiet (Some sent.bytes) [] c c.drawn core (counts_none c core refl) (λ realm h. inl h) (agent_less [] (parts_of c.core) agent none)
+    (run_step [] [] (Some sent.bytes) [] c c.transmitted core
+    (quiet (Some sent.bytes) [] c c.transmitted core (counts_none c core refl) (λ realm h. inl h) (agent_less [] (parts_of c.core) agent none)
     (λ bytes m same shows. inl (inr (inl (record {
       number = is.number;
       transaction = is.transaction;
       there = is.least.present;
-      shows = ap (λ (b : List ℕ). stun_wire.shown b) (sym own) ∙ shows_own sent.bytes bytes m same shows;
+      shows = ap (λ (b : List ℕ). stun_wire.visible b) (sym own) ∙ shows_own sent.bytes bytes m same shows;
     })))) refl)
     (agent_orderly (parts_of c.core) agent none sound.orderly) (until_map c.core.phase (still_can c core refl refl refl) sound.can_ask))
 
 -- ---- a message that waits
 
--- a message that waits, and whose bytes are these, may be drawn
-waits_drawn : (c : Client) (q : Queued) → IsReady q → IsIn q c.core.queue → (sent bytes : List ℕ) (m : run.Message) → sent ≡ q.bytes → Some sent ≡ Some bytes → stun_wire.shown bytes ≡ Some m → MayDraw client_words c [] m
-waits_drawn c q ready listed sent bytes m own same shows =
-    let shown : stun_wire.shown q.bytes ≡ Some m = ap (λ (b : List ℕ). stun_wire.shown b) (sym own) ∙ shows_own sent bytes m same shows in
-    let read : told_by q.bytes ≡ m = message_read (refusal q.bytes) (told_by q.bytes) m shown in
+-- A queued message with these bytes may be transmitted.
+waits_transmitted : (c : Client) (q : Queued) → IsReady q → IsIn q c.core.queue → (sent bytes : List ℕ) (m : run.Message) → sent ≡ q.bytes → Some sent ≡ Some bytes → stun_wire.visible bytes ≡ Some m → MayDraw client_words c [] m
+waits_transmitted c q ready listed sent bytes m own same shows =
+    let visible : stun_wire.visible q.bytes ≡ Some m = ap (λ (b : List ℕ). stun_wire.visible b) (sym own) ∙ shows_own sent bytes m same shows in
+    let read : decoded_by q.bytes ≡ m = message_read (refusal q.bytes) (decoded_by q.bytes) m visible in
     elim ready [
-      | inl request ↦ inl (inl (record { queued = q; listed = listed; is_request = request; shows = shown }))
+      | inl request ↦ inl (inl (record { queued = q; listed = listed; is_request = request; shows = visible }))
       | inr answers ↦
           inr (inr (
             subst run.IsResponse (ap (λ (x : run.Message). x.class) read) answers.1,
@@ -105,44 +105,44 @@ waits_drawn c q ready listed sent bytes m own same shows =
           ))
     ]
 
--- the client that sent one, with what waits still
+-- The client that transmitted a queued message, with the rest of the queue.
 waits_sent : (c : Client) (q : Queued) (rest : List Queued) (sent : List ℕ) (core : Protocol) → IsSound c → IsIn q c.core.queue → ((x : Queued) → IsIn x rest → IsIn x c.core.queue) → sent ≡ q.bytes
     → core ≡ record c.core { queue = rest; last_send = core.last_send } → IsRunStep c [] (Some sent) [] core
 waits_sent c q rest sent core sound listed within own is =
     let after : Protocol = record c.core { queue = rest; last_send = core.last_send } in
     subst (λ (p : Protocol). IsRunStep c [] (Some sent) [] p) (sym is)
-    (run_step [] [] (Some sent) [] c c.drawn after
-    (quiet (Some sent) [] c c.drawn after (counts_none c after refl) (λ realm h. inl h) (queue_less (parts_of c.core) rest within)
-    (λ bytes m same shows. waits_drawn c q (sound.orderly.queued q listed) listed sent bytes m own same shows) refl)
-    (drawn_orderly (parts_of c.core) rest within sound.orderly) (until_map c.core.phase (still_can c after refl refl refl) sound.can_ask))
+    (run_step [] [] (Some sent) [] c c.transmitted after
+    (quiet (Some sent) [] c c.transmitted after (counts_none c after refl) (λ realm h. inl h) (queue_less (parts_of c.core) rest within)
+    (λ bytes m same shows. waits_transmitted c q (sound.orderly.queued q listed) listed sent bytes m own same shows) refl)
+    (transmitted_orderly (parts_of c.core) rest within sound.orderly) (until_map c.core.phase (still_can c after refl refl refl) sound.can_ask))
 
-queued_drawn : (c : Client) (now : ℕ) (q : Queued) (rest : List Queued) (sent : Sent) (new : Protocol) → IsSound c → c.core.queue ≡ q ∷ rest → IsQueuedSent c.core now q rest sent new
+queued_transmitted : (c : Client) (now : ℕ) (q : Queued) (rest : List Queued) (sent : Sent) (new : Protocol) → IsSound c → c.core.queue ≡ q ∷ rest → IsQueuedSent c.core now q rest sent new
     → IsRunStep c [] (Some sent.bytes) [] new
-queued_drawn c now q rest sent new sound waits is =
+queued_transmitted c now q rest sent new sound waits is =
     waits_sent c q rest sent.bytes new sound (subst (λ (l : List Queued). IsIn q l) (sym waits) (inl refl)) (λ x h. subst (λ (l : List Queued). IsIn x l) (sym waits) (inr h))
     (ap (λ (s : Sent). s.bytes) is.is_sent) (is.after ∙ sym (ap (λ (o : Option ℕ). record c.core { queue = rest; last_send = o }) (ap (λ (p : Protocol). p.last_send) is.after)))
 
--- the first answer that waits is sent
-answer_drawn : (c : Client) (found : Option Queued) (answer : Option Sent) (new : Protocol) → IsSound c → find is_answer c.core.queue ≡ found → IsAnswerSent found c.core answer new → IsRunStep c [] (bytes_of answer) [] new
-answer_drawn c None answer new sound at is = rests c answer new sound is
-answer_drawn c (Some q) answer new sound at is =
+-- The first queued reply is transmitted.
+answer_transmitted : (c : Client) (found : Option Queued) (answer : Option Sent) (new : Protocol) → IsSound c → find is_answer c.core.queue ≡ found → IsAnswerSent found c.core answer new → IsRunStep c [] (bytes_of answer) [] new
+answer_transmitted c None answer new sound at is = rests c answer new sound is
+answer_transmitted c (Some q) answer new sound at is =
     subst (λ (o : Option Sent). IsRunStep c [] (bytes_of o) [] new) (sym is.0)
     (waits_sent c q (without_answer c.core.queue) q.bytes new sound (found_in is_answer c.core.queue q at) (λ x h. in_others is_answer x c.core.queue h) refl
     (is.1 ∙ sym (ap (λ (o : Option ℕ). record c.core { queue = without_answer c.core.queue; last_send = o }) (ap (λ (p : Protocol). p.last_send) is.1))))
 
 -- ---- a request that is made now
 
--- the number of one request
+-- The transaction ID of one request.
 pub one_number : (n number : ℕ) (m : run.Message) → m.number ≡ number → IsIn n (number ∷ []) → HasNumber n (m ∷ [])
 one_number n number m is h = elim h [
   | inl own ↦ record { one = m; listed = inl refl; is = is ∙ own }
   | inr none ↦ absurd none
 ]
 
--- what is drawn is that request
-draws_own : (c : Client) (text sent : List ℕ) → sent ≡ text → (bytes : List ℕ) (m : run.Message) → Some sent ≡ Some bytes → stun_wire.shown bytes ≡ Some m → MayDraw client_words c (told_by text ∷ []) m
+-- What is transmitted is that request.
+draws_own : (c : Client) (text sent : List ℕ) → sent ≡ text → (bytes : List ℕ) (m : run.Message) → Some sent ≡ Some bytes → stun_wire.visible bytes ≡ Some m → MayDraw client_words c (decoded_by text ∷ []) m
 draws_own c text sent own bytes m same shows =
-    inl (inr (inr (inl (message_read _ (told_by text) m (ap (λ (b : List ℕ). stun_wire.shown b) (sym own) ∙ shows_own sent bytes m same shows)))))
+    inl (inr (inr (inl (message_read _ (decoded_by text) m (ap (λ (b : List ℕ). stun_wire.visible b) (sym own) ∙ shows_own sent bytes m same shows)))))
 
 first_sent : (c : Client) (now : ℕ) (sent : Sent) (new : Protocol) → IsSound c → c.core.phase ≡ Initial → IsFirstSent c.core now sent new → IsRunStep c [] (Some sent.bytes) [] new
 unfolding first_allocated sent_at_once
@@ -153,17 +153,17 @@ first_sent c now sent new sound at is =
     let written = made c c.core request is.number under_way can.families tt is.made.is_next in
     let text = request_text c.core.auth request is.number in
     let own : sent.bytes ≡ text = ap (λ (s : Sent). s.bytes) is.made.is_sent in
-    let allocate : IsAllocate (parts_of c.core) text = (ap (λ (m : run.Message). m.method) written.told, ap (λ (m : run.Message). m.transport) written.told) in
+    let allocate : IsAllocate (parts_of c.core) text = (ap (λ (m : run.Message). m.method) written.reported, ap (λ (m : run.Message). m.transport) written.reported) in
     let mid : Parts = parts_of (sent_at_once (after_number c.core) request is.number now) in
     let orderly = sent_orderly c.core request is.number now written (before_all c.core.phase allocate) sound.orderly in
     let alone : AreAllocates c.core.allocates mid.agent = subst (λ (f : Phase). BeforeAllocated f (AreAllocates c.core.allocates mid.agent)) at orderly.allocates in
     let core : Protocol = after_sending now (first_allocated is.number now c.core) in
-    let adds = adds_both (told_by text ∷ []) (parts_of c.core) mid (parts_of core) (sent_adds c.core request is.number now)
-    (phase_moved (told_by text ∷ []) mid (InitialSent (is.number ∷ [])) (λ n h. inr (one_number n is.number (told_by text) written.number_is h))) in
+    let adds = adds_both (decoded_by text ∷ []) (parts_of c.core) mid (parts_of core) (sent_adds c.core request is.number now)
+    (phase_moved (decoded_by text ∷ []) mid (InitialSent (is.number ∷ [])) (λ n h. inr (one_number n is.number (decoded_by text) written.number_is h))) in
     subst (λ (p : Protocol). IsRunStep c [] (Some sent.bytes) [] p) (sym is.after)
     (asks c c.core request is.number under_way written (Some sent.bytes) core adds
     (phase_orderly mid (InitialSent (is.number ∷ [])) alone orderly) refl
-    (λ realm h. realm_going c.core.phase c.core.auth.challenge realm (going_at c.core.phase Initial at (λ kept. refl)) h) can.families refl refl (draws_own c text sent.bytes own))
+    (λ realm h. realm_going c.core.phase c.core.auth.challenge realm (going_at c.core.phase Initial at (λ stored. refl)) h) can.families refl refl (draws_own c text sent.bytes own))
 
 refresh_sent : (c : Client) (now : ℕ) (sent : Sent) (new : Protocol) → IsSound c → c.core.phase ≡ Authenticated → IsRefreshSent c.core now sent new → IsRunStep c [] (Some sent.bytes) [] new
 unfolding first_refreshed sent_at_once
@@ -178,20 +178,20 @@ refresh_sent c now sent new sound at is =
     let left = refreshed_first now refresh c.core.allocations in
     let less : AreLess (refresh ∷ []) c.core.allocations left = first_less (refresh ∷ []) (refreshing refresh) (one_awaited refresh) (wants now) c.core.allocations in
     let core : Protocol = after_sending now (first_refreshed is.number now c.core) in
-    let adds = adds_both (told_by text ∷ []) (parts_of c.core) mid (parts_of core) (sent_adds c.core (Refresh allocation_lifetime) is.number now)
-    (allocations_less (told_by text ∷ []) (refresh ∷ []) mid left less (refresh_made c.core is.number allocation_lifetime written)) in
+    let adds = adds_both (decoded_by text ∷ []) (parts_of c.core) mid (parts_of core) (sent_adds c.core (Refresh allocation_lifetime) is.number now)
+    (allocations_less (decoded_by text ∷ []) (refresh ∷ []) mid left less (refresh_made c.core is.number allocation_lifetime written)) in
     let orderly = allocations_orderly (refresh ∷ []) mid left less (refresh_short is.number allocation_lifetime (omega arith))
     (same_first_distinct (wants now) (refreshing refresh) (λ a. (refl, refl)) c.core.allocations sound.orderly.distinct)
     (sent_orderly c.core (Refresh allocation_lifetime) is.number now written (allocated _ c.core.phase at) sound.orderly) in
     subst (λ (p : Protocol). IsRunStep c [] (Some sent.bytes) [] p) (sym is.after)
     (asks c c.core (Refresh allocation_lifetime) is.number under_way written (Some sent.bytes) core adds orderly refl (λ realm h. h) can.families refl refl (draws_own c text sent.bytes own))
 
--- a request that renews something
+-- A request that renews something.
 module _ (c : Client) (request : TurnRequest) (number now : ℕ) (left : List Allocation) (sound : IsSound c) (at : c.core.phase ≡ Authenticated) (under_way : IsUnderWay c [] c.core) (is : written.IsMade c.core request number) where
   abbrev text_of : List ℕ
   text_of = request_text c.core.auth request number
 
-  -- the client that sent it, with these allocations
+  -- The client that transmitted it, with these allocations.
   abbrev renewed_with : Protocol
   renewed_with = after_sending now (record (sent_at_once (after_number c.core) request number now) { allocations = left })
 
@@ -200,8 +200,8 @@ module _ (c : Client) (request : TurnRequest) (number now : ℕ) (left : List Al
   unfolding sent_at_once
   renews are fit distinct sent own =
       let mid : Parts = parts_of (sent_at_once (after_number c.core) request number now) in
-      let adds = adds_both (told_by text_of ∷ []) (parts_of c.core) mid (parts_of renewed_with) (sent_adds c.core request number now)
-      (allocations_permitting (told_by text_of ∷ []) (asks_by request number) mid left are (made_number c.core request number now is)) in
+      let adds = adds_both (decoded_by text_of ∷ []) (parts_of c.core) mid (parts_of renewed_with) (sent_adds c.core request number now)
+      (allocations_permitting (decoded_by text_of ∷ []) (asks_by request number) mid left are (made_number c.core request number now is)) in
       let orderly = permitting_orderly none_gained (asks_by request number) mid left are fit
       (sent_orderly c.core request number now is (allocated _ c.core.phase at) sound.orderly) distinct in
       asks c c.core request number under_way is (Some sent) renewed_with adds orderly refl (λ realm h. h) under_way.can_ask.families refl refl (draws_own c text_of sent own)
@@ -251,20 +251,20 @@ renewed_by c (Some want.Refresh) now answer new sound at is h = sends c (λ s. I
 renewed_by c (Some (want.Channel channel peer)) now answer new sound at is h = sends c (λ s. IsChannelRenewalSent c.core channel peer now s new) answer new (λ s one. channel_sent c channel peer now s new sound at is one) h
 renewed_by c (Some (want.Permission ip)) now answer new sound at is h = sends c (λ s. IsRenewalSent c.core ip now s new) answer new (λ s one. renewal_sent c ip now s new sound at one) h
 
-begun : (c : Client) (phase : Phase) (now : ℕ) (answer : Option Sent) (new : Protocol) → IsSound c → c.core.phase ≡ phase → IsBegun phase c.core now answer new → IsRunStep c [] (bytes_of answer) [] new
-begun c Initial now answer new sound at h = sends c (λ s. IsFirstSent c.core now s new) answer new (λ s is. first_sent c now s new sound at is) h
-begun c (InitialSent numbers) now answer new sound at h = rests c answer new sound h
-begun c (Authenticating numbers) now answer new sound at h = rests c answer new sound h
-begun c Ended now answer new sound at h = rests c answer new sound h
-begun c Authenticated now answer new sound at h = renewed_by c (wanted now c.core.allocations) now answer new sound at refl h
+started : (c : Client) (phase : Phase) (now : ℕ) (answer : Option Sent) (new : Protocol) → IsSound c → c.core.phase ≡ phase → IsStarted phase c.core now answer new → IsRunStep c [] (bytes_of answer) [] new
+started c Initial now answer new sound at h = sends c (λ s. IsFirstSent c.core now s new) answer new (λ s is. first_sent c now s new sound at is) h
+started c (InitialSent numbers) now answer new sound at h = rests c answer new sound h
+started c (Authenticating numbers) now answer new sound at h = rests c answer new sound h
+started c Ended now answer new sound at h = rests c answer new sound h
+started c Authenticated now answer new sound at h = renewed_by c (wanted now c.core.allocations) now answer new sound at refl h
 
 next_sent : (c : Client) (queue : List Queued) (now : ℕ) (answer : Option Sent) (new : Protocol) → IsSound c → c.core.queue ≡ queue → IsNextSent queue c.core now answer new → IsRunStep c [] (bytes_of answer) [] new
-next_sent c (q ∷ rest) now answer new sound waits h = sends c (λ s. IsQueuedSent c.core now q rest s new) answer new (λ s is. queued_drawn c now q rest s new sound waits is) h
-next_sent c [] now answer new sound waits h = begun c c.core.phase now answer new sound refl h
+next_sent c (q ∷ rest) now answer new sound waits h = sends c (λ s. IsQueuedSent c.core now q rest s new) answer new (λ s is. queued_transmitted c now q rest s new sound waits is) h
+next_sent c [] now answer new sound waits h = started c c.core.phase now answer new sound refl h
 
-pub draw_step : (c : Client) (now : ℕ) (answer : Option Sent) (new : Protocol) → IsSound c → IsDrawn c.core now answer new → IsRunStep c [] (bytes_of answer) [] new
+pub draw_step : (c : Client) (now : ℕ) (answer : Option Sent) (new : Protocol) → IsSound c → IsTransmitted c.core now answer new → IsRunStep c [] (bytes_of answer) [] new
 draw_step c now answer new sound (Again sent is repeated) = subst (λ (o : Option Sent). IsRunStep c [] (bytes_of o) [] new) (sym is) (repeats c now sent new sound repeated)
 draw_step c now answer new sound (Fresh none h) =
     by_test (is_resting c.core.last_send now)
-    (λ (_ : is_resting c.core.last_send now ≡ true) is. answer_drawn c (find is_answer c.core.queue) answer new sound refl is)
+    (λ (_ : is_resting c.core.last_send now ≡ true) is. answer_transmitted c (find is_answer c.core.queue) answer new sound refl is)
     (λ (_ : is_resting c.core.last_send now ≡ false) is. next_sent c c.core.queue now answer new sound refl is) h

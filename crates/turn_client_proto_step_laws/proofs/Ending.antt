@@ -1,4 +1,4 @@
--- Calls by which a client ends, and those that tell what happened.
+-- Calls by which a client ends, and those that report what happened.
 use Rattle.std.proofs.Common.{◌≡◌, ℕ, ◌+◌, ◌≤◌, List, [], ◌++◌, length, map, Option, Some, None, refl, sym, ap, ◌∙◌, subst, inl, inr}
 use Rattle.std.specs.FinMap as finite
 use Rattle.std.specs.Ordering.{nat_cmp}
@@ -26,13 +26,13 @@ use Rattle.turn_client_proto_step_laws.proofs.Adding.{Adds, adds_both, adds_none
 use Rattle.turn_client_proto_timers.specs.Peers.Channel.Numbers.{AreDistinct}
 use Rattle.turn_client_proto_step_laws.proofs.Lessening.{none_distinct}
 use Rattle.turn_client_proto_step_laws.proofs.Orderly.{phase_orderly, until_map}
-use Rattle.turn_client_proto_step_laws.proofs.Plain.{IsCounted, counts_none, counts_one, failures_tell_nothing, joined, none_told, nothing_drawn, notices, quiet, run_step}
+use Rattle.turn_client_proto_step_laws.proofs.Plain.{IsCounted, counts_none, counts_one, failures_report_nothing, joined, none_decoded, nothing_transmitted, notices, quiet, run_step}
 use Rattle.turn_client_proto_step_laws.proofs.Realms.{ended_realm}
 
--- ---- nothing changes that a run tells of
+-- ---- nothing changes that a run says of
 
--- what a client needs to ask for something stays
-pub still_can : (c : Client) (core : Protocol) → core.auth ≡ c.core.auth → core.families ≡ c.core.families → core.rng ≡ c.core.rng → CanAsk c → CanAsk (moved c c.drawn core)
+-- What a client needs to make requests stays.
+pub still_can : (c : Client) (core : Protocol) → core.auth ≡ c.core.auth → core.families ≡ c.core.families → core.rng ≡ c.core.rng → CanAsk c → CanAsk (moved c c.transmitted core)
 still_can c core same_auth same_families same_rng can = record {
   account = ap (λ (a : signers.Client). a.account) same_auth ∙ can.account;
   texts = subst HasShortTexts (sym same_auth) can.texts;
@@ -43,8 +43,8 @@ still_can c core same_auth same_families same_rng can = record {
 pub still : (c : Client) (came : List (List ℕ)) (new : Protocol) → IsSound c → new ≡ c.core → IsRunStep c came None [] new
 still c came new sound is =
     subst (λ (p : Protocol). IsRunStep c came None [] p) (sym is)
-    (run_step [] came None [] c c.drawn c.core
-    (quiet None [] c c.drawn c.core (counts_none c c.core refl) (λ realm is. inl is) (adds_none [] (parts_of c.core)) (nothing_drawn [] c) refl)
+    (run_step [] came None [] c c.transmitted c.core
+    (quiet None [] c c.transmitted c.core (counts_none c c.core refl) (λ realm is. inl is) (adds_none [] (parts_of c.core)) (nothing_transmitted [] c) refl)
     sound.orderly (until_map c.core.phase (still_can c c.core refl refl refl) sound.can_ask))
 
 -- ---- an end
@@ -52,11 +52,11 @@ still c came new sound is =
 pub ends : (c : Client) (came : List (List ℕ)) (mid : Protocol) → Adds [] (parts_of c.core) (parts_of mid) → IsOrderly (parts_of mid) → notices mid.events ≡ notices c.core.events → mid.rng ≡ c.core.rng
     → IsRunStep c came None [] (ended mid)
 unfolding ended
-ends c came mid adds orderly told same =
+ends c came mid adds orderly reported same =
     let over = phase_moved [] (parts_of mid) Ended (λ n h. absurd h) in
-    run_step [] came None [] c c.drawn _
-    (quiet None [] c c.drawn _ (counts_none c (ended mid) same) (ended_realm came c.core (ended mid) refl) (adds_both [] (parts_of c.core) (parts_of mid) _ adds over) (nothing_drawn [] c)
-    (none_told mid.events (map AllocationCreateFailed mid.families) (failures_tell_nothing mid.families) ∙ told))
+    run_step [] came None [] c c.transmitted _
+    (quiet None [] c c.transmitted _ (counts_none c (ended mid) same) (ended_realm came c.core (ended mid) refl) (adds_both [] (parts_of c.core) (parts_of mid) _ adds over) (nothing_transmitted [] c)
+    (none_decoded mid.events (map AllocationCreateFailed mid.families) (failures_report_nothing mid.families) ∙ reported))
     (phase_orderly (parts_of mid) Ended tt orderly) tt
 
 pub ended_step : (c : Client) → IsSound c → IsRunStep c [] None [] (ended c.core)
@@ -91,7 +91,7 @@ module _ (c : Client) (new : Protocol) (is : HasFailed c.core new) where
     outstanding = λ m h. none_there h.number h.transaction h.there;
     queued = λ m h. none_queued h.queued h.listed;
     taken = λ n h. inl (failed_taken n h);
-    kept = λ h k. none_listed k.allocation k.listed;
+    stored = λ h k. none_listed k.allocation k.listed;
     waits = λ n peer h. none_listed h.allocation h.listed;
     attempted = failed_attempted;
   }
@@ -113,26 +113,26 @@ module _ (c : Client) (new : Protocol) (is : HasFailed c.core new) where
   failed_at : (came : List (List ℕ)) (count : ℕ) → IsCounted c count new → IsRunStep c came None [] new
   failed_at came count counts =
       run_step [] came None [] c count new
-      (quiet None [] c count new counts (ended_realm came c.core new is.phase) failed_adds (nothing_drawn [] c) (ap notices is.events))
+      (quiet None [] c count new counts (ended_realm came c.core new is.phase) failed_adds (nothing_transmitted [] c) (ap notices is.events))
       failed_orderly (subst (λ (f : Phase). UntilEnded f (CanAsk (moved c count new))) (sym is.phase) tt)
 
   pub failed_step : (came : List (List ℕ)) → IsRunStep c came None [] new
   failed_step came = elim is.drew [
-    | inl none ↦ failed_at came c.drawn (counts_none c new none)
-    | inr one ↦ failed_at came (c.drawn + 1) (counts_one c new one)
+    | inl none ↦ failed_at came c.transmitted (counts_none c new none)
+    | inr one ↦ failed_at came (c.transmitted + 1) (counts_one c new one)
   ]
 
--- ---- an event is told
+-- ---- an event is reported
 
 pub event_step : (c : Client) (event : Option TurnEvent) (new : Protocol) → IsSound c → c.core.events ≡ option_to_list event ++ new.events → new ≡ record c.core { events = new.events }
     → IsRunStep c [] None (notices (option_to_list event)) new
-event_step c event new sound told others = by new.events told others
+event_step c event new sound reported others = by new.events reported others
   where
     by : (events : List TurnEvent) → c.core.events ≡ option_to_list event ++ events → new ≡ record c.core { events = events } → IsRunStep c [] None (notices (option_to_list event)) new
     by events before is =
         let left : Protocol = record c.core { events = events } in
         subst (λ (p : Protocol). IsRunStep c [] None (notices (option_to_list event)) p) (sym is)
-        (run_step [] [] None (notices (option_to_list event)) c c.drawn left
-        (quiet None (notices (option_to_list event)) c c.drawn left (counts_none c left refl) (λ realm is. inl is) (adds_none [] (parts_of c.core)) (nothing_drawn [] c)
+        (run_step [] [] None (notices (option_to_list event)) c c.transmitted left
+        (quiet None (notices (option_to_list event)) c c.transmitted left (counts_none c left refl) (λ realm is. inl is) (adds_none [] (parts_of c.core)) (nothing_transmitted [] c)
         (sym (joined (option_to_list event) events) ∙ ap notices (sym before)))
         sound.orderly (until_map c.core.phase (still_can c left refl refl refl) sound.can_ask))

@@ -1,4 +1,4 @@
--- A client that has failed gives nothing, whatever is kept of its stream.
+-- A client that has failed delivers nothing, whatever is buffered of its stream.
 use Rattle.std.proofs.Common.{◌≡◌, ℕ, Bool, true, false, List, [], Option, Some, None, refl, sym, ap, ◌∙◌, subst, inl, inr}
 use Rattle.std.specs.Prelude.{MatchOption, is_none}
 use Rattle.std.proofs.lemmas.Bool.{cases_Bool}
@@ -8,21 +8,21 @@ use Rattle.turn_client_proto_recv.specs.TurnTypesFrame.ChannelFrames.{channel_re
 use Rattle.turn_client_proto_recv.specs.TurnTypesFrame.StreamAnswers.{after_look}
 use Rattle.turn_client_proto_recv.specs.TurnTypesFrame.Streams.{Stream}
 use Rattle.turn_client_proto_timers.specs.Api.Payloads.{PeerPayload}
-use Rattle.turn_client_proto_timers.specs.Core.Receiving.{IsHeardIn}
+use Rattle.turn_client_proto_timers.specs.Core.Receiving.{IsProcessedIn}
 use Rattle.turn_client_proto_timers.specs.Core.declared.protocol.Phase.{Phase}
 use Rattle.turn_client_proto_timers.specs.Core.declared.protocol.Phase.TheVariants.{Ended}
 use Rattle.turn_client_proto_timers.specs.Core.declared.protocol.Protocol.{Protocol}
-use Rattle.turn_client_proto_recv.specs.Payload.Payloads.{payload_framed, payload_of, payload_told}
+use Rattle.turn_client_proto_recv.specs.Payload.Payloads.{payload_framed, payload_of, payload_reported}
 use Rattle.turn_client_proto_recv.specs.Payload.declared.payload.Payload.{Payload}
-use Rattle.turn_client_proto_recv.specs.HandingIn.{IsHandedIn, taken_as, unread_as}
-use Rattle.turn_client_proto_recv.specs.Pieces.{IsFrameHandled, data_taken}
+use Rattle.turn_client_proto_recv.specs.HandingIn.{IsDispatched, taken_as, unread_as}
+use Rattle.turn_client_proto_recv.specs.Chunks.{IsFrameHandled, data_taken}
 use Rattle.turn_client_proto_recv.specs.Pulls.{Ends, Gives, Goes, IsPulled, frame_of}
 use Rattle.turn_client_proto_recv.specs.declared.handing.Taken.{Taken}
 use Rattle.turn_client_proto_recv.specs.declared.handing.Taken.TheVariants.{Given}
 
--- nothing is held, so nothing is let through
+-- Nothing is held, so nothing is permitted.
 holds_none : (old : Protocol) (frame : List ℕ) → old.phase ≡ Ended → old.allocations ≡ [] → payload_of old frame ≡ None
-unfolding payload_of payload_told payload_framed
+unfolding payload_of payload_reported payload_framed
 holds_none old frame ended empty =
     elim (cases_Bool (is_none (refusal frame))) [
       | inl message ↦ rw (message, ended) refl
@@ -33,23 +33,23 @@ holds_none old frame ended empty =
     ]
 
 module _ (old : Protocol) (frame : List ℕ) (now : ℕ) (new : Protocol) (ended : old.phase ≡ Ended) (empty : old.allocations ≡ []) where
-  as_told : (handled : Bool) → None ≡ data_taken frame (taken_as handled)
-  as_told true = refl
-  as_told false = refl
+  as_decoded : (handled : Bool) → None ≡ data_taken frame (taken_as handled)
+  as_decoded true = refl
+  as_decoded false = refl
 
   as_unread : (refused : Option StunParseError) → None ≡ data_taken frame (unread_as refused)
   as_unread None = refl
   as_unread (Some error) = refl
 
-  handed : (refused : Option StunParseError) (taken : Taken) → IsHandedIn refused old frame now taken new → (data_taken frame taken ≡ None) × (new ≡ old)
-  handed None taken (handled, is, heard) =
-      let ignored = subst (λ (p : Phase). IsHeardIn p old frame now handled new) ended heard in
-      (ap (data_taken frame) is ∙ sym (as_told handled), ignored.1)
-  handed (Some error) taken (is, same) = (ap (data_taken frame) is ∙ sym (as_unread (channel_refusal frame)), same)
+  delivered : (refused : Option StunParseError) (taken : Taken) → IsDispatched refused old frame now taken new → (data_taken frame taken ≡ None) × (new ≡ old)
+  delivered None taken (handled, is, processed) =
+      let ignored = subst (λ (p : Phase). IsProcessedIn p old frame now handled new) ended processed in
+      (ap (data_taken frame) is ∙ sym (as_decoded handled), ignored.1)
+  delivered (Some error) taken (is, same) = (ap (data_taken frame) is ∙ sym (as_unread (channel_refusal frame)), same)
 
-  taken_none : (found : Option Payload) (refused : Option StunParseError) (taken : Taken) → found ≡ None → MatchOption found (IsHandedIn refused old frame now taken new) (λ payload. (taken ≡ Given payload) × (new ≡ old))
+  taken_none : (found : Option Payload) (refused : Option StunParseError) (taken : Taken) → found ≡ None → MatchOption found (IsDispatched refused old frame now taken new) (λ payload. (taken ≡ Given payload) × (new ≡ old))
       → (data_taken frame taken ≡ None) × (new ≡ old)
-  taken_none None refused taken none is = handed refused taken is
+  taken_none None refused taken none is = delivered refused taken is
   taken_none (Some payload) refused taken none is = absurd (Prim.cc none)
 
   frame_none : (given : Option PeerPayload) → IsFrameHandled now old frame given new → (given ≡ None) × (new ≡ old)

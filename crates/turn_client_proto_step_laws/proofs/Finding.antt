@@ -1,4 +1,4 @@
--- What is found in a list of which one element was changed, or some are gone.
+-- What is found in a list after one element was changed, or some were removed.
 use Rattle.std.proofs.Common.{◌≡◌, Bool, true, false, ◌||◌, List, [], ◌∷◌, Some, refl, sym, ap, ◌∙◌, ◌⊎◌, inl, inr}
 use Rattle.std.proofs.lemmas.Bool.{cases_Bool}
 use Rattle.std.specs.Prelude.{map}
@@ -9,7 +9,7 @@ use Rattle.turn_client_proto_step_laws.proofs.Lists.{inside}
 -- ---- the first that passes one test is changed, and another test is not touched by that
 
 module _ {X : Type 0} (p : X → Bool) (f : X → X) (q : X → Bool) (same : (x : X) → q (f x) ≡ q x) where
-  -- what is found then was found before, or is what was, changed
+  -- What is found then was found before, or is the changed element.
   pub found_changed : (xs : List X) (y : X) → find q (change_first p f xs) ≡ Some y → (x : X) × (find q xs ≡ Some x) × ((y ≡ x) ⊎ (y ≡ f x))
   found_changed [] y h = absurd (Prim.cc h)
   found_changed (x ∷ xs) y h = elim (cases_Bool (p x)) [
@@ -29,8 +29,8 @@ module _ {X : Type 0} (p : X → Bool) (f : X → X) (q : X → Bool) (same : (x
               (y, here ∙ sym there ∙ at, inl refl)
         ]
     | inr differs ↦
-        let kept : change_first p f (x ∷ xs) ≡ x ∷ change_first p f xs = rw differs refl in
-        let at : find q (x ∷ change_first p f xs) ≡ Some y = ap (find q) (sym kept) ∙ h in
+        let stored : change_first p f (x ∷ xs) ≡ x ∷ change_first p f xs = rw differs refl in
+        let at : find q (x ∷ change_first p f xs) ≡ Some y = ap (find q) (sym stored) ∙ h in
         elim (cases_Bool (q x)) [
           | inl passes ↦
               let here : find q (x ∷ xs) ≡ Some x = rw passes refl in
@@ -44,7 +44,7 @@ module _ {X : Type 0} (p : X → Bool) (f : X → X) (q : X → Bool) (same : (x
         ]
   ]
 
-  -- and as many pass
+  -- Whether some element passes does not change.
   pub any_changed : (xs : List X) → list_any q (change_first p f xs) ≡ list_any q xs
   any_changed [] = refl
   any_changed (x ∷ xs) = elim (cases_Bool (p x)) [
@@ -52,8 +52,8 @@ module _ {X : Type 0} (p : X → Bool) (f : X → X) (q : X → Bool) (same : (x
         let changed : change_first p f (x ∷ xs) ≡ f x ∷ xs = rw is refl in
         ap (list_any q) changed ∙ ap (λ (b : Bool). b || list_any q xs) (same x)
     | inr differs ↦
-        let kept : change_first p f (x ∷ xs) ≡ x ∷ change_first p f xs = rw differs refl in
-        ap (list_any q) kept ∙ ap (λ (b : Bool). q x || b) (any_changed xs)
+        let stored : change_first p f (x ∷ xs) ≡ x ∷ change_first p f xs = rw differs refl in
+        ap (list_any q) stored ∙ ap (λ (b : Bool). q x || b) (any_changed xs)
   ]
 
 -- ---- some are gone that do not pass

@@ -1,4 +1,4 @@
--- The first message that a new client sends has the number at the first place of its seed's stream.
+-- The first message that a new client transmits has the transaction ID at index 0 of its seed's stream.
 use Rattle.std.proofs.Common.{◌≡◌, ℕ, ◌≤◌, true, false, List, [], length, Option, Some, ap, sym, ◌∙◌, subst, inl, inr}
 use Rattle.std.specs.List.{find}
 use Rattle.std.specs.declared.net.socket_addr.SocketAddr.{SocketAddr}
@@ -7,7 +7,7 @@ use Rattle.turn_client_proto_timers.specs.StunTypesWire.Grammar.{number_at}
 use Rattle.turn_client_proto_timers.specs.StunTypesWire.Registry.{longest_username}
 use Rattle.turn_client_proto_timers.specs.StunTypesBase.declared.transport.TransportType.{TransportType}
 use Rattle.turn_client_proto_timers.specs.Api.Config.{Config}
-use Rattle.turn_client_proto_timers.specs.Drawing.{Again, Fresh, IsAnswerSent, IsBegun, IsDrawn, IsFirstSent, IsNextSent, is_resting}
+use Rattle.turn_client_proto_timers.specs.Drawing.{Again, Fresh, IsAnswerSent, IsStarted, IsTransmitted, IsFirstSent, IsNextSent, is_resting}
 use Rattle.turn_client_proto_timers.specs.Api.Sent.{Sent}
 use Rattle.turn_client_proto_timers.specs.Messages.declared.request.TurnRequest.TheVariants.{FirstAllocate}
 use Rattle.turn_client_proto_timers.specs.TurnRuns.StunWire.{stun_wire}
@@ -20,7 +20,7 @@ use Rattle.turn_client_proto_step_laws.specs.RunClient.{Client}
 use Rattle.turn_client_proto_step_laws.specs.Sound.{CanAsk, IsSound, UntilEnded, stream_from}
 use Rattle.turn_client_proto_step_laws.proofs.Asking.{at_first, made}
 use Rattle.turn_client_proto_step_laws.proofs.Beginning.{new_sound, none_taken, none_there}
-use Rattle.turn_client_proto_step_laws.proofs.Numbers.{IsAtPlace, number_at_place}
+use Rattle.turn_client_proto_step_laws.proofs.Numbers.{IsAtIndex, number_at_index}
 use Rattle.turn_client_proto_step_laws.proofs.Polling.{by_test}
 
 module _ (transport : TransportType) (here server : SocketAddr) (config : Config) (seed : List ℕ) (p new : Protocol) (now : ℕ) (sent : Sent) (is : IsNew transport here server config seed p)
@@ -37,22 +37,22 @@ module _ (transport : TransportType) (here server : SocketAddr) (config : Config
   can : CanAsk c
   can = subst (λ (f : Phase). UntilEnded f (CanAsk c)) is.phase sound.can_ask
 
-  -- none is taken, so it is that one
-  free : (number : ℕ) → IsAtPlace p c.seed c.drawn number → number ≡ stun_wire.number c.seed c.drawn
+  -- No transaction ID is taken, so it is that one.
+  free : (number : ℕ) → IsAtIndex p c.seed c.transmitted number → number ≡ stun_wire.number c.seed c.transmitted
   free number (inl at) = at
-  free number (inr taken) = absurd (none_taken transport here server config seed p is (stun_wire.number c.seed c.drawn) taken)
+  free number (inr taken) = absurd (none_taken transport here server config seed p is (stun_wire.number c.seed c.transmitted) taken)
 
   first : IsFirstSent p now sent new → IsFirst
   first h =
       let written = made c p (FirstAllocate p.allocates p.families) h.number (at_first c [] sound.orderly can) can.families tt h.made.is_next in
-      ap (λ (s : Sent). number_at s.bytes) h.made.is_sent ∙ written.number_is ∙ free h.number (number_at_place p c.seed c.drawn h.number can.words h.made.is_next)
+      ap (λ (s : Sent). number_at s.bytes) h.made.is_sent ∙ written.number_is ∙ free h.number (number_at_index p c.seed c.transmitted h.number can.words h.made.is_next)
 
   next : IsNextSent p.queue p now (Some sent) new → IsFirst
   next h =
-      first (subst (λ (f : Phase). IsBegun f p now (Some sent) new) is.phase
+      first (subst (λ (f : Phase). IsStarted f p now (Some sent) new) is.phase
       (subst (λ (q : List Queued). IsNextSent q p now (Some sent) new) is.queue h))
 
-  pub first_number : IsDrawn p now (Some sent) new → IsFirst
+  pub first_number : IsTransmitted p now (Some sent) new → IsFirst
   first_number (Again one same repeated) = none_there transport here server config seed p is repeated.number repeated.transaction repeated.least.present
   first_number (Fresh none h) =
       by_test (is_resting p.last_send now)

@@ -1,4 +1,4 @@
--- What stays true of a client where permissions and channels are gained, asked for or gone.
+-- The invariant of a client when permissions and channels are gained, requested or removed.
 use Rattle.std.proofs.Common.{◌≡◌, ℕ, List, sym, subst, inl, inr}
 use Rattle.std.specs.declared.net.ip_addr.IpAddr.{IpAddr}
 use Rattle.std.specs.declared.net.socket_addr.SocketAddr.{SocketAddr}
@@ -9,22 +9,22 @@ use Rattle.turn_client_proto_timers.specs.TurnRuns.Members.{IsIn}
 use Rattle.turn_client_proto_timers.specs.TurnRuns.Messages as run
 use Rattle.turn_client_proto_step_laws.specs.Held.{Allocation}
 use Rattle.turn_client_proto_step_laws.specs.RunClient.{Parts}
-use Rattle.turn_client_proto_step_laws.specs.Sound.{AreAsked, AreBinding, AreWhole, AsksFor, IsOrderly, IsWhole}
+use Rattle.turn_client_proto_step_laws.specs.Sound.{AreRequested, AreBinding, AreWhole, AsksFor, IsOrderly, IsWhole}
 use Rattle.turn_client_proto_step_laws.proofs.Permitting.{ArePermitting, Asking, Gaining, none_asks, none_gained}
 
--- what is outstanding under a number that asks now asks for just that, and what is asked for or gained now can be named in
--- a request
+-- What is outstanding with a transaction ID that requests something now asks for exactly that; and
+-- XOR-PEER-ADDRESS carries completely the peers of what is requested or gained now.
 pub record AreFit (New : Gaining) (Now : Asking) (agent : Agent) : Type 0 where
   pub asks : (held : run.Held) (n : ℕ) → Now held n → AsksFor agent held n
-  pub asked : (channel : ℕ) (peer : SocketAddr) (n : ℕ) → Now (run.Channel channel peer) n → IsWhole peer
+  pub requested : (channel : ℕ) (peer : SocketAddr) (n : ℕ) → Now (run.Channel channel peer) n → IsWhole peer
   pub gained : (channel : ℕ) (peer : SocketAddr) → New (run.Channel channel peer) → IsWhole peer
 
--- where nothing is gained or asked for
+-- Nothing is gained or requested.
 pub none_fit : (agent : Agent) → AreFit none_gained none_asks agent
-none_fit agent = record { asks = λ held n h. absurd h; asked = λ channel peer n h. absurd h; gained = λ channel peer h. absurd h }
+none_fit agent = record { asks = λ held n h. absurd h; requested = λ channel peer n h. absurd h; gained = λ channel peer h. absurd h }
 
 module _ (New : Gaining) (Now : Asking) (p : Parts) (new : List Allocation) (are : ArePermitting New Now p.allocations new) (fit : AreFit New Now p.agent) (is : IsOrderly p) where
-  permissions : (a : Allocation) → IsIn a new → AreAsked p.agent a
+  permissions : (a : Allocation) → IsIn a new → AreRequested p.agent a
   permissions a listed pending there n has =
       let was = are a listed in
       elim (was.is.numbers pending n there has) [
@@ -42,14 +42,14 @@ module _ (New : Gaining) (Now : Asking) (p : Parts) (new : List Allocation) (are
   channels : (a : Allocation) → IsIn a new → AreBinding p.agent a
   channels a listed =
       let was = are a listed in
-      let asked = is.channels was.before was.listed in
+      let requested = is.channels was.before was.listed in
       record {
-        asked = λ c there n has. elim (was.is.channel_numbers c n there has) [
-          | inl old ↦ like n c.channel old.before.channel c.peer old.before.peer old.channel_is old.peer (asked.asked old.before old.listed n old.has)
+        requested = λ c there n has. elim (was.is.channel_numbers c n there has) [
+          | inl old ↦ like n c.channel old.before.channel c.peer old.before.peer old.channel_is old.peer (requested.requested old.before old.listed n old.has)
           | inr now ↦ fit.asks (run.Channel c.channel c.peer) n now
         ];
         renewed = λ c there n has. elim (was.is.channel_renewals c n there has) [
-          | inl old ↦ like n c.number old.before.number c.peer old.before.peer old.number_is old.peer (asked.renewed old.before old.listed n old.has)
+          | inl old ↦ like n c.number old.before.number c.peer old.before.peer old.number_is old.peer (requested.renewed old.before old.listed n old.has)
           | inr now ↦ fit.asks (run.Channel c.number c.peer) n now
         ];
       }
@@ -59,9 +59,9 @@ module _ (New : Gaining) (Now : Asking) (p : Parts) (new : List Allocation) (are
       let was = are a listed in
       let whole = is.peers was.before was.listed in
       record {
-        asked = λ c there. elim (was.is.new_channels c there) [
-          | inl old ↦ subst IsWhole (sym old.peer) (whole.asked old.before old.listed)
-          | inr now ↦ fit.asked c.channel c.peer now.0 now.1
+        requested = λ c there. elim (was.is.new_channels c there) [
+          | inl old ↦ subst IsWhole (sym old.peer) (whole.requested old.before old.listed)
+          | inr now ↦ fit.requested c.channel c.peer now.0 now.1
         ];
         standing = λ c there. elim (was.is.channels c there) [
           | inl old ↦ subst IsWhole (sym old.peer) (whole.standing old.before old.listed)
@@ -79,10 +79,10 @@ module _ (New : Gaining) (Now : Asking) (p : Parts) (new : List Allocation) (are
     permissions = permissions;
     channels = channels;
     peers = peers;
-    connects = λ a listed. let was = are a listed in let asked = is.connects was.before was.listed in record {
-      asked = λ c there. asked.asked c (was.is.connecting c there);
-      whole = λ c there. asked.whole c (was.is.connecting c there);
-      binds = λ c there b awaits. asked.binds c (was.is.connections c there) b awaits;
+    connects = λ a listed. let was = are a listed in let requested = is.connects was.before was.listed in record {
+      requested = λ c there. requested.requested c (was.is.connecting c there);
+      whole = λ c there. requested.whole c (was.is.connecting c there);
+      binds = λ c there b awaits. requested.binds c (was.is.connections c there) b awaits;
     };
     distinct = distinct;
   }

@@ -1,12 +1,12 @@
--- Over TCP: frames that come wait, and are taken up one by one.
+-- Over TCP: frames that are received are buffered, and handled one by one.
 use Rattle.std.proofs.Common.{◌≡◌, ◌⊎◌, ℕ, Bool, List, [], ◌∷◌, Some, None, refl, sym, subst, inl, inr}
 use Rattle.turn_client_proto_timers.specs.StunTypesWire.Grammar.{refusal}
 use Rattle.turn_client_proto_timers.specs.StunTypesWire.Headers.{AreBytes}
-use Rattle.turn_client_proto_timers.specs.Core.Receiving.{IsHeard}
+use Rattle.turn_client_proto_timers.specs.Core.Receiving.{IsProcessed}
 use Rattle.turn_client_proto_timers.specs.Core.declared.protocol.Protocol.{Protocol}
 use Rattle.turn_client_proto_timers.specs.TurnRuns.Members.{IsIn}
-use Rattle.turn_client_proto_timers.specs.TurnRuns.Messages.{Holds, Knows, Payload as Told}
-use Rattle.turn_client_proto_recv.specs.Payload.OfPeers.{told_of}
+use Rattle.turn_client_proto_timers.specs.TurnRuns.Messages.{Holds, Knows, Payload as Reported}
+use Rattle.turn_client_proto_recv.specs.Payload.OfPeers.{reported_of}
 use Rattle.turn_client_proto_recv.specs.Payload.Payloads.{payload_of}
 use Rattle.turn_client_proto_timers.specs.TurnRuns.Steps.{Call, ClientStep}
 use Rattle.turn_client_proto_recv.specs.Payload.declared.payload.Payload.{Payload}
@@ -22,7 +22,7 @@ use Rattle.turn_client_proto_step_laws.proofs.Showing.{answered, delivered, trie
 
 -- ---- the same call, with other frames that came and wait
 
--- a client in which these frames wait
+-- A client with these buffered frames.
 abbrev waits : List (List ℕ) → Client → Client
 waits frames c = record c { waiting = frames }
 
@@ -36,7 +36,8 @@ module _ (call : Call Client) (came before after : List (List ℕ)) where
   abbrev other : Call Client
   other = record call { before = waits before call.before; came = came; after = waits after call.after }
 
-  -- what is taken up came or waited, and what waits then came or waited
+  -- What is handled was received now or was buffered, and what is buffered afterwards was received now or was
+  -- buffered.
   framed_step : ((f : List ℕ) → IsIn f call.handled → IsIn f came ⊎ IsIn f before) → ((f : List ℕ) → IsIn f after → IsIn f came ⊎ IsIn f before)
       → ClientStep client_words call → ClientStep client_words other
   framed_step handles buffers is = record {
@@ -45,7 +46,7 @@ module _ (call : Call Client) (came before after : List (List ℕ)) where
     realms = is.realms;
     counted = is.counted;
     few = is.few;
-    begun = is.begun;
+    started = is.started;
     requests = is.requests;
     numbered = is.numbered;
     outstanding = is.outstanding;
@@ -59,18 +60,18 @@ module _ (call : Call Client) (came before after : List (List ℕ)) where
     buffers = buffers;
     gained = is.gained;
     gains = is.gains;
-    answers = λ t h. answered client_words call other refl refl refl refl (λ m is. is) is.begun (Holds t.held) t.number (is.answers t h);
+    answers = λ t h. answered client_words call other refl refl refl refl (λ m is. is) is.started (Holds t.held) t.number (is.answers t h);
     once = is.once;
     spent = is.spent;
     known = is.known;
     is_of = is.is_of;
-    tells = is.tells;
+    decodes = is.decodes;
     shows = is.shows;
-    shown = is.shown;
+    visible = is.visible;
     waits = λ n peer h. elim (is.waits n peer h) [
       | inl was ↦ inl was
       | inr now ↦ elim now [
-        | inl known ↦ inr (inl (known.0, answered client_words call other refl refl refl refl (λ m is. is) is.begun (Knows n peer) known.0 known.1))
+        | inl known ↦ inr (inl (known.0, answered client_words call other refl refl refl refl (λ m is. is) is.started (Knows n peer) known.0 known.1))
         | inr attempt ↦ inr (inr (tried client_words call other refl refl refl refl (λ m is. is) attempt))
       ]
     ];
@@ -79,7 +80,7 @@ module _ (call : Call Client) (came before after : List (List ℕ)) where
     names = is.names;
   }
 
--- a step is one, too, behind which no frame waits any more
+-- A step is also one if no frame is buffered any more after it.
 pub losing_step : (call : Call Client) → ClientStep client_words call → ClientStep client_words (record call { after = record call.after { waiting = [] } })
 losing_step call is = framed_step call call.came call.before.waiting [] is.handles (λ f i. absurd i) is
 
@@ -100,7 +101,7 @@ module _ (c : Client) (sound : IsSound c) where
 -- ---- one that waited is taken up
 
 module _ (c : Client) (sound : IsSound c) (frame : List ℕ) (rest : List (List ℕ)) (waited : c.waiting ≡ frame ∷ rest) where
-  -- what waits afterwards had waited
+  -- What is buffered afterwards was buffered before.
   waited_too : (f : List ℕ) → IsIn f rest → IsIn f [] ⊎ IsIn f c.waiting
   waited_too f i = inr (subst (λ (l : List (List ℕ)). IsIn f l) (sym waited) (inr i))
 
@@ -110,8 +111,8 @@ module _ (c : Client) (sound : IsSound c) (frame : List ℕ) (rest : List (List 
     | inr none ↦ absurd none
   ]
 
-  -- as if it came now
-  taken_up : (payloads : List Told) (new : Protocol) → IsGiving c frame payloads new → IsTakingUp c frame payloads new
+  -- The frame is handled as if it came now.
+  taken_up : (payloads : List Reported) (new : Protocol) → IsGiving c frame payloads new → IsTakingUp c frame payloads new
   taken_up payloads new is = record {
     after = waits rest is.after;
     core_is = is.core_is;
@@ -123,14 +124,14 @@ module _ (c : Client) (sound : IsSound c) (frame : List ℕ) (rest : List (List 
   nothing_given : (new : Protocol) → IsRunStep c (frame ∷ []) None [] new → IsGiving c frame [] new
   nothing_given new is = record { after = is.after; core_is = is.core_is; waits = is.waits; step = is.step; sound = is.sound }
 
-  -- a message is heard
-  pub hearing_step : (now : ℕ) (handled : Bool) (new : Protocol) → AreBytes frame → refusal frame ≡ None → IsHeard c.core frame now handled new → IsTakingUp c frame [] new
-  hearing_step now handled new are_bytes message is = taken_up [] new (nothing_given new (receive_step c frame now handled new sound are_bytes message is))
+  -- A message is handled.
+  pub processing_step : (now : ℕ) (handled : Bool) (new : Protocol) → AreBytes frame → refusal frame ≡ None → IsProcessed c.core frame now handled new → IsTakingUp c frame [] new
+  processing_step now handled new are_bytes message is = taken_up [] new (nothing_given new (receive_step c frame now handled new sound are_bytes message is))
 
-  -- nothing is made of it
+  -- The frame has no effect.
   pub passing_step : (new : Protocol) → new ≡ c.core → IsTakingUp c frame [] new
   passing_step new is = taken_up [] new (nothing_given new (still c (frame ∷ []) new sound is))
 
-  -- something of a peer is handed over
-  pub handing_step : (payload : Payload) → payload_of c.core frame ≡ Some payload → IsTakingUp c frame (told_of frame payload ∷ []) c.core
-  handing_step payload is = taken_up (told_of frame payload ∷ []) c.core (giving_step c frame payload sound is)
+  -- Something of a peer is delivered.
+  pub handing_step : (payload : Payload) → payload_of c.core frame ≡ Some payload → IsTakingUp c frame (reported_of frame payload ∷ []) c.core
+  handing_step payload is = taken_up (reported_of frame payload ∷ []) c.core (giving_step c frame payload sound is)

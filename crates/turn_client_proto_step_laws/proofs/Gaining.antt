@@ -1,4 +1,4 @@
--- The addresses that a success response to an ALLOCATE brings, and the allocations of them.
+-- The addresses that a success response to an ALLOCATE brings, and their allocations.
 use Rattle.std.proofs.Common.{◌≡◌, ℕ, Bool, true, not, cond, List, [], ◌∷◌, map, Option, Some, None, refl, sym, ap, ◌∙◌, subst, arith, inl, inr}
 use Rattle.std.proofs.lemmas.Bool.{cases_Bool}
 use Rattle.std.proofs.lemmas.List.Sums.{take_while-cons}
@@ -13,21 +13,21 @@ use Rattle.turn_client_proto_timers.specs.StunTypesBase.declared.family.AddressF
 use Rattle.turn_client_proto_timers.specs.StunTypesBase.declared.transport.TransportType.{TransportType}
 use Rattle.turn_client_proto_timers.specs.StunProtoAgent.State.{Agent}
 use Rattle.turn_client_proto_recv.specs.TurnTypesAttributes.TurnRegistry.{xor_relayed_address_kind}
-use Rattle.turn_client_proto_timers.specs.TurnTypesPeer.TurnShows.{address_in, addresses_shown, each_shown}
+use Rattle.turn_client_proto_timers.specs.TurnTypesPeer.TurnShows.{address_in, addresses_visible, each_visible}
 use Rattle.turn_client_proto_timers.specs.TurnRuns.Members.{IsIn, NoneTwice}
 use Rattle.turn_client_proto_timers.specs.TurnRuns.Messages as run
-use Rattle.turn_client_proto_timers.specs.TurnRuns.Steps.{Told, told_for}
+use Rattle.turn_client_proto_timers.specs.TurnRuns.Steps.{Reported, reported_for}
 use Rattle.turn_client_proto_timers.specs.Allocation.Refreshing.{granted}
 use Rattle.turn_client_proto_timers.specs.Api.Families.{is_same_family}
 use Rattle.turn_client_proto_timers.specs.Messages.Granting.{are_of_one_family, first_of_each}
-use Rattle.turn_client_proto_timers.specs.Messages.Telling.{created}
-use Rattle.turn_client_proto_timers.specs.Messages.Told.{relayed_told}
+use Rattle.turn_client_proto_timers.specs.Messages.Reporting.{created}
+use Rattle.turn_client_proto_timers.specs.Messages.Reported.{relayed_reported}
 use Rattle.turn_client_proto_timers.specs.Core.Allocating.{phase_by}
 use Rattle.turn_client_proto_timers.specs.Core.Authenticating.{numbers_sent}
 use Rattle.turn_client_proto_timers.specs.Messages.Waiting.{Queued}
-use Rattle.turn_client_proto_step_laws.specs.ClientWords.{Has, HasItself, HasPermission, HasChannel, HasConnection, IsAttempted, IsWaiting, IsAnswered as HasAnswered, IsKept, IsPending, OfPermission, OfChannel, OfNewPermission, OfNewChannel, OfRefresh, OfConnect, OfAttempt, OfBinding, Knows, ByWaiting, ByConnection, Waits}
+use Rattle.turn_client_proto_step_laws.specs.ClientWords.{Has, HasItself, HasPermission, HasChannel, HasConnection, IsAttempted, IsWaiting, IsAnswered as HasAnswered, IsStored, IsPending, OfPermission, OfChannel, OfNewPermission, OfNewChannel, OfRefresh, OfConnect, OfAttempt, OfBinding, Knows, ByWaiting, ByConnection, Waits}
 use Rattle.turn_client_proto_step_laws.specs.Held.{Allocation}
-use Rattle.turn_client_proto_step_laws.specs.Sound.{AreAsked, AreBinding, AreConnecting, AreShort, AreWhole, BeforeAllocated}
+use Rattle.turn_client_proto_step_laws.specs.Sound.{AreRequested, AreBinding, AreConnecting, AreShort, AreWhole, BeforeAllocated}
 use Rattle.turn_client_proto_timers.specs.Peers.Channel.Numbers.{AreDistinct, uses}
 use Rattle.turn_client_proto_step_laws.proofs.Lists.{in_filter, in_map}
 use Rattle.turn_client_proto_step_laws.proofs.Plain.{notices}
@@ -38,20 +38,20 @@ same_family : (f : AddressFamily) → is_same_family f f ≡ true
 same_family IPV4 = refl
 same_family IPV6 = refl
 
--- what is gained: the address, by the response of a number
-abbrev pub told_of : TransportType → ℕ → SocketAddr → Told
-told_of transport number address = record {
+-- What is gained: the address, by the response with this transaction ID.
+abbrev pub reported_of : TransportType → ℕ → SocketAddr → Reported
+reported_of transport number address = record {
   notice = run.AllocationCreated transport address;
   held = run.Allocation transport address;
   number = number;
 }
 
-same_address : (transport : TransportType) (number : ℕ) (one other : SocketAddr) → told_for (told_of transport number one) ≡ told_for (told_of transport number other) → one ≡ other
+same_address : (transport : TransportType) (number : ℕ) (one other : SocketAddr) → reported_for (reported_of transport number one) ≡ reported_for (reported_of transport number other) → one ≡ other
 same_address transport number one other same =
     let notice : run.AllocationCreated transport one ≡ run.AllocationCreated transport other = ap (λ (p : run.Notice × ℕ). p.0) same in
     Prim.cc notice
 
--- an address of another family
+-- An address of another family.
 abbrev unlike : SocketAddr → SocketAddr → Bool
 unlike x = λ y. not (are_of_one_family x y)
 
@@ -62,54 +62,54 @@ alike x y same differs =
     Prim.cc (sym (ap not is) ∙ isnt)
 
 module _ (transport : TransportType) (number : ℕ) where
-  abbrev told_each : List SocketAddr → List Told
-  told_each all = map (told_of transport number) all
+  abbrev reported_each : List SocketAddr → List Reported
+  reported_each all = map (reported_of transport number) all
 
-  -- nothing told of these addresses is what is told of another one
+  -- No notice of these addresses equals that of this one.
   abbrev AreApart : SocketAddr → List SocketAddr → Type 0
-  AreApart x all = (t : Told) → IsIn t (told_each all) → told_for t ≡ told_for (told_of transport number x) → ⊥
+  AreApart x all = (t : Reported) → IsIn t (reported_each all) → reported_for t ≡ reported_for (reported_of transport number x) → ⊥
 
-  told_in : (x : SocketAddr) (all : List SocketAddr) → IsIn x all → IsIn (told_of transport number x) (told_each all)
-  told_in x [] h = absurd h
-  told_in x (y ∷ all) (inl is) = inl (ap (told_of transport number) is)
-  told_in x (y ∷ all) (inr h) = inr (told_in x all h)
+  reported_in : (x : SocketAddr) (all : List SocketAddr) → IsIn x all → IsIn (reported_of transport number x) (reported_each all)
+  reported_in x [] h = absurd h
+  reported_in x (y ∷ all) (inl is) = inl (ap (reported_of transport number) is)
+  reported_in x (y ∷ all) (inr h) = inr (reported_in x all h)
 
   apart : (x : SocketAddr) (all : List SocketAddr) → AreApart x (filter (unlike x) all)
   apart x all t listed same =
-      let image = in_map (told_of transport number) t (filter (unlike x) all) listed in
-      let equal : image.source ≡ x = same_address transport number image.source x (ap told_for (sym image.is) ∙ same) in
+      let image = in_map (reported_of transport number) t (filter (unlike x) all) listed in
+      let equal : image.source ≡ x = same_address transport number image.source x (ap reported_for (sym image.is) ∙ same) in
       alike x image.source equal (in_filter (unlike x) image.source all image.listed).1
 
   fewer : (p : SocketAddr → Bool) (y : SocketAddr) (all : List SocketAddr) → AreApart y all → AreApart y (filter p all)
   fewer p y all none t listed same =
-      let image = in_map (told_of transport number) t (filter p all) listed in
-      none (told_of transport number image.source) (told_in image.source all (in_filter p image.source all image.listed).0) (ap told_for (sym image.is) ∙ same)
+      let image = in_map (reported_of transport number) t (filter p all) listed in
+      none (reported_of transport number image.source) (reported_in image.source all (in_filter p image.source all image.listed).0) (ap reported_for (sym image.is) ∙ same)
 
-  none_left : (p : SocketAddr → Bool) (all : List SocketAddr) → NoneTwice told_for (told_each all) → NoneTwice told_for (told_each (filter p all))
+  none_left : (p : SocketAddr → Bool) (all : List SocketAddr) → NoneTwice reported_for (reported_each all) → NoneTwice reported_for (reported_each (filter p all))
   none_left p [] h = tt
   none_left p (y ∷ all) h = elim (cases_Bool (p y)) [
     | inl is ↦
         let here : filter p (y ∷ all) ≡ y ∷ filter p all = rw is refl in
-        subst (λ (l : List SocketAddr). NoneTwice told_for (told_each l)) (sym here) (fewer p y all h.0, none_left p all h.1)
+        subst (λ (l : List SocketAddr). NoneTwice reported_for (reported_each l)) (sym here) (fewer p y all h.0, none_left p all h.1)
     | inr differs ↦
         let here : filter p (y ∷ all) ≡ filter p all = rw differs refl in
-        subst (λ (l : List SocketAddr). NoneTwice told_for (told_each l)) (sym here) (none_left p all h.1)
+        subst (λ (l : List SocketAddr). NoneTwice reported_for (reported_each l)) (sym here) (none_left p all h.1)
   ]
 
-  -- the first addresses of each family differ
-  pub none_twice : (all : List SocketAddr) → NoneTwice told_for (told_each (first_of_each are_of_one_family all))
+  -- The first addresses of each family differ.
+  pub none_twice : (all : List SocketAddr) → NoneTwice reported_for (reported_each (first_of_each are_of_one_family all))
   unfolding first_of_each
   none_twice [] = tt
   none_twice (x ∷ rest) = (apart x (first_of_each are_of_one_family rest), none_left (unlike x) (first_of_each are_of_one_family rest) (none_twice rest))
 
--- the first of each family are addresses of the list
+-- The first of each family are addresses of the list.
 pub in_firsts : (x : SocketAddr) (all : List SocketAddr) → IsIn x (first_of_each are_of_one_family all) → IsIn x all
 unfolding first_of_each
 in_firsts x [] h = absurd h
 in_firsts x (y ∷ rest) (inl is) = inl is
 in_firsts x (y ∷ rest) (inr h) = inr (in_firsts x rest (in_filter (λ z. not (are_of_one_family y z)) x (first_of_each are_of_one_family rest) h).0)
 
--- addresses up to the first malformed one are shown
+-- Addresses up to the first malformed one are visible.
 in_mapped : (f : Attr → Option SocketAddr) (a : Attr) (x : SocketAddr) (all more : List Attr) (o : Option SocketAddr) → f a ≡ o → IsIn x (filter_map f (a ∷ all)) → (IsIn x (filter_map f all) → IsIn x (filter_map f more)) → IsIn x (filter_map f (a ∷ more))
 in_mapped f a x all more None is h g =
     let here : filter_map f (a ∷ all) ≡ filter_map f all = rw is refl in
@@ -131,15 +131,15 @@ in_whole f p x (a ∷ all) h = elim (cases_Bool (p a)) [
       absurd (subst (λ (l : List Attr). IsIn x (filter_map f l)) (take_while-cons p a all ∙ here) h)
 ]
 
-pub relayed_shown : (bytes : List ℕ) (x : SocketAddr) → IsIn x (relayed_told bytes) → IsIn x (addresses_shown xor_relayed_address_kind bytes)
-relayed_shown bytes x h = in_whole (address_in (number_at bytes)) (λ a. is_some (address_in (number_at bytes) a)) x (each_shown xor_relayed_address_kind bytes) h
+pub relayed_listed : (bytes : List ℕ) (x : SocketAddr) → IsIn x (relayed_reported bytes) → IsIn x (addresses_visible xor_relayed_address_kind bytes)
+relayed_listed bytes x h = in_whole (address_in (number_at bytes)) (λ a. is_some (address_in (number_at bytes) a)) x (each_visible xor_relayed_address_kind bytes) h
 
--- ---- what is told
+-- ---- what is reported
 
-pub told_created : (transport : TransportType) (number lifetime now : ℕ) (all : List SocketAddr)
-    → notices (map created (map (λ address. granted transport address lifetime now) all)) ≡ map (λ (t : Told). t.notice) (map (told_of transport number) all)
-told_created transport number lifetime now [] = refl
-told_created transport number lifetime now (x ∷ all) = ap (λ (l : List run.Notice). run.AllocationCreated transport x ∷ l) (told_created transport number lifetime now all)
+pub reported_created : (transport : TransportType) (number lifetime now : ℕ) (all : List SocketAddr)
+    → notices (map created (map (λ address. granted transport address lifetime now) all)) ≡ map (λ (t : Reported). t.notice) (map (reported_of transport number) all)
+reported_created transport number lifetime now [] = refl
+reported_created transport number lifetime now (x ∷ all) = ap (λ (l : List run.Notice). run.AllocationCreated transport x ∷ l) (reported_created transport number lifetime now all)
 
 -- ---- fresh allocations
 
@@ -147,7 +147,7 @@ module _ (transport : TransportType) (number lifetime now : ℕ) where
   abbrev pub fresh : SocketAddr → Allocation
   fresh address = granted transport address lifetime now
 
-  fresh_has : (h : run.Held) (address : SocketAddr) → Has (fresh address) h → (told_of transport number address).held ≡ h
+  fresh_has : (h : run.Held) (address : SocketAddr) → Has (fresh address) h → (reported_of transport number address).held ≡ h
   fresh_has h address HasItself = refl
   fresh_has h address (HasPermission p listed) = absurd listed
   fresh_has h address (HasChannel c listed) = absurd listed
@@ -175,10 +175,10 @@ module _ (transport : TransportType) (number lifetime now : ℕ) where
   fresh_distinct all n = let none = no_uses n all in omega (arith, none)
 
   module _ (all : List SocketAddr) where
-    pub kept_gained : (h : run.Held) → IsKept (map fresh all) h → (t : Told) × IsIn t (map (told_of transport number) all) × (t.held ≡ h)
-    kept_gained h k =
+    pub stored_gained : (h : run.Held) → IsStored (map fresh all) h → (t : Reported) × IsIn t (map (reported_of transport number) all) × (t.held ≡ h)
+    stored_gained h k =
         let image = in_map fresh k.allocation all k.listed in
-        (told_of transport number image.source, told_in transport number image.source all image.listed, fresh_has h image.source (subst (λ (a : Allocation). Has a h) image.is k.has))
+        (reported_of transport number image.source, reported_in transport number image.source all image.listed, fresh_has h image.source (subst (λ (a : Allocation). Has a h) image.is k.has))
 
     pub none_pending : {A : Type 0} (n : ℕ) (a : Allocation) → IsIn a (map fresh all) → IsPending n a → A
     none_pending n a listed is =
@@ -195,8 +195,8 @@ module _ (transport : TransportType) (number lifetime now : ℕ) where
         let image = in_map fresh a all listed in
         absurd (subst (λ (x : Allocation). IsIn r x.pending_refreshes) image.is there)
 
-    pub none_asked : (agent : Agent) (a : Allocation) → IsIn a (map fresh all) → AreAsked agent a
-    none_asked agent a listed p there =
+    pub none_requested : (agent : Agent) (a : Allocation) → IsIn a (map fresh all) → AreRequested agent a
+    none_requested agent a listed p there =
         let image = in_map fresh a all listed in
         absurd (subst (λ (x : Allocation). IsIn p x.pending_permissions) image.is there)
 
@@ -204,7 +204,7 @@ module _ (transport : TransportType) (number lifetime now : ℕ) where
     none_bound agent a listed =
         let image = in_map fresh a all listed in
         record {
-          asked = λ c there. absurd (subst (λ (x : Allocation). IsIn c x.pending_channels) image.is there);
+          requested = λ c there. absurd (subst (λ (x : Allocation). IsIn c x.pending_channels) image.is there);
           renewed = λ c there. absurd (subst (λ (x : Allocation). IsIn c x.channels) image.is there);
         }
 
@@ -212,7 +212,7 @@ module _ (transport : TransportType) (number lifetime now : ℕ) where
     none_connects agent a listed =
         let image = in_map fresh a all listed in
         record {
-          asked = λ c there. absurd (subst (λ (x : Allocation). IsIn c x.connecting) image.is there);
+          requested = λ c there. absurd (subst (λ (x : Allocation). IsIn c x.connecting) image.is there);
           whole = λ c there. absurd (subst (λ (x : Allocation). IsIn c x.connecting) image.is there);
           binds = λ c there b awaits. absurd (subst (λ (x : Allocation). IsIn c x.connections) image.is there);
         }
@@ -221,7 +221,7 @@ module _ (transport : TransportType) (number lifetime now : ℕ) where
     none_peers a listed =
         let image = in_map fresh a all listed in
         record {
-          asked = λ c there. absurd (subst (λ (x : Allocation). IsIn c x.pending_channels) image.is there);
+          requested = λ c there. absurd (subst (λ (x : Allocation). IsIn c x.pending_channels) image.is there);
           standing = λ c there. absurd (subst (λ (x : Allocation). IsIn c x.channels) image.is there);
         }
 
@@ -231,7 +231,7 @@ module _ (transport : TransportType) (number lifetime now : ℕ) where
         let image = in_map fresh a all listed in
         absurd (subst (λ (x : Allocation). IsIn w x.waiting) image.is has)
 
--- a client that has allocations, or none, awaits no ALLOCATE
+-- A client with allocations, or with none, awaits no ALLOCATE.
 pub none_sent : {A : Type 0} (n : ℕ) (all : List Allocation) → IsIn n (numbers_sent (phase_by all)) → A
 none_sent n [] h = absurd h
 none_sent n (a ∷ all) h = absurd h

@@ -1,4 +1,4 @@
--- The success response to a CREATE_PERMISSION is a step of a run: the permission that was asked for is gained.
+-- The success response to a CREATE_PERMISSION is a step of a run: the requested permission is gained.
 use Rattle.std.proofs.Common.{◌≡◌, ℕ, true, List, [], ◌∷◌, ◌++◌, map, Some, None, refl, sym, ap, ◌∙◌, subst, arith, inl, inr}
 use Rattle.std.specs.FinMap as finite
 use Rattle.std.specs.List.{find}
@@ -17,13 +17,13 @@ use Rattle.turn_client_proto_timers.specs.StunProtoAgent.State.{Agent}
 use Rattle.turn_client_proto_timers.proofs.StunProtoAgent.Numbers.{answered_without, handled_new, still_shows}
 use Rattle.turn_client_proto_timers.specs.TurnRuns.Members.{IsIn, NoneTwice}
 use Rattle.turn_client_proto_timers.specs.TurnRuns.Messages as run
-use Rattle.turn_client_proto_timers.specs.TurnRuns.Steps.{ClientStep, IsAnswered, Told, WasKnown, told_for}
-use Rattle.turn_client_proto_timers.specs.TurnRuns.StunWire.{told_by}
+use Rattle.turn_client_proto_timers.specs.TurnRuns.Steps.{ClientStep, IsAnswered, Reported, WasKnown, reported_for}
+use Rattle.turn_client_proto_timers.specs.TurnRuns.StunWire.{decoded_by}
 use Rattle.turn_client_proto_timers.specs.Allocation.Awaited.{asks_for_permission}
-use Rattle.turn_client_proto_timers.specs.Allocation.Requested.{asked_by, awaits_reply}
+use Rattle.turn_client_proto_timers.specs.Allocation.PendingRequests.{pending_request, awaits_reply}
 use Rattle.turn_client_proto_timers.specs.Peers.Permission.Permitted.{all_permitted}
 use Rattle.turn_client_proto_timers.specs.Peers.Permission.Granted.{permitted}
-use Rattle.turn_client_proto_timers.specs.Allocation.declared.requested.Asked.TheVariants.{NewPermission}
+use Rattle.turn_client_proto_timers.specs.Allocation.declared.pending.PendingRequest.TheVariants.{NewPermission}
 use Rattle.turn_client_proto_timers.specs.Api.declared.event.TurnEvent.TheVariants.{PermissionCreated}
 use Rattle.turn_client_proto_timers.specs.Core.Permitting.{granted}
 use Rattle.turn_client_proto_timers.specs.Core.Responding.{accepted, judged}
@@ -39,20 +39,20 @@ use Rattle.turn_client_proto_step_laws.specs.Sound.{IsOrderly, IsWhole}
 use Rattle.turn_client_proto_step_laws.proofs.Lessening.{same_first_distinct}
 use Rattle.turn_client_proto_step_laws.proofs.Permissions.{first_permitting, permitted_permitting}
 use Rattle.turn_client_proto_step_laws.proofs.Fitting.{permitting_orderly}
-use Rattle.turn_client_proto_step_laws.proofs.Permitting.{ArePermitting, Gaining, attempted_permitting, kept_permitting, none_asks, taken_permitting, waits_permitting}
-use Rattle.turn_client_proto_step_laws.proofs.Agents.{has_other, message_shown, outstanding_before}
+use Rattle.turn_client_proto_step_laws.proofs.Permitting.{ArePermitting, Gaining, attempted_permitting, stored_permitting, none_asks, taken_permitting, waits_permitting}
+use Rattle.turn_client_proto_step_laws.proofs.Agents.{has_other, message_listed, outstanding_before}
 use Rattle.turn_client_proto_step_laws.proofs.Asking.{IsUnderWay}
-use Rattle.turn_client_proto_step_laws.proofs.Awaited.{IsAskedOf, IsFoundBy, OfAskedChannel, OfConnection, OfLifetime, OfNew, OfRenewal, OfRenewedChannel, found_by}
+use Rattle.turn_client_proto_step_laws.proofs.Awaited.{IsRequestedOf, IsFoundBy, OfRequestedChannel, OfConnection, OfLifetime, OfNew, OfRenewal, OfRenewedChannel, found_by}
 use Rattle.turn_client_proto_step_laws.proofs.Lists.{found_in, found_passes, inside}
 use Rattle.turn_client_proto_step_laws.proofs.Orderly.{until_all}
-use Rattle.turn_client_proto_step_laws.proofs.Plain.{counts_none, held_is_kept, joined, notices}
+use Rattle.turn_client_proto_step_laws.proofs.Plain.{counts_none, held_is_stored, joined, notices}
 use Rattle.turn_client_proto_step_laws.proofs.Signed.{signed_arrives}
 use Rattle.turn_client_proto_step_laws.proofs.Taken.{among}
 
 -- ---- the one that was found
 
--- the first allocation that awaits the response to a request, and the permission for which that asked
-pub record IsAskedIn (number : ℕ) (transport : TransportType) (ip : IpAddr) (all : List Allocation) : Type 0 where
+-- The first allocation that awaits the response to a request, and the permission which that requested.
+pub record IsRequestedIn (number : ℕ) (transport : TransportType) (ip : IpAddr) (all : List Allocation) : Type 0 where
   pub allocation : Allocation
   pub found : find (awaits_reply number) all ≡ Some allocation
   pub is_transport : allocation.transport ≡ transport
@@ -61,12 +61,12 @@ pub record IsAskedIn (number : ℕ) (transport : TransportType) (ip : IpAddr) (a
   pub is_ip : permission.ip ≡ ip
   pub has : IsIn number permission.numbers
 
-pub asked_in : (number : ℕ) (transport : TransportType) (ip : IpAddr) (all : List Allocation) → asked_by number all ≡ Some (NewPermission transport ip) → IsAskedIn number transport ip all
-asked_in number transport ip all h = by (found_by number all (NewPermission transport ip) h)
+pub requested_in : (number : ℕ) (transport : TransportType) (ip : IpAddr) (all : List Allocation) → pending_request number all ≡ Some (NewPermission transport ip) → IsRequestedIn number transport ip all
+requested_in number transport ip all h = by (found_by number all (NewPermission transport ip) h)
   where
-    of : (a : Allocation) → find (awaits_reply number) all ≡ Some a → IsAskedOf number a (NewPermission transport ip) → IsAskedIn number transport ip all
+    of : (a : Allocation) → find (awaits_reply number) all ≡ Some a → IsRequestedOf number a (NewPermission transport ip) → IsRequestedIn number transport ip all
     of a there (OfLifetime lifetime at same) = absurd (Prim.cc same)
-    of a there (OfAskedChannel c at same) = absurd (Prim.cc same)
+    of a there (OfRequestedChannel c at same) = absurd (Prim.cc same)
     of a there (OfRenewedChannel c at same) = absurd (Prim.cc same)
     of a there (OfRenewal p at same) = absurd (Prim.cc same)
     of a there (OfConnection c at same) = absurd (Prim.cc same)
@@ -80,23 +80,23 @@ asked_in number transport ip all h = by (found_by number all (NewPermission tran
       has = among number p.numbers (found_passes (asks_for_permission number) a.pending_permissions p at);
     }
 
-    by : IsFoundBy number all (NewPermission transport ip) → IsAskedIn number transport ip all
+    by : IsFoundBy number all (NewPermission transport ip) → IsRequestedIn number transport ip all
     by first = of first.allocation first.found first.is
 
 -- ---- the step
 
--- what was gained, by a list of it
-abbrev pub is_gained : List Told → Gaining
-is_gained gained held = (x : Told) × IsIn x gained × (x.held ≡ held)
+-- What was gained, as a list.
+abbrev pub is_gained : List Reported → Gaining
+is_gained gained held = (x : Reported) × IsIn x gained × (x.held ≡ held)
 
--- each thing that was gained was asked for by the request of a number, and the response brings it; it is told so, once
-pub record AreGranted (c : Client) (bytes asked : List ℕ) (gained : List Told) : Type 0 where
-  pub numbers : (x : Told) → IsIn x gained → x.number ≡ number_at bytes
-  pub asks : (x : Told) → IsIn x gained → run.Asks (told_by asked) (run.Holds x.held)
-  pub brings : (x : Told) → IsIn x gained → run.Brings (told_by bytes) (run.Holds x.held)
-  pub known : (x : Told) → IsIn x gained → WasKnown client_words c x.held
-  pub is_of : (x : Told) → IsIn x gained → run.IsOf x.notice x.held
-  pub once : NoneTwice told_for gained
+-- Each gained item was requested with this transaction ID, and the response brings it; it is reported once.
+pub record AreGranted (c : Client) (bytes requested : List ℕ) (gained : List Reported) : Type 0 where
+  pub numbers : (x : Reported) → IsIn x gained → x.number ≡ number_at bytes
+  pub asks : (x : Reported) → IsIn x gained → run.Asks (decoded_by requested) (run.Holds x.held)
+  pub brings : (x : Reported) → IsIn x gained → run.Brings (decoded_by bytes) (run.Holds x.held)
+  pub known : (x : Reported) → IsIn x gained → WasKnown client_words c x.held
+  pub is_of : (x : Reported) → IsIn x gained → run.IsOf x.notice x.held
+  pub once : NoneTwice reported_for gained
 
 module _ (c : Client) (signer : signers.Client) (bytes : List ℕ) (message : refusal bytes ≡ None) (ends : ends_one c.core.agent bytes ≡ true)
     (own : IsSignedFor c bytes) (t : Transaction) (there : finite.get c.core.agent.outstanding (number_at bytes) ≡ Some t)
@@ -104,7 +104,7 @@ module _ (c : Client) (signer : signers.Client) (bytes : List ℕ) (message : re
   abbrev agent : Agent
   agent = after_message c.core.agent bytes c.core.server
 
-  -- the client with these allocations, in which so much was gained, and these events
+  -- The client with these allocations, in which this was gained, and these events.
   abbrev with_left : List Allocation → List TurnEvent → Protocol
   with_left left events = record (accepted bytes (judged signer c.core)) { allocations = left; events = events }
 
@@ -114,8 +114,8 @@ module _ (c : Client) (signer : signers.Client) (bytes : List ℕ) (message : re
   shows_numbers : ShowsNumbers agent
   shows_numbers = still_shows c.core.agent agent (handled_new c.core.agent bytes c.core.server) orderly.numbers
 
-  module _ (gained : List Told) (left : List Allocation) (events : List TurnEvent) (is : AreGranted c bytes t.bytes gained) (are : ArePermitting (is_gained gained) none_asks c.core.allocations left)
-      (tells : notices events ≡ notices c.core.events ++ map (λ (x : Told). x.notice) gained) where
+  module _ (gained : List Reported) (left : List Allocation) (events : List TurnEvent) (is : AreGranted c bytes t.bytes gained) (are : ArePermitting (is_gained gained) none_asks c.core.allocations left)
+      (decodes : notices events ≡ notices c.core.events ++ map (λ (x : Reported). x.notice) gained) where
     abbrev core : Protocol
     core = with_left left events
 
@@ -124,20 +124,20 @@ module _ (c : Client) (signer : signers.Client) (bytes : List ℕ) (message : re
     taken n (Allocating listed) = Allocating listed
     taken n (Pending a listed p) = elim (taken_permitting (is_gained gained) none_asks (parts_of c.core) left are n (Pending a listed p)) [ inl was ↦ was | inr now ↦ absurd now.1 ]
 
-    answers : (x : Told) → IsIn x gained → IsAnswered client_words (call_of c (bytes ∷ []) None [] (moved c c.drawn core)) [] (run.Holds x.held) x.number
+    answers : (x : Reported) → IsIn x gained → IsAnswered client_words (call_of c (bytes ∷ []) None [] (moved c c.transmitted core)) [] (run.Holds x.held) x.number
     answers x listed = record {
       bytes = bytes;
-      response = told_by bytes;
-      arrives = signed_arrives c bytes (moved c c.drawn core) message own;
+      response = decoded_by bytes;
+      arrives = signed_arrives c bytes (moved c c.transmitted core) message own;
       number_is = sym (is.numbers x listed);
-      request = told_by t.bytes;
-      waited = inl (record { number = number_at bytes; transaction = t; there = there; shows = message_shown t.bytes (orderly.messages (number_at bytes) t there) });
+      request = decoded_by t.bytes;
+      waited = inl (record { number = number_at bytes; transaction = t; there = there; shows = message_listed t.bytes (orderly.messages (number_at bytes) t there) });
       request_is = orderly.numbers (number_at bytes) t there ∙ sym (is.numbers x listed);
       asks = is.asks x listed;
       brings = is.brings x listed;
     }
 
-    step : ClientStep client_words (call_of c (bytes ∷ []) None [] (moved c c.drawn core))
+    step : ClientStep client_words (call_of c (bytes ∷ []) None [] (moved c c.transmitted core))
     unfolding accepted
     step = record {
       account = refl;
@@ -145,42 +145,42 @@ module _ (c : Client) (signer : signers.Client) (bytes : List ℕ) (message : re
       realms = under_way.realms;
       counted = (counts_none c core refl).counted;
       few = (counts_none c core refl).few;
-      begun = [];
+      started = [];
       requests = λ m h. absurd h;
       numbered = omega arith;
       outstanding = λ m h. inl (outstanding_before c.core.agent agent (handled_new c.core.agent bytes c.core.server) m h);
       queued = λ m h. inl h;
       taken = λ n h. inl (taken n h);
-      draws = λ drawn m h shows. absurd (Prim.cc h);
+      draws = λ generated m h shows. absurd (Prim.cc h);
       handles = λ x h. inl h;
       buffers = λ x h. inr h;
       gained = gained;
-      gains = kept_permitting (is_gained gained) none_asks (parts_of c.core) left are;
+      gains = stored_permitting (is_gained gained) none_asks (parts_of c.core) left are;
       answers = answers;
       once = is.once;
       spent = λ x m listed h same. absurd (has_other c.core.agent agent (number_at bytes) m shows_numbers without h (same ∙ is.numbers x listed));
       known = is.known;
       is_of = is.is_of;
-      tells = tells;
-      shows = λ h k. held_is_kept left h k;
-      shown = λ h i. absurd i;
+      decodes = decodes;
+      shows = λ h k. held_is_stored left h k;
+      visible = λ h i. absurd i;
       waits = λ n p w. inl (waits_permitting (is_gained gained) none_asks (parts_of c.core) left are n p w);
       attempted = λ n h. inl (attempted_permitting (is_gained gained) none_asks (parts_of c.core) left are n h);
       delivers = λ p h. absurd h;
       names = λ p h. absurd h;
     }
 
-    -- a step in which that was gained, where the peers of channels among it can be named in requests
+    -- A step in which this was gained, if XOR-PEER-ADDRESS carries the peers of gained channels completely.
     pub gained_step : ((channel : ℕ) (peer : SocketAddr) → is_gained gained (run.Channel channel peer) → IsWhole peer) → AreDistinct left → IsRunStep c (bytes ∷ []) None [] core
     unfolding accepted
     gained_step whole distinct = record {
-      after = moved c c.drawn core;
+      after = moved c c.transmitted core;
       core_is = refl;
       waits = refl;
       step = step;
       sound = record {
         orderly = permitting_orderly (is_gained gained) none_asks (parts_of (accepted bytes (judged signer c.core))) left are
-            (record { asks = λ held n h. absurd h; asked = λ channel peer n h. absurd h; gained = whole }) under_way.orderly distinct;
+            (record { asks = λ held n h. absurd h; requested = λ channel peer n h. absurd h; gained = whole }) under_way.orderly distinct;
         can_ask = until_all c.core.phase (record {
           account = under_way.can_ask.account;
           texts = under_way.can_ask.texts;
@@ -193,49 +193,49 @@ module _ (c : Client) (signer : signers.Client) (bytes : List ℕ) (message : re
 -- ---- a permission
 
 module _ (c : Client) (signer : signers.Client) (bytes : List ℕ) (now : ℕ) (message : refusal bytes ≡ None) (success : class_of (kind_at bytes) ≡ Success) (ends : ends_one c.core.agent bytes ≡ true)
-    (own : IsSignedFor c bytes) (transport : TransportType) (ip : IpAddr) (is : IsAskedIn (number_at bytes) transport ip c.core.allocations) (t : Transaction) (there : finite.get c.core.agent.outstanding (number_at bytes) ≡ Some t)
+    (own : IsSignedFor c bytes) (transport : TransportType) (ip : IpAddr) (is : IsRequestedIn (number_at bytes) transport ip c.core.allocations) (t : Transaction) (there : finite.get c.core.agent.outstanding (number_at bytes) ≡ Some t)
     (orderly : IsOrderly (parts_of c.core)) (under_way : IsUnderWay c (bytes ∷ []) (accepted bytes (judged signer c.core))) where
-  abbrev told : Told
-  told = record { notice = run.PermissionCreated transport ip; held = run.Permission transport ip; number = number_at bytes }
+  abbrev reported : Reported
+  reported = record { notice = run.PermissionCreated transport ip; held = run.Permission transport ip; number = number_at bytes }
 
   was_listed : IsIn is.allocation c.core.allocations
   was_listed = found_in (awaits_reply (number_at bytes)) c.core.allocations is.allocation is.found
 
-  asks : run.Asks (told_by t.bytes) (run.Holds told.held)
+  asks : run.Asks (decoded_by t.bytes) (run.Holds reported.held)
   asks =
-      subst (λ (x : TransportType). run.Asks (told_by t.bytes) (run.Holds (run.Permission x ip))) is.is_transport
-      (subst (λ (x : IpAddr). run.Asks (told_by t.bytes) (run.Holds (run.Permission is.allocation.transport x))) is.is_ip
+      subst (λ (x : TransportType). run.Asks (decoded_by t.bytes) (run.Holds (run.Permission x ip))) is.is_transport
+      (subst (λ (x : IpAddr). run.Asks (decoded_by t.bytes) (run.Holds (run.Permission is.allocation.transport x))) is.is_ip
       (orderly.permissions is.allocation was_listed is.permission is.listed (number_at bytes) is.has t there))
 
-  -- each thing gained is this one
-  only : (P : Told → Type 0) → P told → (x : Told) → IsIn x (told ∷ []) → P x
+  -- The one gained item is this one.
+  only : (P : Reported → Type 0) → P reported → (x : Reported) → IsIn x (reported ∷ []) → P x
   only P h x (inl same) = subst P same h
   only P h x (inr none) = absurd none
 
-  are_granted : AreGranted c bytes t.bytes (told ∷ [])
+  are_granted : AreGranted c bytes t.bytes (reported ∷ [])
   are_granted = record {
-    numbers = only (λ (x : Told). x.number ≡ number_at bytes) refl;
-    asks = only (λ (x : Told). run.Asks (told_by t.bytes) (run.Holds x.held)) asks;
-    brings = only (λ (x : Told). run.Brings (told_by bytes) (run.Holds x.held)) success;
-    known = only (λ (x : Told). WasKnown client_words c x.held) tt;
-    is_of = only (λ (x : Told). run.IsOf x.notice x.held) refl;
+    numbers = only (λ (x : Reported). x.number ≡ number_at bytes) refl;
+    asks = only (λ (x : Reported). run.Asks (decoded_by t.bytes) (run.Holds x.held)) asks;
+    brings = only (λ (x : Reported). run.Brings (decoded_by bytes) (run.Holds x.held)) success;
+    known = only (λ (x : Reported). WasKnown client_words c x.held) tt;
+    is_of = only (λ (x : Reported). run.IsOf x.notice x.held) refl;
     once = ((λ x h. absurd h), tt);
   }
 
   transport_of : (a : Allocation) → find (awaits_reply (number_at bytes)) c.core.allocations ≡ Some a → transport ≡ a.transport
   transport_of a found = sym is.is_transport ∙ ap (λ (x : Allocation). x.transport) (inside (sym is.found ∙ found))
 
-  are : ArePermitting (is_gained (told ∷ [])) none_asks c.core.allocations (all_permitted ip (number_at bytes) now c.core.allocations)
-  are = first_permitting (is_gained (told ∷ [])) none_asks (awaits_reply (number_at bytes)) (permitted ip (number_at bytes) now) c.core.allocations
-      (λ a found. permitted_permitting (is_gained (told ∷ [])) none_asks ip (number_at bytes) now a
-      (told, inl refl, ap (λ (x : TransportType). run.Permission x ip) (transport_of a found)))
+  are : ArePermitting (is_gained (reported ∷ [])) none_asks c.core.allocations (all_permitted ip (number_at bytes) now c.core.allocations)
+  are = first_permitting (is_gained (reported ∷ [])) none_asks (awaits_reply (number_at bytes)) (permitted ip (number_at bytes) now) c.core.allocations
+      (λ a found. permitted_permitting (is_gained (reported ∷ [])) none_asks ip (number_at bytes) now a
+      (reported, inl refl, ap (λ (x : TransportType). run.Permission x ip) (transport_of a found)))
 
-  no_channel : (channel : ℕ) (peer : SocketAddr) → is_gained (told ∷ []) (run.Channel channel peer) → IsWhole peer
-  no_channel channel peer g = absurd (only (λ (x : Told). x.held ≡ run.Channel channel peer → ⊥) (λ e. Prim.cc e) g.0 g.1 g.2)
+  no_channel : (channel : ℕ) (peer : SocketAddr) → is_gained (reported ∷ []) (run.Channel channel peer) → IsWhole peer
+  no_channel channel peer g = absurd (only (λ (x : Reported). x.held ≡ run.Channel channel peer → ⊥) (λ e. Prim.cc e) g.0 g.1 g.2)
 
   pub granted_step : IsRunStep c (bytes ∷ []) None [] (granted transport ip (number_at bytes) now (accepted bytes (judged signer c.core)))
   unfolding granted accepted
   granted_step =
-      gained_step c signer bytes message ends own t there orderly under_way (told ∷ []) (all_permitted ip (number_at bytes) now c.core.allocations) (c.core.events ++ PermissionCreated transport ip ∷ [])
+      gained_step c signer bytes message ends own t there orderly under_way (reported ∷ []) (all_permitted ip (number_at bytes) now c.core.allocations) (c.core.events ++ PermissionCreated transport ip ∷ [])
       are_granted are (joined c.core.events (PermissionCreated transport ip ∷ [])) no_channel
       (same_first_distinct (awaits_reply (number_at bytes)) (permitted ip (number_at bytes) now) (λ a. (refl, refl)) c.core.allocations orderly.distinct)

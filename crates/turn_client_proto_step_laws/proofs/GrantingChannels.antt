@@ -1,5 +1,5 @@
--- The success response to a CHANNEL_BIND is a step of a run: the channel that was asked for is gained, and the permission
--- that was asked for beside it.
+-- The success response to a CHANNEL_BIND is a step of a run: the requested channel is gained, and with it the
+-- permission that was requested.
 use Rattle.std.proofs.Common.{◌≡◌, ℕ, Bool, true, List, [], ◌∷◌, ◌++◌, map, Option, Some, None, refl, sym, ap, ◌∙◌, subst, inl, inr}
 use Rattle.std.proofs.lemmas.Bool.{cases_Bool}
 use Rattle.std.proofs.lemmas.List.{append_assoc}
@@ -19,22 +19,22 @@ use Rattle.turn_client_proto_recv.specs.StunProtoClient.Client as signers
 use Rattle.turn_client_proto_timers.specs.StunProtoAgent.Handling.{ends_one}
 use Rattle.turn_client_proto_timers.specs.TurnRuns.Members.{IsIn, NoneTwice}
 use Rattle.turn_client_proto_timers.specs.TurnRuns.Messages as run
-use Rattle.turn_client_proto_timers.specs.TurnRuns.Steps.{Told, WasKnown, told_for}
-use Rattle.turn_client_proto_timers.specs.TurnRuns.StunWire.{told_by}
+use Rattle.turn_client_proto_timers.specs.TurnRuns.Steps.{Reported, WasKnown, reported_for}
+use Rattle.turn_client_proto_timers.specs.TurnRuns.StunWire.{decoded_by}
 use Rattle.turn_client_proto_timers.specs.Allocation.Awaited.{asks_for_channel, asks_for_permission, is_connecting, renews_channel, renews_permission}
 use Rattle.turn_client_proto_timers.specs.Allocation.Changes.{change_first}
-use Rattle.turn_client_proto_timers.specs.Allocation.Refreshing.{lifetime_asked}
+use Rattle.turn_client_proto_timers.specs.Allocation.Refreshing.{lifetime_requested}
 use Rattle.turn_client_proto_timers.specs.Api.declared.event.TurnEvent.{TurnEvent}
 use Rattle.turn_client_proto_timers.specs.Api.declared.event.TurnEvent.TheVariants.{ChannelCreated, PermissionCreated}
-use Rattle.turn_client_proto_timers.specs.Allocation.Requested.{asked_by, asked_of, awaits_reply}
+use Rattle.turn_client_proto_timers.specs.Allocation.PendingRequests.{pending_request, requested_of, awaits_reply}
 use Rattle.turn_client_proto_timers.specs.Peers.Channel.Granted as channels
 use Rattle.turn_client_proto_timers.specs.Peers.Channel.Granted.{all_bound}
-use Rattle.turn_client_proto_timers.specs.Peers.Permission.Permitted.{permission_asked}
+use Rattle.turn_client_proto_timers.specs.Peers.Permission.Permitted.{permission_requested}
 use Rattle.turn_client_proto_timers.specs.Peers.Channel.Numbers.{AreDistinct}
-use Rattle.turn_client_proto_timers.specs.Allocation.declared.requested.Asked.{Asked}
-use Rattle.turn_client_proto_timers.specs.Allocation.declared.requested.Asked.TheVariants.{ChannelRenewal, Lifetime, NewChannel, NewConnection, NewPermission, Renewal}
+use Rattle.turn_client_proto_timers.specs.Allocation.declared.pending.PendingRequest.{PendingRequest}
+use Rattle.turn_client_proto_timers.specs.Allocation.declared.pending.PendingRequest.TheVariants.{ChannelRenewal, Lifetime, NewChannel, NewConnection, NewPermission, Renewal}
 use Rattle.turn_client_proto_timers.specs.Peers.Permission.Granted.{permitted}
-use Rattle.turn_client_proto_timers.specs.Core.Binding.{bound, permission_with, permitted_with, told_with}
+use Rattle.turn_client_proto_timers.specs.Core.Binding.{bound, permission_with, permitted_with, reported_with}
 use Rattle.turn_client_proto_timers.specs.Core.Responding.{accepted, judged}
 use Rattle.turn_client_proto_timers.proofs.Peers.Distinct.{bound_stay_distinct}
 use Rattle.turn_client_proto_step_laws.specs.Adding.{IsSignedFor}
@@ -56,9 +56,9 @@ use Rattle.turn_client_proto_step_laws.proofs.Permitting.{ArePermitting, all_the
 use Rattle.turn_client_proto_step_laws.proofs.Plain.{joined, notices}
 use Rattle.turn_client_proto_step_laws.proofs.Taken.{among}
 
--- ---- the request still asks for the channel, where its permission was granted
+-- ---- the request still requests the channel, where its permission was granted
 
--- the first that passes is found after it was changed, where it passes still
+-- The first element that passes is found after it was changed, if it still passes.
 found_changed : {X : Type 0} (passes : X → Bool) (change : X → X) (all : List X) (x : X) → find passes all ≡ Some x → passes (change x) ≡ true → find passes (change_first passes change all) ≡ Some (change x)
 found_changed passes change [] x h still = absurd (Prim.cc h)
 found_changed {X = X} passes change (y ∷ all) x h still = elim (cases_Bool (passes y)) [
@@ -71,20 +71,20 @@ found_changed {X = X} passes change (y ∷ all) x h still = elim (cases_Bool (pa
       ap (find passes) changed ∙ found ∙ ap (λ z. Some (change z)) same
   | inr not ↦
       let later : find passes (y ∷ all) ≡ find passes all = rw not refl in
-      let behind : change_first passes change (y ∷ all) ≡ y ∷ change_first passes change all = rw not refl in
+      let following : change_first passes change (y ∷ all) ≡ y ∷ change_first passes change all = rw not refl in
       let passed : find passes (y ∷ change_first passes change all) ≡ find passes (change_first passes change all) = rw not refl in
-      ap (find passes) behind ∙ passed ∙ found_changed passes change all x (sym later ∙ h) still
+      ap (find passes) following ∙ passed ∙ found_changed passes change all x (sym later ∙ h) still
 ]
 
 module _ (transport : TransportType) (channel : ℕ) (peer : SocketAddr) (ip : IpAddr) (number now : ℕ) where
-  -- what a request asks for besides a lifetime and a channel is no matter
-  same_of : (a : Allocation) → asked_of number a ≡ Some (NewChannel transport channel peer) → asked_of number (permitted ip number now a) ≡ Some (NewChannel transport channel peer)
-  unfolding asked_of
+  -- What a request asks for besides a lifetime and a channel does not matter.
+  same_of : (a : Allocation) → requested_of number a ≡ Some (NewChannel transport channel peer) → requested_of number (permitted ip number now a) ≡ Some (NewChannel transport channel peer)
+  unfolding requested_of
   same_of a is =
-      by (lifetime_asked number a.pending_refreshes) (find (asks_for_channel number) a.pending_channels) (find (renews_channel number) a.channels) (find (asks_for_permission number) a.pending_permissions)
+      by (lifetime_requested number a.pending_refreshes) (find (asks_for_channel number) a.pending_channels) (find (renews_channel number) a.channels) (find (asks_for_permission number) a.pending_permissions)
       (find (renews_permission number) a.permissions) (find (is_connecting number) a.connecting) _ is
     where
-      by : (l : Option ℕ) (b : Option PendingChannel) (s : Option Channel) (n : Option PendingPermission) (r : Option Permission) (k : Option Connecting) (others : Option Asked)
+      by : (l : Option ℕ) (b : Option PendingChannel) (s : Option Channel) (n : Option PendingPermission) (r : Option Permission) (k : Option Connecting) (others : Option PendingRequest)
           → option_or (option_map Lifetime l) (option_or (option_map (λ (c : PendingChannel). NewChannel a.transport c.channel c.peer) b)
           (option_or (option_map (λ (c : Channel). ChannelRenewal a.transport c.number c.peer) s)
           (option_or (option_map (λ (p : PendingPermission). NewPermission a.transport p.ip) n) (option_or (option_map (λ (p : Permission). Renewal a.transport p.ip) r) (option_map (λ (c : Connecting). NewConnection c.peer) k))))) ≡ Some (NewChannel transport channel peer)
@@ -97,26 +97,26 @@ module _ (transport : TransportType) (channel : ℕ) (peer : SocketAddr) (ip : I
       by None None None None None (Some c) others h = absurd (Prim.cc h)
       by None None None None None None others h = absurd (Prim.cc h)
 
-  pub still_asked : (all : List Allocation) → asked_by number all ≡ Some (NewChannel transport channel peer)
-      → asked_by number (change_first (awaits_reply number) (permitted ip number now) all) ≡ Some (NewChannel transport channel peer)
-  still_asked all is = by (find (awaits_reply number) all) refl
+  pub still_requested : (all : List Allocation) → pending_request number all ≡ Some (NewChannel transport channel peer)
+      → pending_request number (change_first (awaits_reply number) (permitted ip number now) all) ≡ Some (NewChannel transport channel peer)
+  still_requested all is = by (find (awaits_reply number) all) refl
     where
-      by : (found : Option Allocation) → find (awaits_reply number) all ≡ found → asked_by number (change_first (awaits_reply number) (permitted ip number now) all) ≡ Some (NewChannel transport channel peer)
-      by None none = absurd (Prim.cc (sym (ap (option_and_then (asked_of number)) none) ∙ is))
+      by : (found : Option Allocation) → find (awaits_reply number) all ≡ found → pending_request number (change_first (awaits_reply number) (permitted ip number now) all) ≡ Some (NewChannel transport channel peer)
+      by None none = absurd (Prim.cc (sym (ap (option_and_then (requested_of number)) none) ∙ is))
       by (Some a) at =
-          let of_it = same_of a (sym (ap (option_and_then (asked_of number)) at) ∙ is) in
-          ap (option_and_then (asked_of number)) (found_changed (awaits_reply number) (permitted ip number now) all a at (ap (λ (o : Option Asked). is_some o) of_it)) ∙ of_it
+          let of_it = same_of a (sym (ap (option_and_then (requested_of number)) at) ∙ is) in
+          ap (option_and_then (requested_of number)) (found_changed (awaits_reply number) (permitted ip number now) all a at (ap (λ (o : Option PendingRequest). is_some o) of_it)) ∙ of_it
 
 -- ---- the permission beside the channel
 
--- a permission of this address is asked for, in an allocation that was found
+-- A permission for this address is requested in an allocation that was found.
 record IsBeside (number : ℕ) (a : Allocation) (ip : IpAddr) : Type 0 where
   permission : PendingPermission
   found : find (asks_for_permission number) a.pending_permissions ≡ Some permission
   is_ip : permission.ip ≡ ip
 
 beside : (number : ℕ) (all : List Allocation) (a : Allocation) (ip : IpAddr) → find (awaits_reply number) all ≡ Some a → permission_with number all ≡ Some ip → IsBeside number a ip
-beside number all a ip found is = by (find (asks_for_permission number) a.pending_permissions) refl (sym (ap (option_and_then (permission_asked number)) found) ∙ is)
+beside number all a ip found is = by (find (asks_for_permission number) a.pending_permissions) refl (sym (ap (option_and_then (permission_requested number)) found) ∙ is)
   where
     by : (o : Option PendingPermission) → find (asks_for_permission number) a.pending_permissions ≡ o → option_map (λ (p : PendingPermission). p.ip) o ≡ Some ip → IsBeside number a ip
     by None at h = absurd (Prim.cc h)
@@ -125,7 +125,7 @@ beside number all a ip found is = by (find (asks_for_permission number) a.pendin
 -- ---- the step
 
 module _ (c : Client) (signer : signers.Client) (bytes : List ℕ) (now : ℕ) (message : refusal bytes ≡ None) (success : class_of (kind_at bytes) ≡ Success) (ends : ends_one c.core.agent bytes ≡ true)
-    (own : IsSignedFor c bytes) (transport : TransportType) (channel : ℕ) (peer : SocketAddr) (asked : asked_by (number_at bytes) c.core.allocations ≡ Some (NewChannel transport channel peer))
+    (own : IsSignedFor c bytes) (transport : TransportType) (channel : ℕ) (peer : SocketAddr) (requested : pending_request (number_at bytes) c.core.allocations ≡ Some (NewChannel transport channel peer))
     (t : Transaction) (there : finite.get c.core.agent.outstanding (number_at bytes) ≡ Some t) (orderly : IsOrderly (parts_of c.core)) (under_way : IsUnderWay c (bytes ∷ []) (accepted bytes (judged signer c.core))) where
   abbrev number : ℕ
   number = number_at bytes
@@ -134,21 +134,21 @@ module _ (c : Client) (signer : signers.Client) (bytes : List ℕ) (now : ℕ) (
   all = c.core.allocations
 
   is : IsChannelOf (parts_of c.core) number transport channel peer
-  is = channel_of (parts_of c.core) number transport channel peer orderly (found_by number all (NewChannel transport channel peer) asked)
+  is = channel_of (parts_of c.core) number transport channel peer orderly (found_by number all (NewChannel transport channel peer) requested)
 
-  -- what is told
-  abbrev of_channel : Told
+  -- The notice of the channel.
+  abbrev of_channel : Reported
   of_channel = record { notice = run.ChannelCreated transport peer; held = run.Channel channel peer; number = number }
 
-  abbrev of_permission : IpAddr → Told
+  abbrev of_permission : IpAddr → Reported
   of_permission ip = record { notice = run.PermissionCreated transport ip; held = run.Permission transport ip; number = number }
 
-  -- the permission first, where one was asked for
-  abbrev gained : Option IpAddr → List Told
+  -- The permission comes first, if one was requested.
+  abbrev gained : Option IpAddr → List Reported
   gained None = of_channel ∷ []
   gained (Some ip) = of_permission ip ∷ of_channel ∷ []
 
-  each : (o : Option IpAddr) (P : Told → Type 0) → P of_channel → ((ip : IpAddr) → o ≡ Some ip → P (of_permission ip)) → (x : Told) → IsIn x (gained o) → P x
+  each : (o : Option IpAddr) (P : Reported → Type 0) → P of_channel → ((ip : IpAddr) → o ≡ Some ip → P (of_permission ip)) → (x : Reported) → IsIn x (gained o) → P x
   each None P one other x (inl same) = subst P same one
   each None P one other x (inr none) = absurd none
   each (Some ip) P one other x (inl same) = subst P same (other ip refl)
@@ -159,39 +159,39 @@ module _ (c : Client) (signer : signers.Client) (bytes : List ℕ) (now : ℕ) (
   has_channel None = (of_channel, inl refl, refl)
   has_channel (Some ip) = (of_channel, inr (inl refl), refl)
 
-  channel_asked : run.Asks (told_by t.bytes) (run.Holds (run.Channel channel peer))
-  channel_asked = is.asks t there
+  channel_requested : run.Asks (decoded_by t.bytes) (run.Holds (run.Channel channel peer))
+  channel_requested = is.asks t there
 
-  permission_asked_too : (ip : IpAddr) → permission_with number all ≡ Some ip → run.Asks (told_by t.bytes) (run.Holds (run.Permission transport ip))
-  permission_asked_too ip at =
+  permission_reissued_under : (ip : IpAddr) → permission_with number all ≡ Some ip → run.Asks (decoded_by t.bytes) (run.Holds (run.Permission transport ip))
+  permission_reissued_under ip at =
       let one = beside number all is.allocation ip is.found at in
       let listed = found_in (asks_for_permission number) is.allocation.pending_permissions one.permission one.found in
       let has = among number one.permission.numbers (found_passes (asks_for_permission number) is.allocation.pending_permissions one.permission one.found) in
-      subst (λ (x : TransportType). run.Asks (told_by t.bytes) (run.Holds (run.Permission x ip))) is.is_transport
-      (subst (λ (x : IpAddr). run.Asks (told_by t.bytes) (run.Holds (run.Permission is.allocation.transport x))) one.is_ip
+      subst (λ (x : TransportType). run.Asks (decoded_by t.bytes) (run.Holds (run.Permission x ip))) is.is_transport
+      (subst (λ (x : IpAddr). run.Asks (decoded_by t.bytes) (run.Holds (run.Permission is.allocation.transport x))) one.is_ip
       (orderly.permissions is.allocation is.listed one.permission listed number has t there))
 
-  once : (o : Option IpAddr) → NoneTwice told_for (gained o)
+  once : (o : Option IpAddr) → NoneTwice reported_for (gained o)
   once None = ((λ x h. absurd h), tt)
   once (Some ip) = (apart, ((λ x h. absurd h), tt))
     where
-      apart : (x : Told) → IsIn x (of_channel ∷ []) → told_for x ≡ told_for (of_permission ip) → ⊥
+      apart : (x : Reported) → IsIn x (of_channel ∷ []) → reported_for x ≡ reported_for (of_permission ip) → ⊥
       apart x (inl same) alike =
-          let notice : run.ChannelCreated transport peer ≡ run.PermissionCreated transport ip = ap (λ (y : Told). y.notice) same ∙ ap (λ (p : run.Notice × ℕ). p.0) alike in
+          let notice : run.ChannelCreated transport peer ≡ run.PermissionCreated transport ip = ap (λ (y : Reported). y.notice) same ∙ ap (λ (p : run.Notice × ℕ). p.0) alike in
           absurd (Prim.cc notice)
       apart x (inr none) alike = absurd none
 
   are_granted : (o : Option IpAddr) → permission_with number all ≡ o → AreGranted c bytes t.bytes (gained o)
   are_granted o at = record {
-    numbers = each o (λ (x : Told). x.number ≡ number) refl (λ ip same. refl);
-    asks = each o (λ (x : Told). run.Asks (told_by t.bytes) (run.Holds x.held)) channel_asked (λ ip same. permission_asked_too ip (at ∙ same));
-    brings = each o (λ (x : Told). run.Brings (told_by bytes) (run.Holds x.held)) success (λ ip same. success);
-    known = each o (λ (x : Told). WasKnown client_words c x.held) tt (λ ip same. tt);
-    is_of = each o (λ (x : Told). run.IsOf x.notice x.held) (channel, refl) (λ ip same. refl);
+    numbers = each o (λ (x : Reported). x.number ≡ number) refl (λ ip same. refl);
+    asks = each o (λ (x : Reported). run.Asks (decoded_by t.bytes) (run.Holds x.held)) channel_requested (λ ip same. permission_reissued_under ip (at ∙ same));
+    brings = each o (λ (x : Reported). run.Brings (decoded_by bytes) (run.Holds x.held)) success (λ ip same. success);
+    known = each o (λ (x : Reported). WasKnown client_words c x.held) tt (λ ip same. tt);
+    is_of = each o (λ (x : Reported). run.IsOf x.notice x.held) (channel, refl) (λ ip same. refl);
     once = once o;
   }
 
-  -- the allocations once the permission was granted
+  -- The allocations once the permission was granted.
   abbrev between : Option IpAddr → List Allocation
   between o = permitted_with o number now all
 
@@ -213,30 +213,30 @@ module _ (c : Client) (signer : signers.Client) (bytes : List ℕ) (now : ℕ) (
   still_distinct None = orderly.distinct
   still_distinct (Some ip) = same_first_distinct (awaits_reply number) (permitted ip number now) (λ a. (refl, refl)) all orderly.distinct
 
-  asked_between : (o : Option IpAddr) → asked_by number (between o) ≡ Some (NewChannel transport channel peer)
-  asked_between None = asked
-  asked_between (Some ip) = still_asked transport channel peer ip number now all asked
+  requested_between : (o : Option IpAddr) → pending_request number (between o) ≡ Some (NewChannel transport channel peer)
+  requested_between None = requested
+  requested_between (Some ip) = still_requested transport channel peer ip number now all requested
 
   distinct : (o : Option IpAddr) → AreDistinct (all_bound channel peer number now (between o))
-  distinct o = bound_stay_distinct (between o) transport channel peer number now (asked_between o) (still_distinct o)
+  distinct o = bound_stay_distinct (between o) transport channel peer number now (requested_between o) (still_distinct o)
 
   abbrev events_with : Option IpAddr → List TurnEvent
-  events_with o = c.core.events ++ told_with (PermissionCreated transport) o ++ ChannelCreated transport peer ∷ []
+  events_with o = c.core.events ++ reported_with (PermissionCreated transport) o ++ ChannelCreated transport peer ∷ []
 
-  tells : (o : Option IpAddr) → notices (events_with o) ≡ notices c.core.events ++ map (λ (x : Told). x.notice) (gained o)
-  tells None = ap notices (append_assoc c.core.events [] (ChannelCreated transport peer ∷ [])) ∙ joined c.core.events (ChannelCreated transport peer ∷ [])
-  tells (Some ip) =
+  decodes : (o : Option IpAddr) → notices (events_with o) ≡ notices c.core.events ++ map (λ (x : Reported). x.notice) (gained o)
+  decodes None = ap notices (append_assoc c.core.events [] (ChannelCreated transport peer ∷ [])) ∙ joined c.core.events (ChannelCreated transport peer ∷ [])
+  decodes (Some ip) =
       ap notices (append_assoc c.core.events (PermissionCreated transport ip ∷ []) (ChannelCreated transport peer ∷ []))
       ∙ joined c.core.events (PermissionCreated transport ip ∷ ChannelCreated transport peer ∷ [])
 
   whole : (o : Option IpAddr) (n : ℕ) (to : SocketAddr) → is_gained (gained o) (run.Channel n to) → IsWhole to
-  whole o n to g = each o (λ (x : Told). x.held ≡ run.Channel n to → IsWhole to) (λ same. let alike : peer ≡ to = Prim.cc same in subst IsWhole alike is.whole) (λ ip at same. absurd (Prim.cc same)) g.0 g.1 g.2
+  whole o n to g = each o (λ (x : Reported). x.held ≡ run.Channel n to → IsWhole to) (λ same. let alike : peer ≡ to = Prim.cc same in subst IsWhole alike is.whole) (λ ip at same. absurd (Prim.cc same)) g.0 g.1 g.2
 
   bound_with : (o : Option IpAddr) → permission_with number all ≡ o → IsRunStep c (bytes ∷ []) None [] (bound transport channel peer o number now (accepted bytes (judged signer c.core)))
   unfolding bound accepted
   bound_with o at =
       gained_step c signer bytes message ends own t there orderly under_way (gained o) (all_bound channel peer number now (between o)) (events_with o)
-      (are_granted o at) (are o) (tells o) (whole o) (distinct o)
+      (are_granted o at) (are o) (decodes o) (whole o) (distinct o)
 
   pub bound_step : IsRunStep c (bytes ∷ []) None [] (bound transport channel peer (permission_with number all) number now (accepted bytes (judged signer c.core)))
   bound_step = bound_with (permission_with number all) refl

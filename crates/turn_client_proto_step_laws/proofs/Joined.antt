@@ -1,32 +1,32 @@
--- What each call makes of the connections of an allocation.
+-- What each call does to the connections of an allocation.
 use Rattle.std.proofs.Common.{◌≡◌, ℕ, not, List, [], ◌∷◌, Option, Some, map, refl, sym, ap, ◌∙◌, inl, inr}
 use Rattle.std.specs.List.{find}
 use Rattle.std.specs.declared.net.socket_addr.SocketAddr.{SocketAddr}
 use Rattle.turn_client_proto_timers.specs.Allocation.Awaited.{is_connecting}
-use Rattle.turn_client_proto_timers.specs.Allocation.Requested.{connected_again, connecting_by}
+use Rattle.turn_client_proto_timers.specs.Allocation.PendingRequests.{connected_again, connecting_by}
 use Rattle.turn_client_proto_timers.specs.Peers.Channel.Numbers.{AreDistinct}
 use Rattle.turn_client_proto_timers.specs.Connection.Asking.{connecting}
-use Rattle.turn_client_proto_timers.specs.Connection.Told.{connected, given_up, is_over, waiting_for}
-use Rattle.turn_client_proto_timers.specs.Connection.Waiting.{asked, asked_in, is_unasked}
+use Rattle.turn_client_proto_timers.specs.Connection.Reported.{connected, given_up, is_over, waiting_for}
+use Rattle.turn_client_proto_timers.specs.Connection.Waiting.{requested, requested_in, is_unasked}
 use Rattle.turn_client_proto_step_laws.specs.Held.{Allocation, Connecting, Waiting}
 use Rattle.turn_client_proto_step_laws.proofs.Joining.{AskingFor, IsJoining, IsUnattempted, Learning, none_connects, none_learnt, waited_itself}
 use Rattle.turn_client_proto_step_laws.proofs.Lessening.{IsAlike, same_distinct}
 use Rattle.turn_client_proto_step_laws.proofs.Lists.{found_in, in_either, in_filter, in_first, inside}
 
--- one to this peer is asked for by the request of this number
+-- The request with this transaction ID asks for a connection to this peer.
 abbrev pub asks_to : SocketAddr → ℕ → AskingFor
 asks_to peer number c = c ≡ record { number = number; peer = peer }
 
--- one of this number and peer is known
+-- A connection with this ID and peer becomes known.
 abbrev pub learns : ℕ → SocketAddr → Learning
 learns connection peer w = w ≡ waiting_for connection peer
 
 pub learns_unattempted : (connection : ℕ) (peer : SocketAddr) → IsUnattempted (learns connection peer)
 learns_unattempted connection peer w same = ap (λ (x : Waiting). x.attempt) same
 
--- ---- as time goes on
+-- ---- as time passes
 
--- those whose request ended go
+-- Connections whose request ended are removed.
 pub given_up_joining : (over : Option ℕ) (a : Allocation) → IsJoining none_connects none_learnt a (given_up over a)
 unfolding given_up
 given_up_joining over a = record {
@@ -42,12 +42,12 @@ given_up_alike over a = (refl, refl)
 pub given_up_distinct : (over : Option ℕ) (all : List Allocation) → AreDistinct all → AreDistinct (map (given_up over) all)
 given_up_distinct over all distinct = same_distinct (given_up over) (given_up_alike over) all distinct
 
--- the socket of one is asked for
-pub asked_joining : (a : Allocation) → IsJoining none_connects none_learnt a (asked_in a)
-asked_joining a = record {
+-- The socket of a connection is requested.
+pub requested_joining : (a : Allocation) → IsJoining none_connects none_learnt a (requested_in a)
+requested_joining a = record {
   others = refl;
   connecting = λ c listed. inl listed;
-  waiting = λ w listed. elim (in_first is_unasked asked w a.waiting listed) [
+  waiting = λ w listed. elim (in_first is_unasked requested w a.waiting listed) [
     | inl was ↦ inl (waited_itself a.waiting w was)
     | inr changed ↦ inl (record {
       before = changed.0;
@@ -71,7 +71,7 @@ connecting_joining peer number a = record {
   waiting = λ w listed. inl (waited_itself a.waiting w listed);
 }
 
--- in place of another one
+-- The request replaces another one.
 pub again_joining : (before number : ℕ) (a : Allocation) (first : Connecting) → find (is_connecting before) a.connecting ≡ Some first
     → IsJoining (asks_to first.peer number) none_learnt a (record a { connecting = connected_again before number a.connecting })
 again_joining before number a first at = record {

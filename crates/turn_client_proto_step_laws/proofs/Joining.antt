@@ -1,4 +1,5 @@
--- What calls make of connections that are asked for or wait for their socket, where all else of an allocation stays as it is.
+-- What calls do to connections that are requested or wait for their socket, if all else of an allocation
+-- stays as it is.
 use Rattle.std.proofs.Common.{◌≡◌, ◌⊎◌, ℕ, Bool, List, Some, None, map, refl, sym, ◌∙◌, subst, inl, inr}
 use Rattle.std.specs.List.{find}
 use Rattle.std.specs.declared.net.socket_addr.SocketAddr.{SocketAddr}
@@ -6,30 +7,30 @@ use Rattle.turn_client_proto_timers.specs.Peers.Channel.Numbers.{AreDistinct}
 use Rattle.turn_client_proto_timers.specs.TurnRuns.Members.{IsIn}
 use Rattle.turn_client_proto_timers.specs.TurnRuns.Messages as run
 use Rattle.turn_client_proto_timers.specs.Allocation.Changes.{change_first}
-use Rattle.turn_client_proto_step_laws.specs.ClientWords.{Has, HasItself, HasPermission, HasChannel, HasConnection, IsAttempted, IsWaiting, IsAnswered, IsKept, IsPending, OfPermission, OfChannel, OfNewPermission, OfNewChannel, OfRefresh, OfConnect, OfAttempt, OfBinding, IsTaken, Outstanding, Allocating, Pending, Knows, ByWaiting, ByConnection, Waits}
+use Rattle.turn_client_proto_step_laws.specs.ClientWords.{Has, HasItself, HasPermission, HasChannel, HasConnection, IsAttempted, IsWaiting, IsAnswered, IsStored, IsPending, OfPermission, OfChannel, OfNewPermission, OfNewChannel, OfRefresh, OfConnect, OfAttempt, OfBinding, IsTaken, Outstanding, Allocating, Pending, Knows, ByWaiting, ByConnection, Waits}
 use Rattle.turn_client_proto_step_laws.specs.Held.{Allocation, Connecting, Waiting}
 use Rattle.turn_client_proto_step_laws.specs.RunClient.{Parts}
-use Rattle.turn_client_proto_step_laws.specs.Sound.{AreAsked, AreBinding, AreShort, AreWhole, AsksOf, IsOrderly, IsWhole}
+use Rattle.turn_client_proto_step_laws.specs.Sound.{AreRequested, AreBinding, AreShort, AreWhole, AsksOf, IsOrderly, IsWhole}
 use Rattle.turn_client_proto_step_laws.proofs.Adding.{Adds, HasNumber}
 use Rattle.turn_client_proto_step_laws.proofs.Lists.{IsImage, found_in, in_first, in_map}
 
 -- ---- one allocation
 
--- which connections are asked for now, and which are known now
+-- Which connections are requested now, and which become known now.
 abbrev pub AskingFor : Type 1
 AskingFor = Connecting → Type 0
 
 abbrev pub Learning : Type 1
 Learning = Waiting → Type 0
 
--- none is
+-- No connection is.
 abbrev pub none_connects : AskingFor
 none_connects c = ⊥
 
 abbrev pub none_learnt : Learning
 none_learnt w = ⊥
 
--- a connection that waited before, whether its socket was asked for or not
+-- A connection that waited before, whether its socket was requested or not.
 pub record Waited (old : List Waiting) (w : Waiting) : Type 0 where
   pub before : Waiting
   pub listed : IsIn before old
@@ -40,20 +41,21 @@ pub record Waited (old : List Waiting) (w : Waiting) : Type 0 where
 pub waited_itself : (old : List Waiting) (w : Waiting) → IsIn w old → Waited old w
 waited_itself old w listed = record { before = w; listed = listed; connection = refl; peer = refl; attempt = refl }
 
--- what is known now is no request of the server's
+-- What becomes known now was not announced by the server.
 abbrev pub IsUnattempted : Learning → Type 0
 IsUnattempted New = (w : Waiting) → New w → w.attempt ≡ None
 
 pub none_attempts : IsUnattempted none_learnt
 none_attempts w h = absurd h
 
--- an allocation is as before but for these two lists: what is new of them is asked for, or is known, now
+-- An allocation is as before except for these two lists: what is new in them is requested or becomes known
+-- now.
 pub record IsJoining (Now : AskingFor) (New : Learning) (before after : Allocation) : Type 0 where
   pub others : after ≡ record before { connecting = after.connecting; waiting = after.waiting }
   pub connecting : (c : Connecting) → IsIn c after.connecting → IsIn c before.connecting ⊎ Now c
   pub waiting : (w : Waiting) → IsIn w after.waiting → Waited before.waiting w ⊎ New w
 
--- what an allocation was before
+-- What an allocation was before.
 pub record WasJoining (Now : AskingFor) (New : Learning) (old : List Allocation) (after : Allocation) : Type 0 where
   pub before : Allocation
   pub listed : IsIn before old
@@ -66,7 +68,7 @@ module _ (Now : AskingFor) (New : Learning) where
   pub itself : (a : Allocation) → IsJoining Now New a a
   itself a = record { others = refl; connecting = λ c h. inl h; waiting = λ w h. inl (waited_itself a.waiting w h) }
 
-  -- the first that passes is changed so
+  -- The first allocation that passes is changed in this way.
   pub first_joining : (passes : Allocation → Bool) (f : Allocation → Allocation) (old : List Allocation)
       → ((a : Allocation) → find passes old ≡ Some a → IsJoining Now New a (f a)) → AreJoining Now New old (change_first passes f old)
   first_joining passes f old is a listed = elim (in_first passes f a old listed) [
@@ -92,7 +94,7 @@ module _ (Now : AskingFor) (New : Learning) where
   -- ---- what it has, knows and awaits
 
   module _ (before after : Allocation) (is : IsJoining Now New before after) where
-    -- with these two lists, and all else as before
+    -- The allocation with these two lists, and all else as before.
     abbrev mixed : Allocation
     mixed = record before { connecting = after.connecting; waiting = after.waiting }
 
@@ -139,8 +141,8 @@ module _ (Now : AskingFor) (New : Learning) where
   -- ---- all of them
 
   module _ (p : Parts) (new : List Allocation) (are : AreJoining Now New p.allocations new) where
-    pub kept_joining : (h : run.Held) → IsKept new h → IsKept p.allocations h
-    kept_joining h k =
+    pub stored_joining : (h : run.Held) → IsStored new h → IsStored p.allocations h
+    stored_joining h k =
         let was = are k.allocation k.listed in
         record { allocation = was.before; listed = was.listed; has = has_before was.before k.allocation was.is h k.has }
 
@@ -169,7 +171,8 @@ module _ (Now : AskingFor) (New : Learning) where
         let waited = attempted_before was.before a was.is free n w has number in
         IsWaiting was.before was.listed waited.before waited.listed (sym waited.attempt ∙ number)
 
-    -- what is asked for now can be named, and what is outstanding asks for it
+    -- XOR-PEER-ADDRESS carries completely the peers of what is requested now, and the outstanding requests
+    -- ask for it.
     pub joining_orderly : ((c : Connecting) → Now c → AsksOf p.agent (run.Knows 0 c.peer) c.number) → ((c : Connecting) → Now c → IsWhole c.peer) → AreDistinct new → IsOrderly p
         → IsOrderly (record p { allocations = new })
     joining_orderly asks whole distinct is = record {
@@ -180,30 +183,31 @@ module _ (Now : AskingFor) (New : Learning) where
       lifetimes = λ a listed. let was = are a listed in
           subst (λ (x : Allocation). AreShort x.pending_refreshes) (sym was.is.others) (is.lifetimes was.before was.listed);
       permissions = λ a listed. let was = are a listed in
-          subst (λ (x : Allocation). AreAsked p.agent x) (sym was.is.others) (is.permissions was.before was.listed);
-      channels = λ a listed. let was = are a listed in let asked = is.channels was.before was.listed in
-          subst (λ (x : Allocation). AreBinding p.agent x) (sym was.is.others) (record { asked = asked.asked; renewed = asked.renewed });
+          subst (λ (x : Allocation). AreRequested p.agent x) (sym was.is.others) (is.permissions was.before was.listed);
+      channels = λ a listed. let was = are a listed in let requested = is.channels was.before was.listed in
+          subst (λ (x : Allocation). AreBinding p.agent x) (sym was.is.others) (record { requested = requested.requested; renewed = requested.renewed });
       peers = λ a listed. let was = are a listed in let all = is.peers was.before was.listed in
-          subst (λ (x : Allocation). AreWhole x) (sym was.is.others) (record { asked = all.asked; standing = all.standing });
-      connects = λ a listed. let was = are a listed in let asked = is.connects was.before was.listed in record {
-        asked = λ c there. elim (was.is.connecting c there) [ inl before ↦ asked.asked c before | inr now ↦ asks c now ];
-        whole = λ c there. elim (was.is.connecting c there) [ inl before ↦ asked.whole c before | inr now ↦ whole c now ];
-        binds = λ c there b awaits. asked.binds c (subst (λ (x : Allocation). IsIn c x.connections) was.is.others there) b awaits;
+          subst (λ (x : Allocation). AreWhole x) (sym was.is.others) (record { requested = all.requested; standing = all.standing });
+      connects = λ a listed. let was = are a listed in let requested = is.connects was.before was.listed in record {
+        requested = λ c there. elim (was.is.connecting c there) [ inl before ↦ requested.requested c before | inr now ↦ asks c now ];
+        whole = λ c there. elim (was.is.connecting c there) [ inl before ↦ requested.whole c before | inr now ↦ whole c now ];
+        binds = λ c there b awaits. requested.binds c (subst (λ (x : Allocation). IsIn c x.connections) was.is.others there) b awaits;
       };
       distinct = distinct;
     }
 
--- the allocations change so, and nothing is known that wasn't; the requests that ask are among those that are made
-pub allocations_joining : (begun : List run.Message) (Now : AskingFor) (p : Parts) (new : List Allocation) → AreJoining Now none_learnt p.allocations new
-    → ((c : Connecting) → Now c → HasNumber c.number begun) → Adds begun p (record p { allocations = new })
-allocations_joining begun Now p new are made = record {
+-- The allocations change in this way, and nothing new becomes known; the requests are among those that are
+-- made.
+pub allocations_joining : (started : List run.Message) (Now : AskingFor) (p : Parts) (new : List Allocation) → AreJoining Now none_learnt p.allocations new
+    → ((c : Connecting) → Now c → HasNumber c.number started) → Adds started p (record p { allocations = new })
+allocations_joining started Now p new are made = record {
   outstanding = λ m h. inl h;
   queued = λ m h. inl h;
   taken = λ n h. elim (taken_joining Now none_learnt p new are none_attempts n h) [
     | inl was ↦ inl was
     | inr now ↦ let one = made now.0 now.1 in inr (record { one = one.one; listed = one.listed; is = one.is ∙ now.2 })
   ];
-  kept = kept_joining Now none_learnt p new are;
+  stored = stored_joining Now none_learnt p new are;
   waits = λ n peer h. elim (waits_joining Now none_learnt p new are n peer h) [ inl was ↦ was | inr learnt ↦ absurd learnt.1 ];
   attempted = attempted_joining Now none_learnt p new are none_attempts;
 }

@@ -1,14 +1,15 @@
--- What calls make of allocations: none has anything that it hadn't before, but for REFRESH requests that are awaited.
+-- What calls do to allocations: none has anything that it hadn't before, except for REFRESH requests that it
+-- awaits.
 use Rattle.std.proofs.Common.{◌≡◌, ℕ, zero, suc, ◌*◌, Bool, true, false, List, [], ◌∷◌, Option, Some, None, if◌then◌else◌, refl, sym, subst, arith, inl, inr}
 use Rattle.std.specs.Prelude.{map, nat_le}
-use Rattle.turn_client_proto_timers.specs.StunTypesBase.Moments.{moment_after}
+use Rattle.turn_client_proto_timers.specs.StunTypesBase.Times.{time_after}
 use Rattle.turn_client_proto_timers.specs.TurnRuns.Members.{IsIn}
 use Rattle.turn_client_proto_timers.specs.Allocation.Changes.{change_first}
-use Rattle.turn_client_proto_timers.specs.Allocation.Polling.{has_ended, kept, polled, stays}
-use Rattle.turn_client_proto_timers.specs.Allocation.Refreshing.{deleted, least_lifetime, lifetime_asked, refreshing, renewed, renewed_by, second, stands_for}
+use Rattle.turn_client_proto_timers.specs.Allocation.Polling.{has_ended, stored, polled, stays}
+use Rattle.turn_client_proto_timers.specs.Allocation.Refreshing.{deleted, least_lifetime, lifetime_requested, refreshing, renewed, renewed_by, second, is_active_for}
 use Rattle.turn_client_proto_timers.specs.Peers.Permission.Asking.{marked}
 use Rattle.turn_client_proto_timers.specs.Peers.Channel.Numbers.{AreDistinct}
-use Rattle.turn_client_proto_timers.proofs.Peers.Distinct.{alike_uses_less, each_stay_distinct, ended_uses_less, first_stay_distinct, kept_stay_distinct}
+use Rattle.turn_client_proto_timers.proofs.Peers.Distinct.{alike_uses_less, each_stay_distinct, ended_uses_less, first_stay_distinct, stored_stay_distinct}
 use Rattle.turn_client_proto_step_laws.specs.Held.{Allocation, PendingRefresh}
 use Rattle.turn_client_proto_step_laws.specs.Sound.{AreShort}
 use Rattle.turn_client_proto_step_laws.proofs.Adding.{AreLess, IsLess, WasMore}
@@ -30,7 +31,7 @@ itself more a = record {
   connections = λ c h. h;
 }
 
--- a REFRESH more is awaited
+-- One more REFRESH is awaited.
 pub one_awaited : (refresh : PendingRefresh) (a : Allocation) → IsLess (refresh ∷ []) a (refreshing refresh a)
 one_awaited refresh a = record {
   transport = refl;
@@ -45,8 +46,8 @@ one_awaited refresh a = record {
   connections = λ c h. h;
 }
 
-pub end_asked : (number now : ℕ) (a : Allocation) → IsLess (record { number = number; lifetime = 0 } ∷ []) a (deleted number now a)
-end_asked number now a = record {
+pub end_requested : (number now : ℕ) (a : Allocation) → IsLess (record { number = number; lifetime = 0 } ∷ []) a (deleted number now a)
+end_requested number now a = record {
   transport = refl;
   address = refl;
   permissions = λ p h. absurd h;
@@ -59,7 +60,7 @@ end_asked number now a = record {
   connections = λ c h. h;
 }
 
--- an allocation that is marked as expired
+-- An allocation that is marked as expired.
 pub marked_less : (a : Allocation) → IsLess [] a (marked a)
 marked_less a = record {
   transport = refl;
@@ -74,7 +75,7 @@ marked_less a = record {
   connections = λ c h. h;
 }
 
--- no REFRESH is awaited any more
+-- No REFRESH is awaited any more.
 none_awaited : (a : Allocation) (expiry : ℕ) → IsLess [] a (record a { expiry = expiry; pending_refreshes = [] })
 none_awaited a expiry = record {
   transport = refl;
@@ -97,22 +98,22 @@ polled_less over a =
       | false ↦ itself [] a
     ]
 
-standing_less : (now : ℕ) (told : Option ℕ) (a : Allocation) → IsLess [] a (stands_for now told a)
+standing_less : (now : ℕ) (reported : Option ℕ) (a : Allocation) → IsLess [] a (is_active_for now reported a)
 standing_less now None a = itself [] a
 standing_less now (Some lifetime) a =
-    elim (nat_le least_lifetime lifetime) as (λ b. IsLess [] a (if b then record a { expiry = moment_after now (lifetime * second); pending_refreshes = [] } else a)) [
-      | true ↦ none_awaited a (moment_after now (lifetime * second))
+    elim (nat_le least_lifetime lifetime) as (λ b. IsLess [] a (if b then record a { expiry = time_after now (lifetime * second); pending_refreshes = [] } else a)) [
+      | true ↦ none_awaited a (time_after now (lifetime * second))
       | false ↦ itself [] a
     ]
 
-renewed_less_by : (now : ℕ) (told asked : Option ℕ) (a : Allocation) → IsLess [] a (renewed_by now told asked a)
-renewed_less_by now told None a = itself [] a
-renewed_less_by now told (Some zero) a = none_awaited a a.expiry
-renewed_less_by now told (Some (suc n)) a = standing_less now told a
+renewed_less_by : (now : ℕ) (reported requested : Option ℕ) (a : Allocation) → IsLess [] a (renewed_by now reported requested a)
+renewed_less_by now reported None a = itself [] a
+renewed_less_by now reported (Some zero) a = none_awaited a a.expiry
+renewed_less_by now reported (Some (suc n)) a = standing_less now reported a
 
-renewed_less : (number now : ℕ) (told : Option ℕ) (a : Allocation) → IsLess [] a (renewed number now told a)
+renewed_less : (number now : ℕ) (reported : Option ℕ) (a : Allocation) → IsLess [] a (renewed number now reported a)
 unfolding renewed
-renewed_less number now told a = renewed_less_by now told (lifetime_asked number a.pending_refreshes) a
+renewed_less number now reported a = renewed_less_by now reported (lifetime_requested number a.pending_refreshes) a
 
 -- ---- all of them
 
@@ -139,17 +140,17 @@ module _ (more : List PendingRefresh) (f : Allocation → Allocation) (less : (a
 pub none_less : (old : List Allocation) → AreLess [] old []
 none_less old a listed = absurd listed
 
-pub all_renewed : (number now : ℕ) (told : Option ℕ) (old : List Allocation) → AreLess [] old (map (renewed number now told) old)
-all_renewed number now told old = each_less [] (renewed number now told) (renewed_less number now told) old
+pub all_renewed : (number now : ℕ) (reported : Option ℕ) (old : List Allocation) → AreLess [] old (map (renewed number now reported) old)
+all_renewed number now reported old = each_less [] (renewed number now reported) (renewed_less number now reported) old
 
-pub all_polled : (over : Option ℕ) (now : ℕ) (old : List Allocation) → AreLess [] old (map (polled over) (kept over now old))
+pub all_polled : (over : Option ℕ) (now : ℕ) (old : List Allocation) → AreLess [] old (map (polled over) (stored over now old))
 all_polled over now old a listed =
-    let was = each_less [] (polled over) (polled_less over) (kept over now old) a listed in
+    let was = each_less [] (polled over) (polled_less over) (stored over now old) a listed in
     record { before = was.before; listed = (in_filter (stays over now) was.before old was.listed).0; less = was.less }
 
--- ---- numbers of channels
+-- ---- transaction IDs of channels
 
--- an allocation with the channels of another one
+-- An allocation with the channels of another one.
 abbrev pub IsAlike : Allocation → Allocation → Type 0
 IsAlike old new = (new.channels ≡ old.channels) × (new.pending_channels ≡ old.pending_channels)
 
@@ -161,35 +162,35 @@ polled_alike over a =
       | false ↦ (refl, refl)
     ]
 
-standing_alike : (now : ℕ) (told : Option ℕ) (a : Allocation) → IsAlike a (stands_for now told a)
+standing_alike : (now : ℕ) (reported : Option ℕ) (a : Allocation) → IsAlike a (is_active_for now reported a)
 standing_alike now None a = (refl, refl)
 standing_alike now (Some lifetime) a =
-    elim (nat_le least_lifetime lifetime) as (λ b. IsAlike a (if b then record a { expiry = moment_after now (lifetime * second); pending_refreshes = [] } else a)) [
+    elim (nat_le least_lifetime lifetime) as (λ b. IsAlike a (if b then record a { expiry = time_after now (lifetime * second); pending_refreshes = [] } else a)) [
       | true ↦ (refl, refl)
       | false ↦ (refl, refl)
     ]
 
-renewed_alike_by : (now : ℕ) (told asked : Option ℕ) (a : Allocation) → IsAlike a (renewed_by now told asked a)
-renewed_alike_by now told None a = (refl, refl)
-renewed_alike_by now told (Some zero) a = (refl, refl)
-renewed_alike_by now told (Some (suc n)) a = standing_alike now told a
+renewed_alike_by : (now : ℕ) (reported requested : Option ℕ) (a : Allocation) → IsAlike a (renewed_by now reported requested a)
+renewed_alike_by now reported None a = (refl, refl)
+renewed_alike_by now reported (Some zero) a = (refl, refl)
+renewed_alike_by now reported (Some (suc n)) a = standing_alike now reported a
 
-renewed_alike : (number now : ℕ) (told : Option ℕ) (a : Allocation) → IsAlike a (renewed number now told a)
+renewed_alike : (number now : ℕ) (reported : Option ℕ) (a : Allocation) → IsAlike a (renewed number now reported a)
 unfolding renewed
-renewed_alike number now told a = renewed_alike_by now told (lifetime_asked number a.pending_refreshes) a
+renewed_alike number now reported a = renewed_alike_by now reported (lifetime_requested number a.pending_refreshes) a
 
--- changes that leave channels as they are leave their numbers distinct
+-- Changes that leave channels as they are leave their numbers distinct.
 pub same_distinct : (f : Allocation → Allocation) → ((a : Allocation) → IsAlike a (f a)) → (all : List Allocation) → AreDistinct all → AreDistinct (map f all)
 same_distinct f alike all distinct = each_stay_distinct all f (λ a. alike_uses_less a (f a) (alike a).0 (alike a).1) distinct
 
 pub same_first_distinct : (passes : Allocation → Bool) (f : Allocation → Allocation) → ((a : Allocation) → IsAlike a (f a)) → (all : List Allocation) → AreDistinct all → AreDistinct (change_first passes f all)
 same_first_distinct passes f alike all distinct = first_stay_distinct all passes f (λ a found. alike_uses_less a (f a) (alike a).0 (alike a).1) distinct
 
-pub renewed_distinct : (number now : ℕ) (told : Option ℕ) (all : List Allocation) → AreDistinct all → AreDistinct (map (renewed number now told) all)
-renewed_distinct number now told all distinct = same_distinct (renewed number now told) (renewed_alike number now told) all distinct
+pub renewed_distinct : (number now : ℕ) (reported : Option ℕ) (all : List Allocation) → AreDistinct all → AreDistinct (map (renewed number now reported) all)
+renewed_distinct number now reported all distinct = same_distinct (renewed number now reported) (renewed_alike number now reported) all distinct
 
-pub polled_distinct : (over : Option ℕ) (now : ℕ) (all : List Allocation) → AreDistinct all → AreDistinct (map (polled over) (kept over now all))
-polled_distinct over now all distinct = same_distinct (polled over) (polled_alike over) (kept over now all) (kept_stay_distinct all (stays over now) distinct)
+pub polled_distinct : (over : Option ℕ) (now : ℕ) (all : List Allocation) → AreDistinct all → AreDistinct (map (polled over) (stored over now all))
+polled_distinct over now all distinct = same_distinct (polled over) (polled_alike over) (stored over now all) (stored_stay_distinct all (stays over now) distinct)
 
 pub deleted_distinct : (number now : ℕ) (all : List Allocation) → AreDistinct all → AreDistinct (map (deleted number now) all)
 deleted_distinct number now all distinct =

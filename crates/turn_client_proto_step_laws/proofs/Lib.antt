@@ -27,7 +27,7 @@ pub mod Gaining
 pub mod Giving
 pub mod Granting
 pub mod GrantingChannels
-pub mod Hearing
+pub mod Processing
 pub mod Joined
 pub mod Joining
 pub mod Leaving
@@ -52,9 +52,9 @@ pub mod RequestingChannels
 pub mod SameSockets
 pub mod Sending
 pub mod Showing
-pub mod Shown
-pub mod ShownChannels
-pub mod ShownConnections
+pub mod Visible
+pub mod ListedChannels
+pub mod ListedConnections
 pub mod Signed
 pub mod Socketing
 pub mod SocketsLeft
@@ -75,7 +75,7 @@ pub mod SameHere
 pub mod SocketCuts
 pub mod SocketFed
 pub mod Order
-pub mod WithKept
--- What stands above this crate has these through it.
+pub mod WithStored
+-- Crates above this one get these proofs through it.
 pub use Rattle.turn_client_proto_recv.proofs.Payload as Payload
 pub use Rattle.turn_client_proto_recv.proofs as Recv

@@ -13,16 +13,16 @@ pub both_so : (x y : Bool) → (x && y) ≡ true → (x ≡ true) × (y ≡ true
 both_so true y h = (refl, h)
 both_so false y h = absurd (Prim.cc h)
 
-pub nothing_behind : {X : Type 0} (all : List X) → all ≡ all ++ []
-nothing_behind [] = refl
-nothing_behind (x ∷ all) = ap (λ l. x ∷ l) (nothing_behind all)
+pub nothing_after : {X : Type 0} (all : List X) → all ≡ all ++ []
+nothing_after [] = refl
+nothing_after (x ∷ all) = ap (λ l. x ∷ l) (nothing_after all)
 
-pub in_either : {X : Type 0} (x : X) (front behind : List X) → IsIn x (front ++ behind) → IsIn x front ⊎ IsIn x behind
-in_either x [] behind h = inr h
-in_either x (y ∷ front) behind (inl is) = inl (inl is)
-in_either x (y ∷ front) behind (inr h) = elim (in_either x front behind h) [ inl a ↦ inl (inr a) | inr b ↦ inr b ]
+pub in_either : {X : Type 0} (x : X) (head following : List X) → IsIn x (head ++ following) → IsIn x head ⊎ IsIn x following
+in_either x [] following h = inr h
+in_either x (y ∷ head) following (inl is) = inl (inl is)
+in_either x (y ∷ head) following (inr h) = elim (in_either x head following h) [ inl a ↦ inl (inr a) | inr b ↦ inr b ]
 
--- an element of a list, of which another is the image
+-- An element of a list whose image is this one.
 pub record IsImage {X Y : Type 0} (f : X → Y) (y : Y) (xs : List X) : Type 0 where
   pub source : X
   pub listed : IsIn source xs
@@ -70,7 +70,8 @@ in_changed {X = X} p f x (y ∷ ys) h = elim (cases_Bool (p y)) [
       ]
 ]
 
--- an element of a list of which the first that passes was changed: it was there, or it is that one, changed
+-- An element of a list of which the first element that passes was changed: it was there, or it is the changed
+-- one.
 pub in_first : {X : Type 0} (p : X → Bool) (f : X → X) (x : X) (xs : List X) → IsIn x (change_first p f xs) → IsIn x xs ⊎ ((y : X) × (find p xs ≡ Some y) × (x ≡ f y))
 in_first p f x [] h = absurd h
 in_first {X = X} p f x (y ∷ ys) h = elim (cases_Bool (p y)) [
@@ -93,7 +94,7 @@ in_first {X = X} p f x (y ∷ ys) h = elim (cases_Bool (p y)) [
       ]
 ]
 
--- what is found is in the list
+-- What is found is in the list.
 pub found_in : {X : Type 0} (p : X → Bool) (xs : List X) (x : X) → find p xs ≡ Some x → IsIn x xs
 found_in p [] x h = absurd (Prim.cc h)
 found_in p (y ∷ ys) x h = elim (cases_Bool (p y)) [
@@ -105,7 +106,7 @@ found_in p (y ∷ ys) x h = elim (cases_Bool (p y)) [
       inr (found_in p ys x (sym later ∙ h))
 ]
 
--- what is found passes
+-- What is found passes.
 pub found_passes : {X : Type 0} (p : X → Bool) (xs : List X) (x : X) → find p xs ≡ Some x → p x ≡ true
 found_passes p [] x h = absurd (Prim.cc h)
 found_passes p (y ∷ ys) x h = elim (cases_Bool (p y)) [
@@ -121,7 +122,7 @@ pub or_true : (b : Bool) → (b || true) ≡ true
 or_true true = refl
 or_true false = refl
 
--- an element that passes
+-- Some element passes.
 pub any_passes : {X : Type 0} (p : X → Bool) (xs : List X) (x : X) → IsIn x xs → p x ≡ true → list_any p xs ≡ true
 any_passes p [] x h is = absurd h
 any_passes p (y ∷ ys) x (inl same) is = ap (λ (b : Bool). b || list_any p ys) (ap p same ∙ is)
@@ -131,7 +132,7 @@ pub either : (x y : Bool) → (x || y) ≡ true → (x ≡ true) ⊎ (y ≡ true
 either true y h = inl refl
 either false y h = inr h
 
--- an element that passes a test
+-- An element that passes a test.
 pub record Passes {X : Type 0} (p : X → Bool) (xs : List X) : Type 0 where
   pub one : X
   pub listed : IsIn one xs
@@ -155,7 +156,7 @@ in_dropped x zero xs h = h
 in_dropped x (suc n) [] h = absurd h
 in_dropped x (suc n) (y ∷ ys) h = inr (in_dropped x n ys h)
 
--- what is left where the first that passes is taken out was there
+-- What is left after the first element that passes was removed was there.
 pub in_others : {X : Type 0} (p : X → Bool) (x : X) (xs : List X) → IsIn x (without_first p xs) → IsIn x xs
 in_others p x xs h = elim (in_either x (before_first p xs) (after_first p xs) h) [
   | inl before ↦ in_taken x (position_or_len p xs) xs before

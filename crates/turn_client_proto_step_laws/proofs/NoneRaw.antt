@@ -1,4 +1,4 @@
--- Frames of the stream from the server leave it so that no bytes of the peer of a connection wait.
+-- After frames of the stream from the server no bytes of a connection's peer are buffered.
 use Rattle.std.proofs.Common.{◌≡◌, ◌≢◌, ℕ, Bool, List, Option, Some, None, ap, ◌∙◌}
 use Rattle.std.specs.Prelude.{MatchOption}
 use Rattle.turn_client_proto_timers.specs.StunTypesWire.Grammar.{refusal}
@@ -12,11 +12,11 @@ use Rattle.turn_client_proto_timers.specs.Api.declared.answer.TurnRecvRet.TheVar
 use Rattle.turn_client_proto_timers.specs.Core.declared.protocol.Protocol.{Protocol}
 use Rattle.turn_client_proto_recv.specs.Payload.declared.payload.Payload.{Payload}
 use Rattle.turn_client_proto_recv.specs.Payload.Payloads.{payload_of}
-use Rattle.turn_client_proto_step_laws.proofs.SocketsLeft.{heard_none}
-use Rattle.turn_client_proto_recv.specs.HandingIn.{IsFrameTaken, IsHandedIn}
-use Rattle.turn_client_proto_recv.specs.Pieces.{Behind, Broken, First, IsFirstTaken, IsFrameHandled, IsPieceTaken, Lost, Takes, Waits}
+use Rattle.turn_client_proto_step_laws.proofs.SocketsLeft.{processed_none}
+use Rattle.turn_client_proto_recv.specs.HandingIn.{IsFrameTaken, IsDispatched}
+use Rattle.turn_client_proto_recv.specs.Chunks.{Following, Invalid, First, IsFirstTaken, IsFrameHandled, IsChunkTaken, Lost, Takes, Waits}
 use Rattle.turn_client_proto_recv.specs.Pulls.{Ends, Gives, Goes, IsPulled, frame_of}
-use Rattle.turn_client_proto_recv.specs.SocketPieces.{raw_waiting}
+use Rattle.turn_client_proto_recv.specs.SocketChunks.{raw_waiting}
 use Rattle.turn_client_proto_recv.specs.declared.handing.Taken.{Taken}
 use Rattle.turn_client_proto_recv.specs.declared.handing.Taken.TheVariants.{Given}
 
@@ -25,12 +25,12 @@ module _ (now : ℕ) where
     same_none : new ≡ old → raw_waiting new ≡ None
     same_none is = ap raw_waiting is ∙ none
 
-    handed : (refused : Option StunParseError) (taken : Taken) → IsHandedIn refused old frame now taken new → raw_waiting new ≡ None
-    handed None taken (handled, is, heard) = heard_none old frame now handled new heard none
-    handed (Some error) taken (is, same) = same_none same
+    delivered : (refused : Option StunParseError) (taken : Taken) → IsDispatched refused old frame now taken new → raw_waiting new ≡ None
+    delivered None taken (handled, is, processed) = processed_none old frame now handled new processed none
+    delivered (Some error) taken (is, same) = same_none same
 
-    by : (found : Option Payload) (refused : Option StunParseError) (taken : Taken) → MatchOption found (IsHandedIn refused old frame now taken new) (λ payload. (taken ≡ Given payload) × (new ≡ old)) → raw_waiting new ≡ None
-    by None refused taken is = handed refused taken is
+    by : (found : Option Payload) (refused : Option StunParseError) (taken : Taken) → MatchOption found (IsDispatched refused old frame now taken new) (λ payload. (taken ≡ Given payload) × (new ≡ old)) → raw_waiting new ≡ None
+    by None refused taken is = delivered refused taken is
     by (Some payload) refused taken is = same_none is.1
 
     taken_none : (taken : Taken) → IsFrameTaken old frame now taken new → raw_waiting new ≡ None
@@ -45,10 +45,10 @@ module _ (now : ℕ) where
   module _ {T : Type 0} (items : T → List ℕ) (came : Transmit T) (answer : TurnRecvRet T) (left : Stream) (old new : Protocol) (none : raw_waiting old ≡ None) where
     first_none : (owned : Bool) (frame : List ℕ) (stream : Stream) → IsFirstTaken now owned frame stream old came answer left new → raw_waiting new ≡ None
     first_none owned frame stream (First payload gives is rest same) = same_none frame old new none same
-    first_none owned frame stream (Broken takes is rest) = taken_none frame old new none _ takes
-    first_none owned frame stream (Behind handled middle takes given pull told) = pulled_none stream middle given left new pull (taken_none frame old middle none _ takes)
+    first_none owned frame stream (Invalid takes is rest) = taken_none frame old new none _ takes
+    first_none owned frame stream (Following handled middle takes given pull reported) = pulled_none stream middle given left new pull (taken_none frame old middle none _ takes)
 
-    pub piece_none : (stream : Stream) → answer ≢ recv.NoMemory came → IsPieceTaken items now stream old came answer left new → raw_waiting new ≡ None
-    piece_none stream ample (Waits nothing is rest same) = same_none (items came.bytes) old new none same
-    piece_none stream ample (Takes some owned begun is) = first_none owned _ _ is
-    piece_none stream ample (Lost told lost) = absurd (ample told)
+    pub chunk_none : (stream : Stream) → answer ≢ recv.NoMemory came → IsChunkTaken items now stream old came answer left new → raw_waiting new ≡ None
+    chunk_none stream ample (Waits nothing is rest same) = same_none (items came.bytes) old new none same
+    chunk_none stream ample (Takes some owned started is) = first_none owned _ _ is
+    chunk_none stream ample (Lost reported lost) = absurd (ample reported)

@@ -1,4 +1,4 @@
--- What a client does is determined: two outcomes of one relation on one state are equal.
+-- A client is deterministic: two outcomes of one relation on one state are equal.
 pub mod Agents
 pub mod Allocating
 pub mod Answers
@@ -7,7 +7,7 @@ pub mod Calling
 pub mod Channels
 pub mod Connecting
 pub mod Drawing
-pub mod Hearing
+pub mod Processing
 pub mod Judging
 pub mod Least
 pub mod Numbering

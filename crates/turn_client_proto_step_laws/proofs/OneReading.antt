@@ -1,4 +1,4 @@
--- What a client makes of a frame is one thing.
+-- What a client does with a frame is determined.
 use Rattle.std.proofs.Common.{◌≡◌, ℕ, List, Option, Some, None, refl, sym, ap, ◌∙◌, subst}
 use Rattle.std.specs.Prelude.{MatchOption}
 use Rattle.turn_client_proto_timers.specs.StunTypesWire.Grammar.{refusal}
@@ -7,26 +7,26 @@ use Rattle.turn_client_proto_timers.specs.Api.Payloads.{PeerPayload}
 use Rattle.turn_client_proto_timers.specs.Core.declared.protocol.Protocol.{Protocol}
 use Rattle.turn_client_proto_recv.specs.Payload.Payloads.{payload_of}
 use Rattle.turn_client_proto_recv.specs.Payload.declared.payload.Payload.{Payload}
-use Rattle.turn_client_proto_recv.specs.HandingIn.{IsFrameTaken, IsHandedIn, taken_as}
-use Rattle.turn_client_proto_recv.specs.Pieces.{IsFrameHandled, data_taken}
+use Rattle.turn_client_proto_recv.specs.HandingIn.{IsFrameTaken, IsDispatched, taken_as}
+use Rattle.turn_client_proto_recv.specs.Chunks.{IsFrameHandled, data_taken}
 use Rattle.turn_client_proto_recv.specs.TurnTypesFrame.StreamAnswers.{IsNone, after_look, looked}
 use Rattle.turn_client_proto_recv.specs.TurnTypesFrame.Streams.{Stream}
 use Rattle.turn_client_proto_recv.specs.Pulls.{Ends, Gives, Goes, IsDefinite, IsPulled, frame_of}
 use Rattle.turn_client_proto_recv.specs.declared.handing.Taken.{Taken}
 use Rattle.turn_client_proto_recv.specs.declared.handing.Taken.TheVariants.{Given}
-use Rattle.turn_client_proto_step_laws.proofs.Once.Hearing.{heard_definite}
+use Rattle.turn_client_proto_step_laws.proofs.Once.Processing.{processed_definite}
 
 module _ (old : Protocol) (frame : List ℕ) (now : ℕ) (taken again : Taken) (one other : Protocol) where
-  handed_same : (refused : Option StunParseError) → IsHandedIn refused old frame now taken one → IsHandedIn refused old frame now again other → (taken ≡ again) × (one ≡ other)
-  handed_same None (handled, is, heard) (later, was, hears) =
-      let same = (heard_definite old frame now).same handled later one other heard hears in
+  delivered_same : (refused : Option StunParseError) → IsDispatched refused old frame now taken one → IsDispatched refused old frame now again other → (taken ≡ again) × (one ≡ other)
+  delivered_same None (handled, is, processed) (later, was, processes) =
+      let same = (processed_definite old frame now).same handled later one other processed processes in
       (is ∙ ap taken_as same.0 ∙ sym was, same.1)
-  handed_same (Some error) a b = (a.0 ∙ sym b.0, a.1 ∙ sym b.1)
+  delivered_same (Some error) a b = (a.0 ∙ sym b.0, a.1 ∙ sym b.1)
 
   given_same : (payload : Option Payload) (refused : Option StunParseError)
-      → MatchOption payload (IsHandedIn refused old frame now taken one) (λ payload. (taken ≡ Given payload) × (one ≡ old))
-      → MatchOption payload (IsHandedIn refused old frame now again other) (λ payload. (again ≡ Given payload) × (other ≡ old)) → (taken ≡ again) × (one ≡ other)
-  given_same None refused a b = handed_same refused a b
+      → MatchOption payload (IsDispatched refused old frame now taken one) (λ payload. (taken ≡ Given payload) × (one ≡ old))
+      → MatchOption payload (IsDispatched refused old frame now again other) (λ payload. (again ≡ Given payload) × (other ≡ old)) → (taken ≡ again) × (one ≡ other)
+  given_same None refused a b = delivered_same refused a b
   given_same (Some payload) refused a b = (a.0 ∙ sym b.0, a.1 ∙ sym b.1)
 
   pub taken_same : IsFrameTaken old frame now taken one → IsFrameTaken old frame now again other → (taken ≡ again) × (one ≡ other)
@@ -45,7 +45,7 @@ none_left now _ _ _ _ _ (Ends stream state none) is = (refl, refl, refl)
 none_left now _ _ _ _ _ (Gives stream state payload after some holds) is = absurd (some is)
 none_left now _ _ _ _ _ (Goes stream state middle given left after some holds more) is = absurd (some is)
 
--- the frame at the front gave something, or the pull went on behind it
+-- The first frame gave something, or the pull went on after it.
 data IsOpened (now : ℕ) (stream : Stream) (state : Protocol) (given : Option PeerPayload) (left : Stream) (after : Protocol) : Type 0 where
   Gave : (payload : PeerPayload) → given ≡ Some payload → left ≡ after_look stream → IsFrameHandled now state (frame_of stream) (Some payload) after → IsOpened now stream state given left after
   Went : (middle : Protocol) → IsFrameHandled now state (frame_of stream) None middle → IsPulled (IsFrameHandled now) (after_look stream) middle given left after → IsOpened now stream state given left after
@@ -60,23 +60,23 @@ IsSame given again left rest one other = (given ≡ again) × (left ≡ rest) ×
 
 gave_same : (now : ℕ) (stream : Stream) (state : Protocol) (payload : PeerPayload) (again : Option PeerPayload) (rest : Stream) (one other : Protocol) → IsFrameHandled now state (frame_of stream) (Some payload) one → IsOpened now stream state again rest other
     → IsSame (Some payload) again (after_look stream) rest one other
-gave_same now stream state payload again rest one other is (Gave later told left was) =
+gave_same now stream state payload again rest one other is (Gave later reported left was) =
     let same = frames_definite now state (frame_of stream) (Some payload) (Some later) one other is was in
-    (same.0 ∙ sym told, sym left, same.1)
+    (same.0 ∙ sym reported, sym left, same.1)
 gave_same now stream state payload again rest one other is (Went middle was more) =
     let same = frames_definite now state (frame_of stream) (Some payload) None one middle is was in
     absurd (Prim.cc same.0)
 
 went_same : (now : ℕ) (stream : Stream) (state middle : Protocol) (given again : Option PeerPayload) (left rest : Stream) (one other : Protocol) → IsFrameHandled now state (frame_of stream) None middle
     → (IsPulled (IsFrameHandled now) (after_look stream) middle again rest other → IsSame given again left rest one other) → IsOpened now stream state again rest other → IsSame given again left rest one other
-went_same now stream state middle given again left rest one other holds behind (Gave later told left_is was) =
+went_same now stream state middle given again left rest one other holds following (Gave later reported left_is was) =
     let same = frames_definite now state (frame_of stream) None (Some later) middle other holds was in
     absurd (Prim.cc same.0)
-went_same now stream state middle given again left rest one other holds behind (Went between was more) =
+went_same now stream state middle given again left rest one other holds following (Went between was more) =
     let same = frames_definite now state (frame_of stream) None None middle between holds was in
-    behind (subst (λ (p : Protocol). IsPulled (IsFrameHandled now) (after_look stream) p again rest other) (sym same.1) more)
+    following (subst (λ (p : Protocol). IsPulled (IsFrameHandled now) (after_look stream) p again rest other) (sym same.1) more)
 
--- a pull has one outcome
+-- A pull has one outcome.
 pub pulled_same : (now : ℕ) (stream : Stream) (state : Protocol) (given again : Option PeerPayload) (left rest : Stream) (one other : Protocol) → IsPulled (IsFrameHandled now) stream state given left one
     → IsPulled (IsFrameHandled now) stream state again rest other → IsSame given again left rest one other
 pulled_same now _ _ _ again _ rest _ other (Ends stream state none) b = none_left now stream state again rest other b none

@@ -1,4 +1,4 @@
--- What stays true of the parts of a client that a run tells of.
+-- The invariant of the parts of a client that a run looks at.
 use Rattle.std.proofs.Common.{◌≡◌, ℕ, List, [], ◌∷◌, ◌++◌, Some, None, refl, sym, subst, inl, inr}
 use Rattle.std.specs.declared.net.socket_addr.SocketAddr.{SocketAddr}
 use Rattle.turn_client_proto_timers.specs.StunTypesWire.Grammar.{number_at, refusal}
@@ -11,7 +11,7 @@ use Rattle.turn_client_proto_recv.specs.TurnTypesAttributes.TurnRegistry.{alloca
 use Rattle.turn_client_proto_timers.specs.TurnRuns.Members.{IsIn}
 use Rattle.turn_client_proto_timers.specs.Peers.Channel.Numbers.{AreDistinct}
 use Rattle.turn_client_proto_timers.specs.TurnRuns.Messages.{Asks, Gain, Held, Holds, Knows, Permission, Channel, Connection}
-use Rattle.turn_client_proto_timers.specs.TurnRuns.StunWire.{told_by}
+use Rattle.turn_client_proto_timers.specs.TurnRuns.StunWire.{decoded_by}
 use Rattle.turn_client_proto_timers.specs.Messages.Waiting.{Queued}
 use Rattle.turn_client_proto_timers.specs.Core.declared.protocol.Phase.{Phase}
 use Rattle.turn_client_proto_timers.specs.Core.declared.protocol.Phase.TheVariants.{Initial, InitialSent, Authenticating, Authenticated, Ended}
@@ -66,7 +66,7 @@ until_map Ended f is = tt
 pub still_asks : (old new : Agent) → NothingNew old new → (gain : Gain) (n : ℕ) → AsksOf old gain n → AsksOf new gain n
 still_asks old new none gain n asks t outstanding =
     let was = none n t outstanding in
-    subst (λ (b : List ℕ). Asks (told_by b) gain) (sym was.same_bytes) (asks was.before was.there)
+    subst (λ (b : List ℕ). Asks (decoded_by b) gain) (sym was.same_bytes) (asks was.before was.there)
 
 pub agent_orderly : (p : Parts) (agent : Agent) → NothingNew p.agent agent → IsOrderly p → IsOrderly (record p { agent = agent })
 agent_orderly p agent none is = record {
@@ -76,15 +76,15 @@ agent_orderly p agent none is = record {
   queued = is.queued;
   lifetimes = is.lifetimes;
   permissions = λ a listed p there n has. asks_still (Permission a.transport p.ip) n (is.permissions a listed p there n has);
-  channels = λ a listed. let asked = is.channels a listed in record {
-    asked = λ c there n has. asks_still (Channel c.channel c.peer) n (asked.asked c there n has);
-    renewed = λ c there n has. asks_still (Channel c.number c.peer) n (asked.renewed c there n has);
+  channels = λ a listed. let requested = is.channels a listed in record {
+    requested = λ c there n has. asks_still (Channel c.channel c.peer) n (requested.requested c there n has);
+    renewed = λ c there n has. asks_still (Channel c.number c.peer) n (requested.renewed c there n has);
   };
   peers = is.peers;
-  connects = λ a listed. let asked = is.connects a listed in record {
-    asked = λ c there. still_asks p.agent agent none (Knows 0 c.peer) c.number (asked.asked c there);
-    whole = asked.whole;
-    binds = λ c there b awaits. asks_still (Connection c.here c.peer c.connection) b.number (asked.binds c there b awaits);
+  connects = λ a listed. let requested = is.connects a listed in record {
+    requested = λ c there. still_asks p.agent agent none (Knows 0 c.peer) c.number (requested.requested c there);
+    whole = requested.whole;
+    binds = λ c there b awaits. asks_still (Connection c.here c.peer c.connection) b.number (requested.binds c there b awaits);
   };
   distinct = is.distinct;
 }
@@ -92,13 +92,13 @@ agent_orderly p agent none is = record {
     asks_still : (held : Held) (n : ℕ) → AsksFor p.agent held n → AsksFor agent held n
     asks_still held n asks = still_asks p.agent agent none (Holds held) n asks
 
--- a number that no allocation awaits
+-- A transaction ID that no allocation awaits.
 abbrev pub IsFree : Parts → ℕ → Type 0
 IsFree p number = (a : Allocation) → IsIn a p.allocations → IsPending number a → ⊥
 
--- the bytes are an ALLOCATE for a client's transport
+-- The bytes are an ALLOCATE for a client's transport.
 abbrev pub IsAllocate : Parts → List ℕ → Type 0
-IsAllocate p bytes = ((told_by bytes).method ≡ allocate_method) × ((told_by bytes).transport ≡ Some p.allocates)
+IsAllocate p bytes = ((decoded_by bytes).method ≡ allocate_method) × ((decoded_by bytes).transport ≡ Some p.allocates)
 
 pub request_orderly : (p : Parts) (bytes : List ℕ) (to : SocketAddr) (now : ℕ) → refusal bytes ≡ None → IsFree p (number_at bytes) → BeforeAllocated p.phase (IsAllocate p bytes) → IsOrderly p
     → IsOrderly (record p { agent = with_request p.agent bytes to now })
@@ -109,20 +109,20 @@ request_orderly p bytes to now message free allocate is = record {
   queued = is.queued;
   lifetimes = is.lifetimes;
   permissions = λ a listed pending there n has. asks_yet a listed (Holds (Permission a.transport pending.ip)) n (OfNewPermission pending there has) (is.permissions a listed pending there n has);
-  channels = λ a listed. let asked = is.channels a listed in record {
-    asked = λ c there n has. asks_yet a listed (Holds (Channel c.channel c.peer)) n (OfNewChannel c there has) (asked.asked c there n has);
-    renewed = λ c there n has. asks_yet a listed (Holds (Channel c.number c.peer)) n (OfChannel c there has) (asked.renewed c there n has);
+  channels = λ a listed. let requested = is.channels a listed in record {
+    requested = λ c there n has. asks_yet a listed (Holds (Channel c.channel c.peer)) n (OfNewChannel c there has) (requested.requested c there n has);
+    renewed = λ c there n has. asks_yet a listed (Holds (Channel c.number c.peer)) n (OfChannel c there has) (requested.renewed c there n has);
   };
   peers = is.peers;
-  connects = λ a listed. let asked = is.connects a listed in record {
-    asked = λ c there. asks_yet a listed (Knows 0 c.peer) c.number (OfConnect c there refl) (asked.asked c there);
-    whole = asked.whole;
-    binds = λ c there b awaits. asks_yet a listed (Holds (Connection c.here c.peer c.connection)) b.number (OfBinding c there b awaits refl) (asked.binds c there b awaits);
+  connects = λ a listed. let requested = is.connects a listed in record {
+    requested = λ c there. asks_yet a listed (Knows 0 c.peer) c.number (OfConnect c there refl) (requested.requested c there);
+    whole = requested.whole;
+    binds = λ c there b awaits. asks_yet a listed (Holds (Connection c.here c.peer c.connection)) b.number (OfBinding c there b awaits refl) (requested.binds c there b awaits);
   };
   distinct = is.distinct;
 }
   where
-    -- what is awaited under a number is not what is sent
+    -- What is awaited with a transaction ID is not what is sent.
     asks_yet : (a : Allocation) → IsIn a p.allocations → (gain : Gain) (n : ℕ) → IsPending n a → AsksOf p.agent gain n → AsksOf (with_request p.agent bytes to now) gain n
     asks_yet a listed gain n pending asks t outstanding = elim (sent p.agent bytes to now n t outstanding) [
       | inl before ↦ asks t before
@@ -146,8 +146,8 @@ queue_orderly p q ready is = record {
   distinct = is.distinct;
 }
 
-pub drawn_orderly : (p : Parts) (rest : List Queued) → ((x : Queued) → IsIn x rest → IsIn x p.queue) → IsOrderly p → IsOrderly (record p { queue = rest })
-drawn_orderly p rest waited is = record {
+pub transmitted_orderly : (p : Parts) (rest : List Queued) → ((x : Queued) → IsIn x rest → IsIn x p.queue) → IsOrderly p → IsOrderly (record p { queue = rest })
+transmitted_orderly p rest waited is = record {
   numbers = is.numbers;
   messages = is.messages;
   allocates = is.allocates;
@@ -185,18 +185,18 @@ allocations_orderly more p new less short distinct is = record {
       let was = less a listed in
       subst (λ (transport : TransportType). AsksFor p.agent (Permission transport pending.ip) n) (sym was.less.transport)
       (is.permissions was.before was.listed pending (was.less.new_permissions pending there) n has);
-  channels = λ a listed. let was = less a listed in let asked = is.channels was.before was.listed in record {
-    asked = λ c there n has. asked.asked c (was.less.new_channels c there) n has;
-    renewed = λ c there n has. asked.renewed c (was.less.channels c there) n has;
+  channels = λ a listed. let was = less a listed in let requested = is.channels was.before was.listed in record {
+    requested = λ c there n has. requested.requested c (was.less.new_channels c there) n has;
+    renewed = λ c there n has. requested.renewed c (was.less.channels c there) n has;
   };
   peers = λ a listed. let was = less a listed in let whole = is.peers was.before was.listed in record {
-    asked = λ c there. whole.asked c (was.less.new_channels c there);
+    requested = λ c there. whole.requested c (was.less.new_channels c there);
     standing = λ c there. whole.standing c (was.less.channels c there);
   };
-  connects = λ a listed. let was = less a listed in let asked = is.connects was.before was.listed in record {
-    asked = λ c there. asked.asked c (was.less.connecting c there);
-    whole = λ c there. asked.whole c (was.less.connecting c there);
-    binds = λ c there b awaits. asked.binds c (was.less.connections c there) b awaits;
+  connects = λ a listed. let was = less a listed in let requested = is.connects was.before was.listed in record {
+    requested = λ c there. requested.requested c (was.less.connecting c there);
+    whole = λ c there. requested.whole c (was.less.connecting c there);
+    binds = λ c there b awaits. requested.binds c (was.less.connections c there) b awaits;
   };
   distinct = distinct;
 }

@@ -1,17 +1,18 @@
--- What becomes of an allocation's connections where some go.
+-- What becomes of an allocation's connections if some are removed.
 use Rattle.std.proofs.Common.{ℕ, [], Option, refl, inl}
 use Rattle.std.specs.Prelude.{not}
 use Rattle.std.specs.declared.net.socket_addr.SocketAddr.{SocketAddr}
 use Rattle.turn_client_proto_timers.specs.Connection.Attempts.{is_lost}
-use Rattle.turn_client_proto_timers.specs.Connection.Lapsing.{has_gone, polled}
-use Rattle.turn_client_proto_timers.specs.Connection.Sockets.{closed, is_from, is_socket_for, let_go}
-use Rattle.turn_client_proto_timers.specs.Connection.Told.{given_up, is_over}
+use Rattle.turn_client_proto_timers.specs.Connection.Expiring.{has_gone, polled}
+use Rattle.turn_client_proto_timers.specs.Connection.Sockets.{closed, is_from, is_socket_for, release}
+use Rattle.turn_client_proto_timers.specs.Connection.Reported.{given_up, is_over}
 use Rattle.turn_client_proto_step_laws.specs.Held.{Allocation, Connecting, Connection}
 use Rattle.turn_client_proto_step_laws.proofs.Adding.{IsLess}
 use Rattle.turn_client_proto_step_laws.proofs.Lessening.{IsAlike}
 use Rattle.turn_client_proto_step_laws.proofs.Lists.{in_filter, in_others}
 
--- those whose request ended, those that were not bound in time, and the first whose number ended
+-- Removed are those whose request ended, those that were not bound in time, and the first whose transaction
+-- ID ended.
 pub parted_less : (over : Option ℕ) (now : ℕ) (a : Allocation) → IsLess [] a (polled over now a)
 unfolding polled given_up
 parted_less over now a = record {
@@ -31,7 +32,7 @@ pub parted_alike : (over : Option ℕ) (now : ℕ) (a : Allocation) → IsAlike 
 unfolding polled given_up
 parted_alike over now a = (refl, refl)
 
--- the one from an own address
+-- Removed is the connection with an own address.
 pub closed_less : (here : SocketAddr) (a : Allocation) → IsLess [] a (closed here a)
 unfolding closed
 closed_less here a = record {
@@ -51,10 +52,10 @@ pub closed_alike : (here : SocketAddr) (a : Allocation) → IsAlike a (closed he
 unfolding closed
 closed_alike here a = (refl, refl)
 
--- the first that waited for its socket
-pub let_go_less : (connection : ℕ) (peer : SocketAddr) (a : Allocation) → IsLess [] a (let_go connection peer a)
-unfolding let_go
-let_go_less connection peer a = record {
+-- Removed is the first connection that waited for its socket.
+pub release_less : (connection : ℕ) (peer : SocketAddr) (a : Allocation) → IsLess [] a (release connection peer a)
+unfolding release
+release_less connection peer a = record {
   transport = refl;
   address = refl;
   permissions = λ p h. h;
@@ -67,6 +68,6 @@ let_go_less connection peer a = record {
   connections = λ c h. h;
 }
 
-pub let_go_alike : (connection : ℕ) (peer : SocketAddr) (a : Allocation) → IsAlike a (let_go connection peer a)
-unfolding let_go
-let_go_alike connection peer a = (refl, refl)
+pub release_alike : (connection : ℕ) (peer : SocketAddr) (a : Allocation) → IsAlike a (release connection peer a)
+unfolding release
+release_alike connection peer a = (refl, refl)

@@ -1,71 +1,71 @@
--- What calls make of permissions and channels: what is new was gained, and requests are known.
+-- What calls do to permissions and channels: what is new was gained, and its requests are known.
 use Rattle.std.proofs.Common.{◌≡◌, ◌⊎◌, ℕ, List, [], ◌∷◌, ◌++◌, map, refl, sym, ap, ◌∙◌, subst, inl, inr}
 use Rattle.std.specs.declared.net.ip_addr.IpAddr.{IpAddr}
 use Rattle.std.specs.declared.net.socket_addr.SocketAddr.{SocketAddr}
 use Rattle.turn_client_proto_timers.specs.StunTypesBase.declared.transport.TransportType.{TransportType}
 use Rattle.turn_client_proto_timers.specs.TurnRuns.Members.{IsIn}
 use Rattle.turn_client_proto_timers.specs.TurnRuns.Messages as run
-use Rattle.turn_client_proto_step_laws.specs.ClientWords.{Has, HasItself, HasPermission, HasChannel, HasConnection, IsAttempted, IsWaiting, IsAnswered, IsKept, IsPending, OfPermission, OfChannel, OfNewPermission, OfNewChannel, OfRefresh, OfConnect, OfAttempt, OfBinding, IsTaken, Outstanding, Allocating, Pending, Knows, ByWaiting, ByConnection, Waits}
+use Rattle.turn_client_proto_step_laws.specs.ClientWords.{Has, HasItself, HasPermission, HasChannel, HasConnection, IsAttempted, IsWaiting, IsAnswered, IsStored, IsPending, OfPermission, OfChannel, OfNewPermission, OfNewChannel, OfRefresh, OfConnect, OfAttempt, OfBinding, IsTaken, Outstanding, Allocating, Pending, Knows, ByWaiting, ByConnection, Waits}
 use Rattle.turn_client_proto_step_laws.specs.Held.{Allocation, Channel, Connecting, Connection, PendingChannel, PendingPermission, PendingRefresh, Permission, Waiting}
 use Rattle.turn_client_proto_step_laws.specs.RunClient.{Parts}
 use Rattle.turn_client_proto_step_laws.proofs.Adding.{Adds, HasNumber}
 use Rattle.turn_client_proto_step_laws.proofs.Lists.{IsImage, in_either, in_map}
 
--- ---- what is gained, and what is asked for
+-- ---- what is gained, and what is requested
 
--- what is gained
+-- What is gained.
 abbrev pub Gaining : Type 1
 Gaining = run.Held → Type 0
 
--- nothing is
+-- Nothing is gained.
 abbrev pub none_gained : Gaining
 none_gained held = ⊥
 
--- which requests ask for what now
+-- Which requests ask for what now.
 abbrev pub Asking : Type 1
 Asking = run.Held → ℕ → Type 0
 
--- none does
+-- No request does.
 abbrev pub none_asks : Asking
 none_asks held number = ⊥
 
--- this request does, for what it asks for, under its number
+-- This request asks for what it asks for, with its transaction ID.
 abbrev pub one_asks : run.Message → Asking
 one_asks m held number = run.Asks m (run.Holds held) × (number ≡ m.number)
 
--- a request that asks for something now has this number
+-- A request that asks for something now has this transaction ID.
 abbrev pub IsNow : Asking → ℕ → Type 0
 IsNow Now number = (held : run.Held) × Now held number
 
 -- ---- one allocation
 
--- a permission that stood before, of the same address
+-- A permission for the same address was active before.
 pub record Stood (old : List Permission) (p : Permission) : Type 0 where
   pub before : Permission
   pub listed : IsIn before old
   pub ip : p.ip ≡ before.ip
 
--- a number that was to renew a permission before
+-- A request with this transaction ID renewed a permission before.
 pub record WasRenewing (old : List Permission) (number : ℕ) : Type 0 where
   pub before : Permission
   pub listed : IsIn before old
   pub has : IsIn number before.renewals
 
--- a number that asked for a permission of an address before
+-- A request with this transaction ID asked for a permission for this address before.
 pub record WasAsking (old : List PendingPermission) (address : IpAddr) (number : ℕ) : Type 0 where
   pub before : PendingPermission
   pub listed : IsIn before old
   pub ip : address ≡ before.ip
   pub has : IsIn number before.numbers
 
--- a channel that stood before, of the same number and peer
+-- A channel with the same number and peer was active before.
 pub record StoodBound (old : List Channel) (c : Channel) : Type 0 where
   pub before : Channel
   pub listed : IsIn before old
   pub number : c.number ≡ before.number
   pub peer : c.peer ≡ before.peer
 
--- a number that was to renew a channel of this number and peer before
+-- A request with this transaction ID renewed a channel with this number and peer before.
 pub record WasBinding (old : List Channel) (channel : ℕ) (to : SocketAddr) (number : ℕ) : Type 0 where
   pub before : Channel
   pub listed : IsIn before old
@@ -73,14 +73,14 @@ pub record WasBinding (old : List Channel) (channel : ℕ) (to : SocketAddr) (nu
   pub peer : to ≡ before.peer
   pub has : IsIn number before.renewals
 
--- a channel that was asked for before, of the same number and peer
+-- A channel with the same number and peer was requested before.
 pub record WasWanted (old : List PendingChannel) (c : PendingChannel) : Type 0 where
   pub before : PendingChannel
   pub listed : IsIn before old
   pub channel : c.channel ≡ before.channel
   pub peer : c.peer ≡ before.peer
 
--- a number that asked for a channel of this number and peer before
+-- A request with this transaction ID asked for a channel with this number and peer before.
 pub record WasWanting (old : List PendingChannel) (channel : ℕ) (to : SocketAddr) (number : ℕ) : Type 0 where
   pub before : PendingChannel
   pub listed : IsIn before old
@@ -88,8 +88,8 @@ pub record WasWanting (old : List PendingChannel) (channel : ℕ) (to : SocketAd
   pub peer : to ≡ before.peer
   pub has : IsIn number before.numbers
 
--- an allocation has no permission and no channel that it hadn't before, but what was gained; and the numbers of requests
--- for them are those of before, or those of requests that are made now
+-- An allocation has no permission and no channel that it hadn't before, except what was gained. The
+-- transaction IDs of requests for them are those of before, or those of requests that are made now.
 pub record IsPermitting (New : Gaining) (Now : Asking) (before after : Allocation) : Type 0 where
   pub transport : after.transport ≡ before.transport
   pub address : after.address ≡ before.address
@@ -109,7 +109,7 @@ pub record IsPermitting (New : Gaining) (Now : Asking) (before after : Allocatio
   pub waiting : (w : Waiting) → IsIn w after.waiting → IsIn w before.waiting
   pub connections : (c : Connection) → IsIn c after.connections → IsIn c before.connections
 
--- what an allocation was before
+-- What an allocation was before.
 pub record WasPermitting (New : Gaining) (Now : Asking) (old : List Allocation) (after : Allocation) : Type 0 where
   pub before : Allocation
   pub listed : IsIn before old
@@ -120,7 +120,7 @@ ArePermitting New Now old new = (a : Allocation) → IsIn a new → WasPermittin
 
 -- ---- its lists
 
--- a permission that stood before, of the same address, whose requests are those of before, or are made now
+-- A permission for the same address was active before, and its requests are those of before, or are made now.
 pub record IsKin (Now : Asking) (old : List Permission) (p : Permission) : Type 0 where
   pub before : Permission
   pub listed : IsIn before old
@@ -130,12 +130,14 @@ pub record IsKin (Now : Asking) (old : List Permission) (p : Permission) : Type 
 abbrev pub AreKin : Asking → List Permission → List Permission → Type 0
 AreKin Now old new = (p : Permission) → IsIn p new → IsKin Now old p
 
--- the numbers of a permission that was asked for, over a transport, are those of before, or are made now
+-- The transaction IDs of permissions that are requested over a transport are those of before, or are made
+-- now.
 abbrev pub AreKnown : Asking → TransportType → List PendingPermission → List PendingPermission → Type 0
 AreKnown Now transport old new = (p : PendingPermission) → IsIn p new → (n : ℕ) → IsIn n p.numbers
     → WasAsking old p.ip n ⊎ Now (run.Permission transport p.ip) n
 
--- a channel that stood before, of the same number and peer, whose requests are those of before, or are made now
+-- A channel with the same number and peer was active before, and its requests are those of before, or are
+-- made now.
 pub record IsBoundKin (Now : Asking) (old : List Channel) (c : Channel) : Type 0 where
   pub before : Channel
   pub listed : IsIn before old
@@ -146,7 +148,8 @@ pub record IsBoundKin (Now : Asking) (old : List Channel) (c : Channel) : Type 0
 abbrev pub AreBoundKin : Asking → List Channel → List Channel → Type 0
 AreBoundKin Now old new = (c : Channel) → IsIn c new → IsBoundKin Now old c
 
--- a channel that was asked for before, of the same number and peer, or is so now; and so are its numbers
+-- A channel with the same number and peer was requested before, or is requested now; so are its transaction
+-- IDs.
 pub record IsWanted (Now : Asking) (old : List PendingChannel) (c : PendingChannel) : Type 0 where
   pub was : WasWanted old c ⊎ ((n : ℕ) × Now (run.Channel c.channel c.peer) n)
   pub numbers : (n : ℕ) → IsIn n c.numbers → WasWanting old c.channel c.peer n ⊎ Now (run.Channel c.channel c.peer) n
@@ -170,7 +173,7 @@ wanted_itself Now old c listed = record {
 }
 
 module _ (New : Gaining) (Now : Asking) (a : Allocation) where
-  -- an allocation with other lists of permissions and channels
+  -- An allocation with other lists of permissions and channels.
   pub with_all : (permissions : List Permission) (pending : List PendingPermission) (channels : List Channel) (wanted : List PendingChannel) → AreKin Now a.permissions permissions
       → AreKnown Now a.transport a.pending_permissions pending → AreBoundKin Now a.channels channels → AreWanted Now a.pending_channels wanted
       → IsPermitting New Now a (record a { permissions = permissions; pending_permissions = pending; channels = channels; pending_channels = wanted })
@@ -196,13 +199,13 @@ module _ (New : Gaining) (Now : Asking) (a : Allocation) where
     connections = λ c h. h;
   }
 
-  -- with other lists of permissions
+  -- An allocation with other lists of permissions.
   pub with_lists : (permissions : List Permission) (pending : List PendingPermission) → AreKin Now a.permissions permissions → AreKnown Now a.transport a.pending_permissions pending
       → IsPermitting New Now a (record a { permissions = permissions; pending_permissions = pending })
   with_lists permissions pending kin known =
       with_all permissions pending a.channels a.pending_channels kin known (bound_itself Now a.channels) (wanted_itself Now a.pending_channels)
 
-  -- with other lists of channels
+  -- An allocation with other lists of channels.
   pub with_channels : (channels : List Channel) (wanted : List PendingChannel) → AreBoundKin Now a.channels channels → AreWanted Now a.pending_channels wanted
       → IsPermitting New Now a (record a { channels = channels; pending_channels = wanted })
   with_channels channels wanted bound are_wanted =
@@ -211,7 +214,7 @@ module _ (New : Gaining) (Now : Asking) (a : Allocation) where
   pub itself : IsPermitting New Now a a
   itself = with_lists a.permissions a.pending_permissions (kin_itself Now a.permissions) (known_itself Now a.transport a.pending_permissions)
 
-  -- with a permission that was gained
+  -- An allocation with a permission that was gained.
   pub with_permission : (own : Permission) (pending : List PendingPermission) → own.renewals ≡ [] → New (run.Permission a.transport own.ip) → AreKnown Now a.transport a.pending_permissions pending
       → IsPermitting New Now a (record a { permissions = a.permissions ++ own ∷ []; pending_permissions = pending })
   with_permission own pending none new known = record {
@@ -239,7 +242,7 @@ module _ (New : Gaining) (Now : Asking) (a : Allocation) where
     connections = λ c h. h;
   }
 
-  -- with a channel that was gained
+  -- An allocation with a channel that was gained.
   pub with_channel : (own : Channel) (wanted : List PendingChannel) → own.renewals ≡ [] → New (run.Channel own.number own.peer) → AreWanted Now a.pending_channels wanted
       → IsPermitting New Now a (record a { channels = a.channels ++ own ∷ []; pending_channels = wanted })
   with_channel own wanted none new are_wanted = record {
@@ -316,7 +319,7 @@ module _ (New : Gaining) (Now : Asking) (before after : Allocation) (is : IsPerm
 
 -- ---- all of them
 
--- nothing has changed
+-- Nothing has changed.
 pub all_themselves : (New : Gaining) (Now : Asking) (old : List Allocation) → ArePermitting New Now old old
 all_themselves New Now old a listed = record { before = a; listed = listed; is = itself New Now a }
 
@@ -332,8 +335,8 @@ module _ (New : Gaining) (Now : Asking) (f : Allocation → Allocation) (is : (a
   each_permitting old a listed = was_image old a (in_map f a old listed)
 
 module _ (New : Gaining) (Now : Asking) (p : Parts) (new : List Allocation) (are : ArePermitting New Now p.allocations new) where
-  pub kept_permitting : (h : run.Held) → IsKept new h → IsKept p.allocations h ⊎ New h
-  kept_permitting h k =
+  pub stored_permitting : (h : run.Held) → IsStored new h → IsStored p.allocations h ⊎ New h
+  stored_permitting h k =
       let was = are k.allocation k.listed in
       elim (has_before New Now was.before k.allocation was.is h k.has) [
         | inl before ↦ inl (record { allocation = was.before; listed = was.listed; has = before })
@@ -361,14 +364,14 @@ module _ (New : Gaining) (Now : Asking) (p : Parts) (new : List Allocation) (are
       let was = are a listed in
       IsWaiting was.before was.listed w (was.is.waiting w has) number
 
--- the allocations change so; the requests that ask are among those that are made
-pub allocations_permitting : (begun : List run.Message) (Now : Asking) (p : Parts) (new : List Allocation) → ArePermitting none_gained Now p.allocations new
-    → ((held : run.Held) (n : ℕ) → Now held n → HasNumber n begun) → Adds begun p (record p { allocations = new })
-allocations_permitting begun Now p new are made = record {
+-- The allocations change in this way; the requests are among those that are made.
+pub allocations_permitting : (started : List run.Message) (Now : Asking) (p : Parts) (new : List Allocation) → ArePermitting none_gained Now p.allocations new
+    → ((held : run.Held) (n : ℕ) → Now held n → HasNumber n started) → Adds started p (record p { allocations = new })
+allocations_permitting started Now p new are made = record {
   outstanding = λ m h. inl h;
   queued = λ m h. inl h;
   taken = λ n h. elim (taken_permitting none_gained Now p new are n h) [ inl was ↦ inl was | inr now ↦ inr (made now.0 n now.1) ];
-  kept = λ h k. elim (kept_permitting none_gained Now p new are h k) [ inl was ↦ was | inr gained ↦ absurd gained ];
+  stored = λ h k. elim (stored_permitting none_gained Now p new are h k) [ inl was ↦ was | inr gained ↦ absurd gained ];
   waits = waits_permitting none_gained Now p new are;
   attempted = attempted_permitting none_gained Now p new are;
 }

@@ -1,4 +1,4 @@
--- A message that came over the socket of a connection leaves the client's own address.
+-- A message from the socket of a connection leaves the client's own address unchanged.
 use Rattle.std.proofs.Common.{◌≡◌, ℕ, true, false, List, Option, Some, None, Ok, Err, refl, ap, ◌∙◌}
 use Rattle.std.specs.Prelude.{if◌then◌else◌}
 use Rattle.std.specs.declared.net.socket_addr.SocketAddr.{SocketAddr}
@@ -12,7 +12,7 @@ use Rattle.turn_client_proto_timers.specs.StunProtoAgent.Handling.{after_message
 use Rattle.turn_client_proto_timers.specs.StunProtoAgent.State.{Agent}
 use Rattle.turn_client_proto_timers.specs.Core.Responding.{accepted, answered, judged}
 use Rattle.turn_client_proto_timers.specs.Core.declared.protocol.Protocol.{Protocol}
-use Rattle.turn_client_proto_recv.specs.Hearing.{IsAnswerHeard, IsAnswerJudged, IsAskedAnew, IsHeardAt, IsOfBinding, IsSettled, asked_anew, awaited_at, bound_at, broken_off, is_answer, is_of_binding, is_success_class}
+use Rattle.turn_client_proto_recv.specs.Processing.{IsAnswerProcessed, IsAnswerJudged, IsRequestedAnew, IsProcessedAt, IsOfBinding, IsSettled, requested_anew, awaited_at, bound_at, aborted, is_answer, is_of_binding, is_success_class}
 use Rattle.turn_client_proto_timers.specs.Allocation.Same.{is_same_transport}
 use Rattle.turn_client_proto_step_laws.proofs.Once.Judging.{Verdict}
 use Rattle.turn_client_proto_step_laws.proofs.Polling.{by_test}
@@ -33,24 +33,24 @@ module _ (here : SocketAddr) (bytes : List ℕ) (now : ℕ) (new : Protocol) whe
   abbrev Same : Protocol → Type 0
   Same p = new.agent.here ≡ p.agent.here
 
-  breaks : (peer : SocketAddr) (p : Protocol) → new ≡ broken_off here peer p → Same p
-  unfolding broken_off
+  breaks : (peer : SocketAddr) (p : Protocol) → new ≡ aborted here peer p → Same p
+  unfolding aborted
   breaks peer p is = ap (λ (x : Protocol). x.agent.here) is
 
-  breaks_accepted : (peer : SocketAddr) (p : Protocol) → new ≡ broken_off here peer (accepted bytes p) → Same p
-  unfolding broken_off accepted
+  breaks_accepted : (peer : SocketAddr) (p : Protocol) → new ≡ aborted here peer (accepted bytes p) → Same p
+  unfolding aborted accepted
   breaks_accepted peer p is = ap (λ (x : Protocol). x.agent.here) is ∙ same_agent p.agent bytes p.server
 
-  breaks_answered : (peer : SocketAddr) (p : Protocol) → new ≡ broken_off here peer (answered bytes p) → Same p
-  unfolding broken_off answered
+  breaks_answered : (peer : SocketAddr) (p : Protocol) → new ≡ aborted here peer (answered bytes p) → Same p
+  unfolding aborted answered
   breaks_answered peer p is = ap (λ (x : Protocol). x.agent.here) is ∙ same_agent p.agent bytes p.server
 
   binds : (peer : SocketAddr) (p : Protocol) → new ≡ bound_at here peer (accepted bytes p) → Same p
   unfolding bound_at accepted
   binds peer p is = ap (λ (x : Protocol). x.agent.here) is ∙ same_agent p.agent bytes p.server
 
-  asks_anew : (connection : ℕ) (p : Protocol) → IsAskedAnew here connection now p new → Same p
-  unfolding asked_anew
+  asks_anew : (connection : ℕ) (p : Protocol) → IsRequestedAnew here connection now p new → Same p
+  unfolding requested_anew
   asks_anew connection p is = ap (λ (x : Protocol). x.agent.here) is.after
 
   settles : (peer : SocketAddr) (p : Protocol) → IsSettled here peer p bytes new → Same p
@@ -58,9 +58,9 @@ module _ (here : SocketAddr) (bytes : List ℕ) (now : ℕ) (new : Protocol) whe
       by_test (is_awaited p.agent bytes)
       (λ (_ : is_awaited p.agent bytes ≡ true) one. by_test (is_success_class (class_of (kind_at bytes)))
       (λ (_ : is_success_class (class_of (kind_at bytes)) ≡ true) (o : new ≡ bound_at here peer (accepted bytes p)). binds peer p o)
-      (λ (_ : is_success_class (class_of (kind_at bytes)) ≡ false) (o : new ≡ broken_off here peer (accepted bytes p)). breaks_accepted peer p o)
+      (λ (_ : is_success_class (class_of (kind_at bytes)) ≡ false) (o : new ≡ aborted here peer (accepted bytes p)). breaks_accepted peer p o)
       one)
-      (λ (_ : is_awaited p.agent bytes ≡ false) (o : new ≡ broken_off here peer p). breaks peer p o) h
+      (λ (_ : is_awaited p.agent bytes ≡ false) (o : new ≡ aborted here peer p). breaks peer p o) h
 
   judges : (verdict : Verdict) (j : _) (p : Protocol) → IsAnswerJudged verdict here j p bytes now new → Same p
   judges (Ok (ResendRequest choice)) j p h = asks_anew j.connection p h
@@ -75,11 +75,11 @@ module _ (here : SocketAddr) (bytes : List ℕ) (now : ℕ) (new : Protocol) whe
     of_binding None h = ap (λ (x : Protocol). x.agent.here) h
     of_binding (Some j) h =
         by_test (is_answer j.number bytes)
-        (λ (_ : is_answer j.number bytes ≡ true) (o : IsAnswerHeard here j old bytes now new). judges o.verdict j (judged o.auth old) o.outcome)
-        (λ (_ : is_answer j.number bytes ≡ false) (o : new ≡ broken_off here j.peer old). breaks j.peer old o) h
+        (λ (_ : is_answer j.number bytes ≡ true) (o : IsAnswerProcessed here j old bytes now new). judges o.verdict j (judged o.auth old) o.outcome)
+        (λ (_ : is_answer j.number bytes ≡ false) (o : new ≡ aborted here j.peer old). breaks j.peer old o) h
 
-    pub heard_here : IsHeardAt here old bytes now new → Same old
-    heard_here is =
+    pub processed_here : IsProcessedAt here old bytes now new → Same old
+    processed_here is =
         by_test (is_of_binding old bytes)
         (λ (_ : is_of_binding old bytes ≡ true) (o : IsOfBinding (awaited_at here old.allocations) here old bytes now new). of_binding (awaited_at here old.allocations) o)
         (λ (_ : is_of_binding old bytes ≡ false) (o : new ≡ old). ap (λ (x : Protocol). x.agent.here) o) is

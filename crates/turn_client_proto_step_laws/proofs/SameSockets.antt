@@ -1,4 +1,4 @@
--- Socket addresses that are the same, as std compares them, are equal.
+-- Socket addresses that std compares as equal are equal.
 use Rattle.std.proofs.Common.{◌≡◌, ℕ, true, eqb, List, refl, ap, ◌∙◌}
 use Rattle.std.specs.Prelude.{◌&&◌, nat_eq}
 use Rattle.std.proofs.lemmas.Bool.{eq-eqb, eqb-true}
@@ -33,7 +33,7 @@ same_address (V6 a) (V6 b) is = ap V6 (six a b is)
 same_address (V4 a) (V6 b) is = absurd (Prim.cc is)
 same_address (V6 a) (V4 b) is = absurd (Prim.cc is)
 
--- and each is the same as itself
+-- Each address compares as equal to itself.
 pub same_itself : (a : SocketAddr) → is_same_address a a ≡ true
 same_itself (V4 a) =
     let octets : pointwise nat_eq (ipv4_octets a.ip) (ipv4_octets a.ip) ≡ true = (bytes_decides (ipv4_octets a.ip) (ipv4_octets a.ip)).1 refl in

@@ -12,12 +12,12 @@ use Rattle.turn_client_proto_step_laws.specs.RunClient.{Client}
 use Rattle.turn_client_proto_step_laws.specs.RunSteps.{IsRunStep}
 use Rattle.turn_client_proto_step_laws.specs.Sound.{IsSound}
 use Rattle.turn_client_proto_step_laws.proofs.Ending.{still}
-use Rattle.turn_client_proto_step_laws.proofs.Refreshing.{number_drawn}
+use Rattle.turn_client_proto_step_laws.proofs.Refreshing.{number_transmitted}
 
 module _ (c : Client) (to : SocketAddr) (bytes : List ℕ) (now : ℕ) (answer : Answer) (new : Protocol) (sound : IsSound c) where
-  -- a number is drawn for an indication, and nothing else changes
+  -- A transaction ID is generated for an indication, and nothing else changes.
   sent_by : (found : Option Channel) → IsSentBy found c.core to bytes answer new → IsRunStep c [] None [] new
-  sent_by None is = subst (λ (p : Protocol). IsRunStep c [] None [] p) (sym is.1) (number_drawn c sound)
+  sent_by None is = subst (λ (p : Protocol). IsRunStep c [] None [] p) (sym is.1) (number_transmitted c sound)
   sent_by (Some channel) is = still c [] new sound is.1
 
   passed_on : (found : Option Connection) → IsPassedOn found c.core bytes answer new → IsRunStep c [] None [] new

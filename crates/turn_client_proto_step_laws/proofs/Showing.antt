@@ -1,12 +1,13 @@
--- A call that answers things as held is a step, too, where they are held; and so is one that hands over payloads, where
--- each was delivered and names something kept.
+-- A call that returns items as held is also a step, if they are held. So is a call that delivers payloads, if
+-- each was received and names something that the client has.
 use Rattle.std.proofs.Common.{◌≡◌, ℕ, List, refl, sym, ap, ◌∙◌, subst, inl, inr}
 use Rattle.turn_client_proto_timers.specs.TurnRuns.Members.{IsIn}
 use Rattle.turn_client_proto_timers.specs.TurnRuns.Messages.{Message, Held, Gain, Holds, Knows, NamesHeld, Payload, FromPeer, Reported, FromChannel, FromConnection}
 use Rattle.turn_client_proto_timers.specs.TurnRuns.Words.{Wire, ClientWords}
 use Rattle.turn_client_proto_timers.specs.TurnRuns.Steps.{Arrives, Call, ClientStep, IsAnswered, IsDelivered, IsTried}
 
--- a call that takes up the same, of the same account, realm and algorithm, where as much is outstanding
+-- A call that handles the same bytes, with the same account, realm and algorithm, and at least as much
+-- outstanding.
 module _ {V : Wire} {C : Type 0} (K : ClientWords V C) (call other : Call C) (same : call.handled ≡ other.handled) (account : K.account call.before ≡ K.account other.before)
     (realm : K.realm call.before ≡ K.realm other.before) (algorithm : K.algorithm call.before ≡ K.algorithm other.before)
     (outstanding : (m : Message) → K.IsOutstanding call.before m → K.IsOutstanding other.before m) where
@@ -24,8 +25,8 @@ module _ {V : Wire} {C : Type 0} (K : ClientWords V C) (call other : Call C) (sa
   pub tried : IsTried K call → IsTried K other
   tried is = record { bytes = is.bytes; attempt = is.attempt; arrives = arrives is.bytes is.attempt is.arrives; class_is = is.class_is; method_is = is.method_is }
 
-  pub answered : (begun : List Message) (gain : Gain) (number : ℕ) → IsAnswered K call begun gain number → IsAnswered K other begun gain number
-  answered begun gain number is = record {
+  pub answered : (started : List Message) (gain : Gain) (number : ℕ) → IsAnswered K call started gain number → IsAnswered K other started gain number
+  answered started gain number is = record {
     bytes = is.bytes;
     response = is.response;
     arrives = arrives is.bytes is.response is.arrives;
@@ -38,52 +39,52 @@ module _ {V : Wire} {C : Type 0} (K : ClientWords V C) (call other : Call C) (sa
   }
 
 module _ {V : Wire} {C : Type 0} (K : ClientWords V C) (call : Call C) (held : List Held) (payloads : List Payload) where
-  abbrev telling : Call C
-  telling = record call { shown = held; payloads = payloads }
+  abbrev reporting : Call C
+  reporting = record call { visible = held; payloads = payloads }
 
-  tells_step : ((h : Held) → IsIn h held → K.IsHeld call.after h) → ((p : Payload) → IsIn p payloads → IsDelivered K telling p)
-      → ((p : Payload) → IsIn p payloads → (h : Held) × NamesHeld p h × K.IsKept call.after h) → ClientStep K call → ClientStep K telling
-  tells_step are delivers names is = record {
+  reports_step : ((h : Held) → IsIn h held → K.IsHeld call.after h) → ((p : Payload) → IsIn p payloads → IsDelivered K reporting p)
+      → ((p : Payload) → IsIn p payloads → (h : Held) × NamesHeld p h × K.IsStored call.after h) → ClientStep K call → ClientStep K reporting
+  reports_step are delivers names is = record {
     account = is.account;
     seed = is.seed;
     realms = is.realms;
     counted = is.counted;
     few = is.few;
-    begun = is.begun;
+    started = is.started;
     requests = is.requests;
     numbered = is.numbered;
     outstanding = is.outstanding;
     queued = is.queued;
     taken = λ n h. elim (is.taken n h) [
       | inl was ↦ inl was
-      | inr now ↦ elim now [ inl made ↦ inr (inl made) | inr came ↦ inr (inr (tried K call telling refl refl refl refl (λ m is. is) came)) ]
+      | inr now ↦ elim now [ inl made ↦ inr (inl made) | inr came ↦ inr (inr (tried K call reporting refl refl refl refl (λ m is. is) came)) ]
     ];
     draws = is.draws;
     handles = is.handles;
     buffers = is.buffers;
     gained = is.gained;
     gains = is.gains;
-    answers = λ t h. answered K call telling refl refl refl refl (λ m is. is) is.begun (Holds t.held) t.number (is.answers t h);
+    answers = λ t h. answered K call reporting refl refl refl refl (λ m is. is) is.started (Holds t.held) t.number (is.answers t h);
     once = is.once;
     spent = is.spent;
     known = is.known;
     is_of = is.is_of;
-    tells = is.tells;
+    decodes = is.decodes;
     shows = is.shows;
-    shown = are;
+    visible = are;
     waits = λ n peer h. elim (is.waits n peer h) [
       | inl was ↦ inl was
       | inr now ↦ elim now [
-        | inl known ↦ inr (inl (known.0, answered K call telling refl refl refl refl (λ m is. is) is.begun (Knows n peer) known.0 known.1))
-        | inr came ↦ inr (inr (tried K call telling refl refl refl refl (λ m is. is) came))
+        | inl known ↦ inr (inl (known.0, answered K call reporting refl refl refl refl (λ m is. is) is.started (Knows n peer) known.0 known.1))
+        | inr came ↦ inr (inr (tried K call reporting refl refl refl refl (λ m is. is) came))
       ]
     ];
-    attempted = λ n h. elim (is.attempted n h) [ inl was ↦ inl was | inr came ↦ inr (tried K call telling refl refl refl refl (λ m is. is) came) ];
+    attempted = λ n h. elim (is.attempted n h) [ inl was ↦ inl was | inr came ↦ inr (tried K call reporting refl refl refl refl (λ m is. is) came) ];
     delivers = delivers;
     names = names;
   }
 
--- what was delivered in a call was so in any in which the same was taken up
+-- What was delivered in a call is delivered in any call that handles the same bytes.
 pub delivered : {V : Wire} {C : Type 0} (K : ClientWords V C) (call other : Call C) → call.handled ≡ other.handled → (p : Payload) → IsDelivered K call p → IsDelivered K other p
 delivered K call other same (FromPeer transport peer bytes) is = (is.0, subst (IsIn is.0) same is.1, is.2)
 delivered K call other same (Reported transport peer report) is = (is.0, subst (IsIn is.0) same is.1, is.2)
@@ -91,11 +92,11 @@ delivered K call other same (FromChannel number peer bytes) is = (is.0, subst (I
 delivered K call other same (FromConnection local peer bytes) is = tt
 
 module _ {V : Wire} {C : Type 0} (K : ClientWords V C) (call : Call C) where
-  pub shows_step : (held : List Held) → ((h : Held) → IsIn h held → K.IsHeld call.after h) → ClientStep K call → ClientStep K (record call { shown = held })
+  pub shows_step : (held : List Held) → ((h : Held) → IsIn h held → K.IsHeld call.after h) → ClientStep K call → ClientStep K (record call { visible = held })
   shows_step held are is =
-      tells_step K call held call.payloads are (λ p i. delivered K call (record call { shown = held }) refl p (is.delivers p i)) is.names is
+      reports_step K call held call.payloads are (λ p i. delivered K call (record call { visible = held }) refl p (is.delivers p i)) is.names is
 
   pub gives_step : (payloads : List Payload) → ((p : Payload) → IsIn p payloads → IsDelivered K call p)
-      → ((p : Payload) → IsIn p payloads → (h : Held) × NamesHeld p h × K.IsKept call.after h) → ClientStep K call → ClientStep K (record call { payloads = payloads })
+      → ((p : Payload) → IsIn p payloads → (h : Held) × NamesHeld p h × K.IsStored call.after h) → ClientStep K call → ClientStep K (record call { payloads = payloads })
   gives_step payloads delivers names is =
-      tells_step K call call.shown payloads is.shown (λ p i. delivered K call (record call { payloads = payloads }) refl p (delivers p i)) names is
+      reports_step K call call.visible payloads is.visible (λ p i. delivered K call (record call { payloads = payloads }) refl p (delivers p i)) names is

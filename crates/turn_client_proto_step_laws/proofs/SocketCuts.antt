@@ -1,4 +1,4 @@
--- Where that is cut does not matter which comes over the socket of a connection to a peer.
+-- It does not matter where the bytes are cut that come over the socket of a connection to a peer.
 use Rattle.std.proofs.Common.{◌≡◌, ◌≢◌, ℕ, Bool, true, false, List, [], ◌∷◌, ◌++◌, Option, Some, None, option_map, length, refl, sym, ap, ◌∙◌, subst, inl, inr, arith}
 use Rattle.std.proofs.lemmas.Bool.{cases_Bool, eqb-true}
 use Rattle.std.proofs.lemmas.List.{append-nil, append_assoc}
@@ -18,22 +18,22 @@ use Rattle.turn_client_proto_timers.specs.Api.declared.answer.TurnRecvRet.{TurnR
 use Rattle.turn_client_proto_timers.specs.Api.declared.answer.TurnRecvRet.TheVariants as recv
 use Rattle.turn_client_proto_timers.specs.Connection.Streams.{emptied, from, has_raw, with_stream}
 use Rattle.turn_client_proto_timers.specs.Core.declared.protocol.Protocol.{Protocol}
-use Rattle.turn_client_proto_recv.specs.Hearing.{joining_of}
+use Rattle.turn_client_proto_recv.specs.Processing.{joining_of}
 use Rattle.turn_client_proto_timers.specs.Allocation.Same.{is_same_address, is_same_transport}
 use Rattle.turn_client_proto_recv.specs.Control.{Control, Datagrams, Open, Closed}
-use Rattle.turn_client_proto_step_laws.specs.Cuts.{IsAskedOut, NoMore, OneMore, data_answered, pieces_of}
+use Rattle.turn_client_proto_step_laws.specs.Cuts.{IsRequestedOut, NoMore, OneMore, data_answered, chunks_of}
 use Rattle.turn_client_proto_recv.specs.Datagrams.{IsGivenBack, IsHandledAs}
-use Rattle.turn_client_proto_recv.specs.Kept.{Kept}
-use Rattle.turn_client_proto_recv.specs.Pieces.{IsFrameHandled}
+use Rattle.turn_client_proto_recv.specs.ClientState.{ClientState}
+use Rattle.turn_client_proto_recv.specs.Chunks.{IsFrameHandled}
 use Rattle.turn_client_proto_recv.specs.Pulls.{Ends, Gives, Goes, IsPulled}
-use Rattle.turn_client_proto_recv.specs.Receipts.{End, IsGivenBy, IsReceivedBy, IsStreamAsked, IsStreamed, Piece, Strange}
+use Rattle.turn_client_proto_recv.specs.Receipts.{End, IsGivenBy, IsReceivedBy, IsStreamRequested, IsStreamed, Chunk, Strange}
 use Rattle.turn_client_proto_step_laws.specs.SocketCuts.{AreDrainedOver, HasNoFrame, IsConnectionDrained, IsControlDrained, IsDrainedOver, IsOverSocket, IsSocketDrained, bytes_given}
-use Rattle.turn_client_proto_recv.specs.SocketPieces.{Fed, GivesRaw, IsBytesTaken, IsEnded, IsFed, IsPieceFed, IsRawTaken, IsReceivedAt, IsTakenBy, IsTakenFor, LostFrames, LostRaw, Stops, Waits, is_joining, raw_given, raw_kept, raw_waiting, socket_of, with_kept}
+use Rattle.turn_client_proto_recv.specs.SocketChunks.{Fed, GivesRaw, IsBytesTaken, IsEnded, IsFed, IsChunkFed, IsRawTaken, IsReceivedAt, IsTakenBy, IsTakenFor, LostFrames, LostRaw, Stops, Waits, is_joining, raw_given, raw_stored, raw_waiting, socket_of, with_stored}
 use Rattle.turn_client_proto_recv.proofs.Exchanging.{from_exchanged}
 use Rattle.turn_client_proto_step_laws.proofs.Order.{none_first, raw_first}
 use Rattle.turn_client_proto_step_laws.proofs.SameHere.{same_way}
 use Rattle.turn_client_proto_step_laws.proofs.SocketFed.{IsCalm, bound_alive, fed_calm, fed_more, fed_same}
-use Rattle.turn_client_proto_step_laws.proofs.WithKept.{kept_none, kept_same, kept_twice, only_raw}
+use Rattle.turn_client_proto_step_laws.proofs.WithStored.{stored_none, stored_same, stored_twice, only_raw}
 use Rattle.turn_client_proto_step_laws.proofs.SameSockets.{same_itself}
 
 -- ---- what waits
@@ -49,44 +49,44 @@ tcp_drained Datagrams drained is = drained
 tcp_drained (Open stream) drained is = Prim.cc is
 tcp_drained Closed drained is = Prim.cc is
 
--- two clients of one core and one control
-alike : (one other : Kept) → one.core ≡ other.core → one.control ≡ other.control → one ≡ other
+-- Two clients with equal core and control are equal.
+alike : (one other : ClientState) → one.core ≡ other.core → one.control ≡ other.control → one ≡ other
 alike one other cores controls = ap (λ (p : Protocol). record one { core = p }) cores ∙ ap (λ (c : Control). record other { control = c }) controls
 
 module _ (now : ℕ) where
-  nothing_asked : (control : Control) (old : Protocol) (given : Option PeerPayload) (new : Kept) → IsControlDrained control → IsStreamAsked now control old given new → (given ≡ None) × (new.core ≡ old) × (new.control ≡ control)
-  nothing_asked Datagrams old given new drained is = absurd drained
-  nothing_asked Closed old given new drained is = is
-  nothing_asked (Open stream) old given new drained is =
+  nothing_requested : (control : Control) (old : Protocol) (given : Option PeerPayload) (new : ClientState) → IsControlDrained control → IsStreamRequested now control old given new → (given ≡ None) × (new.core ≡ old) × (new.control ≡ control)
+  nothing_requested Datagrams old given new drained is = absurd drained
+  nothing_requested Closed old given new drained is = is
+  nothing_requested (Open stream) old given new drained is =
       let none = nothing_pulled now stream old given is.left new.core is.pulled drained.none in
-      (none.0, none.2, is.stands ∙ ap Open (none.1 ∙ drained.left))
+      (none.0, none.2, is.occurs ∙ ap Open (none.1 ∙ drained.left))
 
-  nothing_given : (control : Control) (old : Protocol) (given : Option PeerPayload) (new : Kept) → IsControlDrained control → raw_waiting old ≡ None → IsGivenBy now control old given new → (given ≡ None) × (new.core ≡ old) × (new.control ≡ control)
+  nothing_given : (control : Control) (old : Protocol) (given : Option PeerPayload) (new : ClientState) → IsControlDrained control → raw_waiting old ≡ None → IsGivenBy now control old given new → (given ≡ None) × (new.core ≡ old) × (new.control ≡ control)
   nothing_given Datagrams old given new drained none is = absurd drained
-  nothing_given Closed old given new drained none is = nothing_asked Closed old given new drained (none_first now (raw_waiting old) Closed old given new none is)
-  nothing_given (Open stream) old given new drained none is = nothing_asked (Open stream) old given new drained (none_first now (raw_waiting old) (Open stream) old given new none is)
+  nothing_given Closed old given new drained none is = nothing_requested Closed old given new drained (none_first now (raw_waiting old) Closed old given new none is)
+  nothing_given (Open stream) old given new drained none is = nothing_requested (Open stream) old given new drained (none_first now (raw_waiting old) (Open stream) old given new none is)
 
-  asked_none : (old : Kept) (given : List PeerPayload) (new : Kept) → IsAskedOut now old given new → IsControlDrained old.control → raw_waiting old.core ≡ None → (given ≡ []) × (new ≡ old)
-  asked_none _ _ _ (NoMore old new is) drained none =
+  requested_none : (old : ClientState) (given : List PeerPayload) (new : ClientState) → IsRequestedOut now old given new → IsControlDrained old.control → raw_waiting old.core ≡ None → (given ≡ []) × (new ≡ old)
+  requested_none _ _ _ (NoMore old new is) drained none =
       let all = nothing_given old.control old.core None new drained none is in
       (refl, alike new old all.1 all.2)
-  asked_none _ _ _ (OneMore old between new payload others is rest) drained none =
+  requested_none _ _ _ (OneMore old between new payload others is rest) drained none =
       absurd (Prim.cc (nothing_given old.control old.core (Some payload) between drained none is).0)
 
-  -- the bytes of one connection
-  asked_raw : (old : Kept) (given : List PeerPayload) (new : Kept) → IsAskedOut now old given new → IsControlDrained old.control → (c : Connection) → raw_waiting old.core ≡ Some c → (p : Protocol) → record old.core { allocations = emptied old.core.allocations } ≡ p
-      → raw_waiting p ≡ None → (given ≡ raw_kept c ∷ []) × (new.core ≡ p) × (new.control ≡ old.control)
-  asked_raw _ _ _ (NoMore old new is) drained c some p after none =
+  -- The bytes of one connection are returned.
+  requested_raw : (old : ClientState) (given : List PeerPayload) (new : ClientState) → IsRequestedOut now old given new → IsControlDrained old.control → (c : Connection) → raw_waiting old.core ≡ Some c → (p : Protocol) → record old.core { allocations = emptied old.core.allocations } ≡ p
+      → raw_waiting p ≡ None → (given ≡ raw_stored c ∷ []) × (new.core ≡ p) × (new.control ≡ old.control)
+  requested_raw _ _ _ (NoMore old new is) drained c some p after none =
       let raw = raw_first now old.control old.core None new c (tcp_drained old.control drained) some is in
       absurd (Prim.cc raw.0.gives)
-  asked_raw _ _ _ (OneMore old between new payload others is rest) drained c some p after none =
+  requested_raw _ _ _ (OneMore old between new payload others is rest) drained c some p after none =
       let raw = raw_first now old.control old.core (Some payload) between c (tcp_drained old.control drained) some is in
       let core : between.core ≡ p = raw.0.after ∙ after in
-      let all = asked_none between others new rest (subst IsControlDrained (sym raw.1) drained) (ap raw_waiting core ∙ none) in
-      let same : payload ≡ raw_kept c = Prim.cc raw.0.gives in (
-        ap (λ (x : PeerPayload). x ∷ others) same ∙ ap (λ (l : List PeerPayload). raw_kept c ∷ l) all.0,
-        ap (λ (k : Kept). k.core) all.1 ∙ core,
-        ap (λ (k : Kept). k.control) all.1 ∙ raw.1,
+      let all = requested_none between others new rest (subst IsControlDrained (sym raw.1) drained) (ap raw_waiting core ∙ none) in
+      let same : payload ≡ raw_stored c = Prim.cc raw.0.gives in (
+        ap (λ (x : PeerPayload). x ∷ others) same ∙ ap (λ (l : List PeerPayload). raw_stored c ∷ l) all.0,
+        ap (λ (k : ClientState). k.core) all.1 ∙ core,
+        ap (λ (k : ClientState). k.control) all.1 ∙ raw.1,
       )
 
 -- ---- what comes
@@ -99,7 +99,7 @@ some_there (x ∷ xs) some = elim (cases_Bool (length (x ∷ xs) == 0)) [
 ]
 
 module _ {T : Type 0} (items : T → List ℕ) (here : SocketAddr) (now : ℕ) where
-  -- the connection is that of the own address
+  -- The connection is that with the own address.
   socket_is : (p : Protocol) (came : Transmit T) → IsOverSocket here p came → socket_of p came ≡ from here p.allocations
   socket_is p came over =
       let way : is_same_transport came.transport p.agent.transport ≡ true = ap (λ t. is_same_transport t p.agent.transport) over.transport ∙ same_way p.agent.transport in
@@ -108,18 +108,18 @@ module _ {T : Type 0} (items : T → List ℕ) (here : SocketAddr) (now : ℕ) w
       is ∙ ap (λ (a : SocketAddr). from a p.allocations) over.to
 
   module _ (came : Transmit T) (answer : TurnRecvRet T) where
-    at_socket : (control : Control) (old : Protocol) (new : Kept) → IsControlDrained control → here ≢ old.agent.here → IsOverSocket here old came → IsReceivedBy items now control old came answer new
+    at_socket : (control : Control) (old : Protocol) (new : ClientState) → IsControlDrained control → here ≢ old.agent.here → IsOverSocket here old came → IsReceivedBy items now control old came answer new
         → IsReceivedAt items now old came answer new.core × (new.control ≡ control)
     at_socket Datagrams old new drained apart over is = absurd drained
     at_socket Closed old new drained apart over is = is
     at_socket (Open stream) old new drained apart over is = by is
       where
         by : IsStreamed items now stream old came answer new → IsReceivedAt items now old came answer new.core × (new.control ≡ Open stream)
-        by (Piece own some left stands takes) = absurd (apart (sym over.to ∙ own.of_server.to))
-        by (End own none told same closed) = absurd (apart (sym over.to ∙ own.of_server.to))
-        by (Strange other takes stands) = (takes, stands)
+        by (Chunk own some left occurs takes) = absurd (apart (sym over.to ∙ own.of_server.to))
+        by (End own none reported same closed) = absurd (apart (sym over.to ∙ own.of_server.to))
+        by (Strange other takes occurs) = (takes, occurs)
 
-    -- what becomes of bytes, by the connection
+    -- What becomes of the bytes, by the connection.
     by_connection : (old : Protocol) (new : Protocol) → IsOverSocket here old came → IsReceivedAt items now old came answer new → (o : Option Connection) → from here old.allocations ≡ o
         → MatchOption o (IsGivenBack old came answer new) (λ c. IsTakenBy items c now old came answer new)
     by_connection old new over is o found =
@@ -132,11 +132,11 @@ module _ {T : Type 0} (items : T → List ℕ) (here : SocketAddr) (now : ℕ) w
     raw_taken : (c : Connection) (old new : Protocol) → c.stream ≡ alive [] → answer ≢ recv.NoMemory came → IsRawTaken items c old came answer new
         → (answer ≡ recv.PeerData (raw_given c (items came.bytes))) × (new ≡ old)
     raw_taken c old new empty ample (GivesRaw is after) =
-        let none : (length c.stream.kept == 0) ≡ true = ap (λ (s : Stream). length s.kept == 0) empty in
-        (is, after ∙ ap (λ (b : Bool). if b then old else with_kept came.to (alive []) old) none)
+        let none : (length c.stream.stored == 0) ≡ true = ap (λ (s : Stream). length s.stored == 0) empty in
+        (is, after ∙ ap (λ (b : Bool). if b then old else with_stored came.to (alive []) old) none)
     raw_taken c old new empty ample (LostRaw some is failed) = absurd (ample is)
 
-    -- the answer to frames gives no data
+    -- The result for frames contains no data.
     no_data : (handled : Bool) → IsHandledAs came handled answer → data_answered answer ≡ []
     no_data true is = ap data_answered is
     no_data false is = ap data_answered is
@@ -144,30 +144,30 @@ module _ {T : Type 0} (items : T → List ℕ) (here : SocketAddr) (now : ℕ) w
     record IsFedSo (c : Connection) (old new : Protocol) : Type 0 where
       left : Stream
       middle : Protocol
-      fed : IsFed here now (joined c.stream (items came.bytes)) (with_kept here (alive []) old) left middle
-      after : new ≡ with_kept here left middle
+      fed : IsFed here now (joined c.stream (items came.bytes)) (with_stored here (alive []) old) left middle
+      after : new ≡ with_stored here left middle
       silent : data_answered answer ≡ []
 
     fed_taken : (c : Connection) (old new : Protocol) → came.to ≡ here → answer ≢ recv.NoMemory came → IsTakenFor items c now old came answer new → IsFedSo c old new
     fed_taken c old new to ample is = by is.fed
       where
-        by : IsPieceFed items came.to now c.stream (with_kept came.to (alive []) old) came answer is.left is.middle → IsFedSo c old new
-        by (Fed fed told) = record {
+        by : IsChunkFed items came.to now c.stream (with_stored came.to (alive []) old) came answer is.left is.middle → IsFedSo c old new
+        by (Fed fed reported) = record {
           left = is.left;
           middle = is.middle;
-          fed = subst (λ (a : SocketAddr). IsFed a now (joined c.stream (items came.bytes)) (with_kept a (alive []) old) is.left is.middle) to fed;
-          after = is.after ∙ ap (λ (a : SocketAddr). with_kept a is.left is.middle) to;
-          silent = no_data _ told;
+          fed = subst (λ (a : SocketAddr). IsFed a now (joined c.stream (items came.bytes)) (with_stored a (alive []) old) is.left is.middle) to fed;
+          after = is.after ∙ ap (λ (a : SocketAddr). with_stored a is.left is.middle) to;
+          silent = no_data _ reported;
         }
-        by (LostFrames told lost) = absurd (ample told)
+        by (LostFrames reported lost) = absurd (ample reported)
 
   -- ---- what came so far
 
-  -- by the connection: it is gone; or it is bound, and what stood behind its frames was given; or it is to be bound, and
-  -- that is kept
+  -- By the connection: it was removed; or it is bound, and what followed its frames was delivered; or it is
+  -- to be bound, and that is buffered.
   abbrev IsOutOf : Option Binding → Stream → Protocol → List ℕ → Protocol → Type 0
-  IsOutOf None left middle given p = (given ≡ left.kept) × (p ≡ middle)
-  IsOutOf (Some awaited) left middle given p = (given ≡ []) × (p ≡ with_kept here left middle)
+  IsOutOf None left middle given p = (given ≡ left.stored) × (p ≡ middle)
+  IsOutOf (Some awaited) left middle given p = (given ≡ []) × (p ≡ with_stored here left middle)
 
   abbrev IsOutBy : Option Connection → Stream → Protocol → List ℕ → Protocol → Type 0
   IsOutBy None left middle given p = (given ≡ []) × (p ≡ middle)
@@ -181,7 +181,8 @@ module _ {T : Type 0} (items : T → List ℕ) (here : SocketAddr) (now : ℕ) w
   out_same None left middle given again p q a b = (a.0 ∙ sym b.0, a.1 ∙ sym b.1)
   out_same (Some c) left middle given again p q a b = out_of_same c.awaited left middle given again p q a b
 
-  -- from a stream and a client on: all that came was taken up as one piece, and these bytes of the peer were given
+  -- From a stream and a client on: all that came was handled as one chunk, and these bytes of the peer were
+  -- delivered.
   record IsReached (start : Stream) (first : Protocol) (came given : List ℕ) (p : Protocol) : Type 0 where
     left : Stream
     middle : Protocol
@@ -216,56 +217,56 @@ module _ {T : Type 0} (items : T → List ℕ) (here : SocketAddr) (now : ℕ) w
 
   -- ---- what waits then
 
-  raw_so : (s : Stream) (c : Connection) → c.awaited ≡ None → s.kept ≢ [] → has_raw (with_stream s c) ≡ true
-  raw_so s c bound some = let full = some_there s.kept some in rw (bound, full) refl
+  raw_so : (s : Stream) (c : Connection) → c.awaited ≡ None → s.stored ≢ [] → has_raw (with_stream s c) ≡ true
+  raw_so s c bound some = let full = some_there s.stored some in rw (bound, full) refl
 
   not_raw : (s : Stream) (c : Connection) (b : Binding) → c.awaited ≡ Some b → has_raw (with_stream s c) ≡ false
   not_raw s c b awaited = rw awaited refl
 
-  module _ (left : Stream) (middle : Protocol) (calm : IsCalm here middle) (between : Kept) (at : between.core ≡ with_kept here left middle) (drained : IsControlDrained between.control) (given : List PeerPayload) (new : Kept) (asks : IsAskedOut now between given new) where
+  module _ (left : Stream) (middle : Protocol) (calm : IsCalm here middle) (between : ClientState) (at : between.core ≡ with_stored here left middle) (drained : IsControlDrained between.control) (given : List PeerPayload) (new : ClientState) (asks : IsRequestedOut now between given new) where
     abbrev Out : Option Connection → Type 0
     Out o = IsOutBy o left middle (bytes_given given) new.core × (new.control ≡ between.control)
 
-    -- nothing waits
-    quiet : raw_waiting (with_kept here left middle) ≡ None → (bytes_given given ≡ []) × (new.core ≡ with_kept here left middle) × (new.control ≡ between.control)
+    -- Nothing is buffered.
+    quiet : raw_waiting (with_stored here left middle) ≡ None → (bytes_given given ≡ []) × (new.core ≡ with_stored here left middle) × (new.control ≡ between.control)
     quiet none =
-        let all = asked_none now between given new asks drained (ap raw_waiting at ∙ none) in
-        (ap bytes_given all.0, ap (λ (k : Kept). k.core) all.1 ∙ at, ap (λ (k : Kept). k.control) all.1)
+        let all = requested_none now between given new asks drained (ap raw_waiting at ∙ none) in
+        (ap bytes_given all.0, ap (λ (k : ClientState). k.core) all.1 ∙ at, ap (λ (k : ClientState). k.control) all.1)
 
     out_gone : from here middle.allocations ≡ None → Out None
     out_gone gone =
-        let same = kept_same here left middle (λ k found. absurd (Prim.cc (sym gone ∙ found))) in
+        let same = stored_same here left middle (λ k found. absurd (Prim.cc (sym gone ∙ found))) in
         let all = quiet (ap raw_waiting same ∙ calm.none_raw) in
         ((all.0, all.1 ∙ same), all.2)
 
-    out_awaits : (c : Connection) (b : Binding) → from here middle.allocations ≡ Some c → c.awaited ≡ Some b → (bytes_given given ≡ []) × (new.core ≡ with_kept here left middle) × (new.control ≡ between.control)
+    out_awaits : (c : Connection) (b : Binding) → from here middle.allocations ≡ Some c → c.awaited ≡ Some b → (bytes_given given ≡ []) × (new.core ≡ with_stored here left middle) × (new.control ≡ between.control)
     out_awaits c b found awaited =
-        quiet (kept_none here left middle calm.none_raw (λ k is. not_raw left k b (ap (λ (x : Connection). x.awaited) (same_found k is) ∙ awaited)))
+        quiet (stored_none here left middle calm.none_raw (λ k is. not_raw left k b (ap (λ (x : Connection). x.awaited) (same_found k is) ∙ awaited)))
       where
         same_found : (k : Connection) → from here middle.allocations ≡ Some k → k ≡ c
         same_found k is = Prim.cc (sym is ∙ found)
 
-    out_bound : (c : Connection) → from here middle.allocations ≡ Some c → c.awaited ≡ None → left ≡ alive left.kept → (bytes_given given ≡ left.kept) × (new.core ≡ middle) × (new.control ≡ between.control)
-    out_bound c found bound lives = by left.kept refl
+    out_bound : (c : Connection) → from here middle.allocations ≡ Some c → c.awaited ≡ None → left ≡ alive left.stored → (bytes_given given ≡ left.stored) × (new.core ≡ middle) × (new.control ≡ between.control)
+    out_bound c found bound lives = by left.stored refl
       where
-        forgets : with_kept here (alive []) middle ≡ middle
-        forgets = kept_same here (alive []) middle calm.nothing
+        forgets : with_stored here (alive []) middle ≡ middle
+        forgets = stored_same here (alive []) middle calm.nothing
 
-        by : (kept : List ℕ) → left.kept ≡ kept → (bytes_given given ≡ left.kept) × (new.core ≡ middle) × (new.control ≡ between.control)
+        by : (stored : List ℕ) → left.stored ≡ stored → (bytes_given given ≡ left.stored) × (new.core ≡ middle) × (new.control ≡ between.control)
         by [] is =
-            let none : with_kept here left middle ≡ middle = ap (λ (s : Stream). with_kept here s middle) (lives ∙ ap (λ (l : List ℕ). alive l) is) ∙ forgets in
+            let none : with_stored here left middle ≡ middle = ap (λ (s : Stream). with_stored here s middle) (lives ∙ ap (λ (l : List ℕ). alive l) is) ∙ forgets in
             let all = quiet (ap raw_waiting none ∙ calm.none_raw) in
             (all.0 ∙ sym is, all.1 ∙ none, all.2)
         by (x ∷ xs) is =
-            let some : left.kept ≢ [] = λ none. Prim.cc (sym none ∙ is) in
+            let some : left.stored ≢ [] = λ none. Prim.cc (sym none ∙ is) in
             let raw = only_raw here left middle c calm.none_raw found (raw_so left c bound some) in
             let empties : record between.core { allocations = emptied between.core.allocations } ≡ middle =
             ap (λ (p : Protocol). record p { allocations = emptied p.allocations }) at ∙ ap (λ (l : List Allocation). record middle { allocations = l }) raw.empties ∙ forgets in
-            let all = asked_raw now between given new asks drained (with_stream left c) (ap raw_waiting at ∙ raw.found) middle empties calm.none_raw in
-            (ap bytes_given all.0 ∙ append-nil left.kept, all.1, all.2)
+            let all = requested_raw now between given new asks drained (with_stream left c) (ap raw_waiting at ∙ raw.found) middle empties calm.none_raw in
+            (ap bytes_given all.0 ∙ append-nil left.stored, all.1, all.2)
 
-    -- by the connection
-    out_all : (o : Option Connection) → from here middle.allocations ≡ o → (is_joining here middle ≡ false → left ≡ alive left.kept) → Out o
+    -- The outcome, by the connection.
+    out_all : (o : Option Connection) → from here middle.allocations ≡ o → (is_joining here middle ≡ false → left ≡ alive left.stored) → Out o
     out_all None found lives = out_gone found
     out_all (Some c) found lives = by c.awaited refl
       where
@@ -277,20 +278,20 @@ module _ {T : Type 0} (items : T → List ℕ) (here : SocketAddr) (now : ℕ) w
             let all = out_awaits c b found is in
             (subst (λ (o : Option Binding). IsOutOf o left middle (bytes_given given) new.core) (sym is) (all.0, all.1), all.2)
 
-  -- ---- one more piece
+  -- ---- one more chunk
 
-  module _ (start : Stream) (first : Protocol) (calm : IsCalm here first) (before given : List ℕ) (old : Kept) (reached : IsReached start first before given old.core) (drained : IsControlDrained old.control)
-      (came : Transmit T) (gives : List PeerPayload) (new : Kept) (is : IsDrainedOver items here now old came gives new) where
+  module _ (start : Stream) (first : Protocol) (calm : IsCalm here first) (before given : List ℕ) (old : ClientState) (reached : IsReached start first before given old.core) (drained : IsControlDrained old.control)
+      (came : Transmit T) (gives : List PeerPayload) (new : ClientState) (is : IsDrainedOver items here now old came gives new) where
     abbrev More : Type 0
     More = IsReached start first (before ++ items came.bytes) (given ++ bytes_given gives) new.core × (new.control ≡ old.control)
 
     middle_calm : IsCalm here reached.middle
     middle_calm = fed_calm here now (joined start before) first reached.left reached.middle reached.fed calm
 
-    -- what comes is taken up behind what came
-    behind : (last : Stream) (end : Protocol) → IsFed here now (joined reached.left (items came.bytes)) reached.middle last end → IsFed here now (joined start (before ++ items came.bytes)) first last end
-    behind last end fed =
-        subst (λ (l : List ℕ). IsFed here now (record { kept = l; dead = start.dead }) first last end) (append_assoc start.kept before (items came.bytes))
+    -- What comes is handled after what came before.
+    following : (last : Stream) (end : Protocol) → IsFed here now (joined reached.left (items came.bytes)) reached.middle last end → IsFed here now (joined start (before ++ items came.bytes)) first last end
+    following last end fed =
+        subst (λ (l : List ℕ). IsFed here now (record { stored = l; dead = start.dead }) first last end) (append_assoc start.stored before (items came.bytes))
         (fed_more here now (joined start before) first reached.left reached.middle reached.fed (items came.bytes) last end fed)
 
     module _ (p : Protocol) (core : old.core ≡ p) (apart : here ≢ p.agent.here) (o : Option Connection) (found : from here p.allocations ≡ o) where
@@ -303,23 +304,23 @@ module _ {T : Type 0} (items : T → List ℕ) (here : SocketAddr) (now : ℕ) w
       received : MatchOption o (IsGivenBack old.core came is.answer is.between.core) (λ c. IsTakenBy items c now old.core came is.answer is.between.core)
       received = by_connection came is.answer old.core is.between.core is.over at.0 o (ap (λ (x : Protocol). from here x.allocations) core ∙ found)
 
-    -- nothing waits where the client is as it was
+    -- Nothing is buffered if the client is as it was.
     unasked : old.core ≡ reached.middle → is.between.core ≡ old.core → is.between.control ≡ old.control → (is.waiting ≡ []) × (new.core ≡ reached.middle) × (new.control ≡ old.control)
     unasked core same control =
-        let all = asked_none now is.between is.waiting new is.asked (subst IsControlDrained (sym control) drained) (ap raw_waiting (same ∙ core) ∙ middle_calm.none_raw) in
-        (all.0, ap (λ (k : Kept). k.core) all.1 ∙ same ∙ core, ap (λ (k : Kept). k.control) all.1 ∙ control)
+        let all = requested_none now is.between is.waiting new is.requested (subst IsControlDrained (sym control) drained) (ap raw_waiting (same ∙ core) ∙ middle_calm.none_raw) in
+        (all.0, ap (λ (k : ClientState). k.core) all.1 ∙ same ∙ core, ap (λ (k : ClientState). k.control) all.1 ∙ control)
 
     more_gone : from here reached.middle.allocations ≡ None → IsOutBy None reached.left reached.middle given old.core → More
     more_gone gone out =
         let back = received reached.middle out.1 middle_calm.apart None gone in
         let rest = unasked out.1 back.1 (same_control reached.middle out.1 middle_calm.apart None gone) in
         let none : gives ≡ [] = is.gives ∙ ap (λ (a : TurnRecvRet T). data_answered a ++ is.waiting) back.0 ∙ rest.0 in
-        let told : given ++ bytes_given gives ≡ [] = ap (λ (l : List ℕ). l ++ bytes_given gives) out.0 ∙ ap bytes_given none in (
+        let reported : given ++ bytes_given gives ≡ [] = ap (λ (l : List ℕ). l ++ bytes_given gives) out.0 ∙ ap bytes_given none in (
           record {
             left = joined reached.left (items came.bytes);
             middle = reached.middle;
-            fed = behind (joined reached.left (items came.bytes)) reached.middle (Stops (joined reached.left (items came.bytes)) reached.middle (gone_not reached.middle gone));
-            out = subst (λ (o : Option Connection). IsOutBy o (joined reached.left (items came.bytes)) reached.middle (given ++ bytes_given gives) new.core) (sym gone) (told, rest.1);
+            fed = following (joined reached.left (items came.bytes)) reached.middle (Stops (joined reached.left (items came.bytes)) reached.middle (gone_not reached.middle gone));
+            out = subst (λ (o : Option Connection). IsOutBy o (joined reached.left (items came.bytes)) reached.middle (given ++ bytes_given gives) new.core) (sym gone) (reported, rest.1);
           },
           rest.2,
         )
@@ -333,41 +334,41 @@ module _ {T : Type 0} (items : T → List ℕ) (here : SocketAddr) (now : ℕ) w
         let rest = unasked out.1 raw.1 (same_control reached.middle out.1 middle_calm.apart (Some c) found) in
         let all : bytes_given gives ≡ items came.bytes =
         ap bytes_given (is.gives ∙ ap (λ (a : TurnRecvRet T). data_answered a ++ is.waiting) raw.0 ∙ ap (λ (l : List PeerPayload). data_answered {T = T} (recv.PeerData (raw_given c (items came.bytes))) ++ l) rest.0)
-        ∙ append-nil (c.stream.kept ++ items came.bytes) ∙ ap (λ (s : Stream). s.kept ++ items came.bytes) empty in
-        let told : given ++ bytes_given gives ≡ reached.left.kept ++ items came.bytes = ap (λ (l : List ℕ). l ++ bytes_given gives) out.0 ∙ ap (λ (l : List ℕ). reached.left.kept ++ l) all in (
+        ∙ append-nil (c.stream.stored ++ items came.bytes) ∙ ap (λ (s : Stream). s.stored ++ items came.bytes) empty in
+        let reported : given ++ bytes_given gives ≡ reached.left.stored ++ items came.bytes = ap (λ (l : List ℕ). l ++ bytes_given gives) out.0 ∙ ap (λ (l : List ℕ). reached.left.stored ++ l) all in (
           record {
             left = joined reached.left (items came.bytes);
             middle = reached.middle;
-            fed = behind (joined reached.left (items came.bytes)) reached.middle (Stops (joined reached.left (items came.bytes)) reached.middle (bound_not reached.middle c found bound));
+            fed = following (joined reached.left (items came.bytes)) reached.middle (Stops (joined reached.left (items came.bytes)) reached.middle (bound_not reached.middle c found bound));
             out = subst (λ (o : Option Connection). IsOutBy o (joined reached.left (items came.bytes)) reached.middle (given ++ bytes_given gives) new.core) (sym found)
-                (subst (λ (o : Option Binding). IsOutOf o (joined reached.left (items came.bytes)) reached.middle (given ++ bytes_given gives) new.core) (sym bound) (told, rest.1));
+                (subst (λ (o : Option Binding). IsOutOf o (joined reached.left (items came.bytes)) reached.middle (given ++ bytes_given gives) new.core) (sym bound) (reported, rest.1));
           },
           rest.2,
         )
 
     more_awaits : (c : Connection) (b : Binding) → from here reached.middle.allocations ≡ Some c → c.awaited ≡ Some b → IsOutOf (Some b) reached.left reached.middle given old.core → More
     more_awaits c b found awaited out =
-        let there : from here (with_kept here reached.left reached.middle).allocations ≡ Some (with_stream reached.left c) =
+        let there : from here (with_stored here reached.left reached.middle).allocations ≡ Some (with_stream reached.left c) =
         from_exchanged here reached.left reached.middle.allocations ∙ ap (option_map (with_stream reached.left)) found in
         let taken = taken_by came is.answer (with_stream reached.left c) old.core is.between.core is.has_bytes
-        (received (with_kept here reached.left reached.middle) out.1 middle_calm.apart (Some (with_stream reached.left c)) there) in
+        (received (with_stored here reached.left reached.middle) out.1 middle_calm.apart (Some (with_stream reached.left c)) there) in
         let so = fed_taken came is.answer (with_stream reached.left c) old.core is.between.core is.over.to is.ample
         (subst (λ (o : Option Binding). IsBytesTaken items o (with_stream reached.left c) now old.core came is.answer is.between.core) awaited taken) in
-        let forgets : with_kept here (alive []) old.core ≡ reached.middle =
-        ap (with_kept here (alive [])) out.1 ∙ kept_twice here (alive []) reached.left reached.middle ∙ kept_same here (alive []) reached.middle middle_calm.nothing in
+        let forgets : with_stored here (alive []) old.core ≡ reached.middle =
+        ap (with_stored here (alive [])) out.1 ∙ stored_twice here (alive []) reached.left reached.middle ∙ stored_same here (alive []) reached.middle middle_calm.nothing in
         let fed : IsFed here now (joined reached.left (items came.bytes)) reached.middle so.left so.middle =
         subst (λ (p : Protocol). IsFed here now (joined reached.left (items came.bytes)) p so.left so.middle) forgets so.fed in
         let after = fed_calm here now (joined reached.left (items came.bytes)) reached.middle so.left so.middle fed middle_calm in
-        let control = same_control (with_kept here reached.left reached.middle) out.1 middle_calm.apart (Some (with_stream reached.left c)) there in
-        let all = out_all so.left so.middle after is.between so.after (subst IsControlDrained (sym control) drained) is.waiting new is.asked (from here so.middle.allocations) refl
+        let control = same_control (with_stored here reached.left reached.middle) out.1 middle_calm.apart (Some (with_stream reached.left c)) there in
+        let all = out_all so.left so.middle after is.between so.after (subst IsControlDrained (sym control) drained) is.waiting new is.requested (from here so.middle.allocations) refl
         (λ bound. bound_alive here now (joined reached.left (items came.bytes)) reached.middle so.left so.middle fed (awaits_so reached.middle c b found awaited) bound) in
-        let told : bytes_given is.waiting ≡ given ++ bytes_given gives =
+        let reported : bytes_given is.waiting ≡ given ++ bytes_given gives =
         sym (ap (λ (l : List ℕ). l ++ bytes_given gives) out.0 ∙ ap bytes_given (is.gives ∙ ap (λ (l : List PeerPayload). l ++ is.waiting) so.silent)) in (
           record {
             left = so.left;
             middle = so.middle;
-            fed = behind so.left so.middle fed;
-            out = subst (λ (l : List ℕ). IsOutBy (from here so.middle.allocations) so.left so.middle l new.core) told all.0;
+            fed = following so.left so.middle fed;
+            out = subst (λ (l : List ℕ). IsOutBy (from here so.middle.allocations) so.left so.middle l new.core) reported all.0;
           },
           all.1 ∙ control,
         )
@@ -383,27 +384,27 @@ module _ {T : Type 0} (items : T → List ℕ) (here : SocketAddr) (now : ℕ) w
     more : More
     more = more_by (from here reached.middle.allocations) refl reached.out
 
-  -- ---- pieces
+  -- ---- chunks
 
   both_given : (one other : List PeerPayload) → bytes_given one ++ bytes_given other ≡ bytes_given (one ++ other)
   both_given [] other = refl
   both_given (x ∷ one) other = append_assoc x.payload (bytes_given one) (bytes_given other) ∙ ap (λ (l : List ℕ). x.payload ++ l) (both_given one other)
 
-  pieces : (start : Stream) (first : Protocol) → IsCalm here first → (all : List (Transmit T)) (before given : List ℕ) (old : Kept) → IsReached start first before given old.core → IsControlDrained old.control
-      → (gives : List PeerPayload) (new : Kept) → AreDrainedOver items here now old all gives new → IsReached start first (before ++ concat (pieces_of items all)) (given ++ bytes_given gives) new.core × (new.control ≡ old.control)
-  pieces start first calm [] before given old reached drained gives new (none, same) = (
+  chunks : (start : Stream) (first : Protocol) → IsCalm here first → (all : List (Transmit T)) (before given : List ℕ) (old : ClientState) → IsReached start first before given old.core → IsControlDrained old.control
+      → (gives : List PeerPayload) (new : ClientState) → AreDrainedOver items here now old all gives new → IsReached start first (before ++ concat (chunks_of items all)) (given ++ bytes_given gives) new.core × (new.control ≡ old.control)
+  chunks start first calm [] before given old reached drained gives new (none, same) = (
     subst (λ (l : List ℕ). IsReached start first l (given ++ bytes_given gives) new.core) (sym (append-nil before))
         (subst (λ (l : List ℕ). IsReached start first before l new.core) (sym (ap (λ (l : List PeerPayload). given ++ bytes_given l) none ∙ append-nil given))
-        (subst (λ (k : Kept). IsReached start first before given k.core) (sym same) reached)),
-    ap (λ (k : Kept). k.control) same,
+        (subst (λ (k : ClientState). IsReached start first before given k.core) (sym same) reached)),
+    ap (λ (k : ClientState). k.control) same,
   )
-  pieces start first calm (came ∷ others) before given old reached drained gives new (between, now_given, later, is, parts, rest) =
+  chunks start first calm (came ∷ others) before given old reached drained gives new (between, now_given, later, is, parts, rest) =
       let one = more start first calm before given old reached drained came now_given between is in
-      let all = pieces start first calm others (before ++ items came.bytes) (given ++ bytes_given now_given) between one.0 (subst IsControlDrained (sym one.1) drained) later new rest in
-      let told : (given ++ bytes_given now_given) ++ bytes_given later ≡ given ++ bytes_given gives =
+      let all = chunks start first calm others (before ++ items came.bytes) (given ++ bytes_given now_given) between one.0 (subst IsControlDrained (sym one.1) drained) later new rest in
+      let reported : (given ++ bytes_given now_given) ++ bytes_given later ≡ given ++ bytes_given gives =
       append_assoc given (bytes_given now_given) (bytes_given later) ∙ ap (λ (l : List ℕ). given ++ l) (both_given now_given later ∙ ap bytes_given (sym parts)) in (
-        subst (λ (l : List ℕ). IsReached start first l (given ++ bytes_given gives) new.core) (append_assoc before (items came.bytes) (concat (pieces_of items others)))
-            (subst (λ (l : List ℕ). IsReached start first ((before ++ items came.bytes) ++ concat (pieces_of items others)) l new.core) told all.0),
+        subst (λ (l : List ℕ). IsReached start first l (given ++ bytes_given gives) new.core) (append_assoc before (items came.bytes) (concat (chunks_of items others)))
+            (subst (λ (l : List ℕ). IsReached start first ((before ++ items came.bytes) ++ concat (chunks_of items others)) l new.core) reported all.0),
         all.1 ∙ one.1,
       )
 
@@ -413,85 +414,85 @@ module _ {T : Type 0} (items : T → List ℕ) (here : SocketAddr) (now : ℕ) w
   stream_of None = alive []
   stream_of (Some c) = c.stream
 
-  none_raw_kept : (k : Connection) → has_raw (with_stream (alive []) k) ≡ false
-  none_raw_kept k = by k.awaited refl
+  none_raw_stored : (k : Connection) → has_raw (with_stream (alive []) k) ≡ false
+  none_raw_stored k = by k.awaited refl
     where
       by : (o : Option Binding) → k.awaited ≡ o → has_raw (with_stream (alive []) k) ≡ false
       by None is = rw is refl
       by (Some b) is = rw is refl
 
-  kept_by : (s : Stream) (o : Option Connection) (k : Connection) → option_map (with_stream s) o ≡ Some k → k.stream ≡ s
-  kept_by s None k is = absurd (Prim.cc is)
-  kept_by s (Some c) k is = let same : with_stream s c ≡ k = Prim.cc is in ap (λ (x : Connection). x.stream) (sym same)
+  stored_by : (s : Stream) (o : Option Connection) (k : Connection) → option_map (with_stream s) o ≡ Some k → k.stream ≡ s
+  stored_by s None k is = absurd (Prim.cc is)
+  stored_by s (Some c) k is = let same : with_stream s c ≡ k = Prim.cc is in ap (λ (x : Connection). x.stream) (sym same)
 
-  module _ (old : Kept) (out : IsSocketDrained here old) where
-    first_calm : IsCalm here (with_kept here (alive []) old.core)
+  module _ (old : ClientState) (out : IsSocketDrained here old) where
+    first_calm : IsCalm here (with_stored here (alive []) old.core)
     first_calm = record {
       apart = out.apart;
-      none_raw = kept_none here (alive []) old.core out.none_raw (λ k is. none_raw_kept k);
-      nothing = λ k found. kept_by (alive []) (from here old.core.allocations) k (sym (from_exchanged here (alive []) old.core.allocations) ∙ found);
+      none_raw = stored_none here (alive []) old.core out.none_raw (λ k is. none_raw_stored k);
+      nothing = λ k found. stored_by (alive []) (from here old.core.allocations) k (sym (from_exchanged here (alive []) old.core.allocations) ∙ found);
     }
 
-    begins_gone : from here old.core.allocations ≡ None → IsReached (alive []) (with_kept here (alive []) old.core) [] [] old.core
+    begins_gone : from here old.core.allocations ≡ None → IsReached (alive []) (with_stored here (alive []) old.core) [] [] old.core
     begins_gone gone =
-        let there : from here (with_kept here (alive []) old.core).allocations ≡ None = from_exchanged here (alive []) old.core.allocations ∙ ap (option_map (with_stream (alive []))) gone in
+        let there : from here (with_stored here (alive []) old.core).allocations ≡ None = from_exchanged here (alive []) old.core.allocations ∙ ap (option_map (with_stream (alive []))) gone in
         record {
           left = alive [];
-          middle = with_kept here (alive []) old.core;
-          fed = Stops (alive []) (with_kept here (alive []) old.core) (gone_not (with_kept here (alive []) old.core) there);
-          out = subst (λ (o : Option Connection). IsOutBy o (alive []) (with_kept here (alive []) old.core) [] old.core) (sym there)
-              (refl, sym (kept_same here (alive []) old.core (λ k found. absurd (Prim.cc (sym gone ∙ found)))));
+          middle = with_stored here (alive []) old.core;
+          fed = Stops (alive []) (with_stored here (alive []) old.core) (gone_not (with_stored here (alive []) old.core) there);
+          out = subst (λ (o : Option Connection). IsOutBy o (alive []) (with_stored here (alive []) old.core) [] old.core) (sym there)
+              (refl, sym (stored_same here (alive []) old.core (λ k found. absurd (Prim.cc (sym gone ∙ found)))));
         }
 
     module _ (c : Connection) (found : from here old.core.allocations ≡ Some c) where
-      there : from here (with_kept here (alive []) old.core).allocations ≡ Some (with_stream (alive []) c)
+      there : from here (with_stored here (alive []) old.core).allocations ≡ Some (with_stream (alive []) c)
       there = from_exchanged here (alive []) old.core.allocations ∙ ap (option_map (with_stream (alive []))) found
 
       is_it : (k : Connection) → from here old.core.allocations ≡ Some k → k ≡ c
       is_it k is = Prim.cc (sym is ∙ found)
 
-      begins_bound : c.awaited ≡ None → c.stream ≡ alive [] → IsReached c.stream (with_kept here (alive []) old.core) [] [] old.core
+      begins_bound : c.awaited ≡ None → c.stream ≡ alive [] → IsReached c.stream (with_stored here (alive []) old.core) [] [] old.core
       begins_bound bound empty = record {
         left = joined c.stream [];
-        middle = with_kept here (alive []) old.core;
-        fed = Stops (joined c.stream []) (with_kept here (alive []) old.core) (bound_not (with_kept here (alive []) old.core) (with_stream (alive []) c) there bound);
-        out = subst (λ (o : Option Connection). IsOutBy o (joined c.stream []) (with_kept here (alive []) old.core) [] old.core) (sym there)
-            (subst (λ (o : Option Binding). IsOutOf o (joined c.stream []) (with_kept here (alive []) old.core) [] old.core) (sym bound)
-            (sym (ap (λ (s : Stream). s.kept ++ []) empty), sym (kept_same here (alive []) old.core (λ k is. ap (λ (x : Connection). x.stream) (is_it k is) ∙ empty))));
+        middle = with_stored here (alive []) old.core;
+        fed = Stops (joined c.stream []) (with_stored here (alive []) old.core) (bound_not (with_stored here (alive []) old.core) (with_stream (alive []) c) there bound);
+        out = subst (λ (o : Option Connection). IsOutBy o (joined c.stream []) (with_stored here (alive []) old.core) [] old.core) (sym there)
+            (subst (λ (o : Option Binding). IsOutOf o (joined c.stream []) (with_stored here (alive []) old.core) [] old.core) (sym bound)
+            (sym (ap (λ (s : Stream). s.stored ++ []) empty), sym (stored_same here (alive []) old.core (λ k is. ap (λ (x : Connection). x.stream) (is_it k is) ∙ empty))));
       }
 
-      begins_awaits : (b : Binding) → c.awaited ≡ Some b → HasNoFrame c.stream → IsReached c.stream (with_kept here (alive []) old.core) [] [] old.core
+      begins_awaits : (b : Binding) → c.awaited ≡ Some b → HasNoFrame c.stream → IsReached c.stream (with_stored here (alive []) old.core) [] [] old.core
       begins_awaits b awaited none =
-          let whole : joined c.stream [] ≡ c.stream = ap (λ (l : List ℕ). record { kept = l; dead = c.stream.dead }) (append-nil c.stream.kept) in
+          let whole : joined c.stream [] ≡ c.stream = ap (λ (l : List ℕ). record { stored = l; dead = c.stream.dead }) (append-nil c.stream.stored) in
           let left_is : after_look (joined c.stream []) ≡ c.stream = ap after_look whole ∙ none.left in
-          let same : old.core ≡ with_kept here (after_look (joined c.stream [])) (with_kept here (alive []) old.core) =
-          sym (ap (λ (s : Stream). with_kept here s (with_kept here (alive []) old.core)) left_is ∙ kept_twice here c.stream (alive []) old.core
-          ∙ kept_same here c.stream old.core (λ k is. ap (λ (x : Connection). x.stream) (is_it k is))) in
+          let same : old.core ≡ with_stored here (after_look (joined c.stream [])) (with_stored here (alive []) old.core) =
+          sym (ap (λ (s : Stream). with_stored here s (with_stored here (alive []) old.core)) left_is ∙ stored_twice here c.stream (alive []) old.core
+          ∙ stored_same here c.stream old.core (λ k is. ap (λ (x : Connection). x.stream) (is_it k is))) in
           record {
             left = after_look (joined c.stream []);
-            middle = with_kept here (alive []) old.core;
-            fed = Waits (joined c.stream []) (with_kept here (alive []) old.core) (awaits_so (with_kept here (alive []) old.core) (with_stream (alive []) c) b there awaited)
+            middle = with_stored here (alive []) old.core;
+            fed = Waits (joined c.stream []) (with_stored here (alive []) old.core) (awaits_so (with_stored here (alive []) old.core) (with_stream (alive []) c) b there awaited)
                 (subst (λ (s : Stream). IsNone (looked s)) (sym whole) none.none);
-            out = subst (λ (o : Option Connection). IsOutBy o (after_look (joined c.stream [])) (with_kept here (alive []) old.core) [] old.core) (sym there)
-                (subst (λ (o : Option Binding). IsOutOf o (after_look (joined c.stream [])) (with_kept here (alive []) old.core) [] old.core) (sym awaited) (refl, same));
+            out = subst (λ (o : Option Connection). IsOutBy o (after_look (joined c.stream [])) (with_stored here (alive []) old.core) [] old.core) (sym there)
+                (subst (λ (o : Option Binding). IsOutOf o (after_look (joined c.stream [])) (with_stored here (alive []) old.core) [] old.core) (sym awaited) (refl, same));
           }
 
-      begins_by : (o : Option Binding) → c.awaited ≡ o → IsConnectionDrained o c.stream → IsReached c.stream (with_kept here (alive []) old.core) [] [] old.core
+      begins_by : (o : Option Binding) → c.awaited ≡ o → IsConnectionDrained o c.stream → IsReached c.stream (with_stored here (alive []) old.core) [] [] old.core
       begins_by None is empty = begins_bound is empty
       begins_by (Some b) is none = begins_awaits b is none
 
-    begins : (o : Option Connection) → from here old.core.allocations ≡ o → IsReached (stream_of o) (with_kept here (alive []) old.core) [] [] old.core
+    begins : (o : Option Connection) → from here old.core.allocations ≡ o → IsReached (stream_of o) (with_stored here (alive []) old.core) [] [] old.core
     begins None gone = begins_gone gone
     begins (Some c) found = begins_by c found c.awaited refl (out.drained c found)
 
-  pub cut_anywhere_over : (old one other : Kept) (all cuts : List (Transmit T)) (given again : List PeerPayload) → IsSocketDrained here old → concat (pieces_of items all) ≡ concat (pieces_of items cuts)
+  pub cut_anywhere_over : (old one other : ClientState) (all cuts : List (Transmit T)) (given again : List PeerPayload) → IsSocketDrained here old → concat (chunks_of items all) ≡ concat (chunks_of items cuts)
       → AreDrainedOver items here now old all given one → AreDrainedOver items here now old cuts again other → (bytes_given given ≡ bytes_given again) × (one ≡ other)
   cut_anywhere_over old one other all cuts given again out same left right =
       let start = stream_of (from here old.core.allocations) in
-      let first = with_kept here (alive []) old.core in
-      let begun = begins old out (from here old.core.allocations) refl in
-      let a = pieces start first (first_calm old out) all [] [] old begun out.control given one left in
-      let b = pieces start first (first_calm old out) cuts [] [] old begun out.control again other right in
-      let both = reached_same start first (concat (pieces_of items all)) (bytes_given given) (bytes_given again) one.core other.core a.0
+      let first = with_stored here (alive []) old.core in
+      let started = begins old out (from here old.core.allocations) refl in
+      let a = chunks start first (first_calm old out) all [] [] old started out.control given one left in
+      let b = chunks start first (first_calm old out) cuts [] [] old started out.control again other right in
+      let both = reached_same start first (concat (chunks_of items all)) (bytes_given given) (bytes_given again) one.core other.core a.0
       (subst (λ (l : List ℕ). IsReached start first l (bytes_given again) other.core) (sym same) b.0) in
       (both.0, alike one other both.1 (a.1 ∙ sym b.1))

@@ -1,18 +1,18 @@
--- A socket that a caller tells of is a step of a run, and so is its end (RFC 6062, sections 4.3 and 4.6).
+-- A socket that a caller provides is a step of a run, and so is its close (RFC 6062, sections 4.3 and 4.6).
 use Rattle.std.proofs.Common.{◌≡◌, ℕ, Bool, true, false, eqb, if◌then◌else◌, List, [], ◌∷◌, ◌++◌, map, Option, Some, None, Result, Ok, Err, refl, sym, subst, inl}
 use Rattle.std.proofs.lemmas.Bool.{eqb-true}
 use Rattle.std.specs.List.{find}
 use Rattle.std.specs.Prelude.{IfNone, IfSome, option_and_then, position, ◌&&◌}
 use Rattle.std.specs.declared.net.socket_addr.SocketAddr.{SocketAddr}
 use Rattle.turn_client_proto_timers.specs.StunTypesBase.declared.transport.TransportType.TheVariants.{Tcp}
-use Rattle.turn_client_proto_timers.specs.TurnRuns.StunWire.{told_by}
+use Rattle.turn_client_proto_timers.specs.TurnRuns.StunWire.{decoded_by}
 use Rattle.turn_client_proto_timers.specs.Allocation.Changes.{change_first}
 use Rattle.turn_client_proto_timers.specs.Api.declared.answer.Socket5Tuple.{Socket5Tuple}
 use Rattle.turn_client_proto_timers.specs.Api.declared.error.TcpAllocateError.{TcpAllocateError}
 use Rattle.turn_client_proto_timers.specs.Peers.Channel.Numbers.{AreDistinct}
 use Rattle.turn_client_proto_recv.specs.Closing.{after_close, is_joined, without}
 use Rattle.turn_client_proto_timers.specs.Connection.Attempts.{attempt_in, attempt_of}
-use Rattle.turn_client_proto_timers.specs.Connection.Sockets.{awaits_socket, binding, closed, is_socket_for, let_go, to_bind}
+use Rattle.turn_client_proto_timers.specs.Connection.Sockets.{awaits_socket, binding, closed, is_socket_for, release, to_bind}
 use Rattle.turn_client_proto_timers.specs.Allocation.Same.{is_same_address, is_same_transport}
 use Rattle.turn_client_proto_timers.specs.TurnRuns.Members.{IsIn}
 use Rattle.turn_client_proto_timers.specs.Messages.Answers.{answer_text}
@@ -21,10 +21,10 @@ use Rattle.turn_client_proto_timers.specs.Messages.declared.answer.AttemptAnswer
 use Rattle.turn_client_proto_timers.specs.Messages.declared.answer.AttemptAnswer.TheVariants.{Accepted, Failed}
 use Rattle.turn_client_proto_timers.specs.Messages.declared.request.TurnRequest.TheVariants.{ConnectionBind}
 use Rattle.turn_client_proto_recv.specs.Sockets.{IsNumber, IsSocketAnswered, IsSocketTaken, after_socket, answering_if, attempt_at, binding_time, is_own, is_used, socket_refusal, socket_refusal_in, takes_sockets, unsocketed}
-use Rattle.turn_client_proto_timers.specs.Core.Asking.{asked_from}
+use Rattle.turn_client_proto_timers.specs.Core.Asking.{requested_from}
 use Rattle.turn_client_proto_timers.specs.Core.Attempting.{answering, queued_answer}
 use Rattle.turn_client_proto_timers.specs.Core.Deleting.{is_authenticated}
-use Rattle.turn_client_proto_timers.specs.StunTypesBase.Moments.{moment_after}
+use Rattle.turn_client_proto_timers.specs.StunTypesBase.Times.{time_after}
 use Rattle.turn_client_proto_timers.specs.Core.Numbering.{after_number, is_taken}
 use Rattle.turn_client_proto_timers.specs.Messages.Waiting.{Queued}
 use Rattle.turn_client_proto_timers.specs.Core.declared.protocol.Phase.{Phase}
@@ -37,16 +37,16 @@ use Rattle.turn_client_proto_step_laws.specs.RunSteps.{IsRunStep}
 use Rattle.turn_client_proto_step_laws.specs.Sound.{CanAsk, IsOrderly, IsSound, UntilEnded}
 use Rattle.turn_client_proto_step_laws.proofs.Adding.{Adds, HasNumber, IsLess, adds_both, adds_none, allocations_less, queue_answers}
 use Rattle.turn_client_proto_timers.proofs.Messages.Answering.{answer_number}
-use Rattle.turn_client_proto_step_laws.proofs.Asking.{IsMade, IsUnderWay, asked_from_adds, asked_from_orderly, asks, at_first, made}
+use Rattle.turn_client_proto_step_laws.proofs.Asking.{IsMade, IsUnderWay, requested_from_adds, requested_from_orderly, asks, at_first, made}
 use Rattle.turn_client_proto_step_laws.proofs.Attempting.{answer_ready}
 use Rattle.turn_client_proto_step_laws.proofs.Binds.{asks_bind}
 use Rattle.turn_client_proto_step_laws.proofs.Ending.{still, still_can}
 use Rattle.turn_client_proto_step_laws.proofs.Lessening.{IsAlike, each_less, same_distinct, same_first_distinct}
 use Rattle.turn_client_proto_step_laws.proofs.Lists.{Passes, both_so, found_in, found_passes, passes_one}
 use Rattle.turn_client_proto_step_laws.proofs.Orderly.{allocations_orderly, queue_orderly, until_map}
-use Rattle.turn_client_proto_step_laws.proofs.Parting.{closed_alike, closed_less, let_go_alike, let_go_less}
-use Rattle.turn_client_proto_step_laws.proofs.Plain.{counts_none, nothing_drawn, quiet, run_step}
-use Rattle.turn_client_proto_step_laws.proofs.Refreshing.{allocated, number_drawn}
+use Rattle.turn_client_proto_step_laws.proofs.Parting.{closed_alike, closed_less, release_alike, release_less}
+use Rattle.turn_client_proto_step_laws.proofs.Plain.{counts_none, nothing_transmitted, quiet, run_step}
+use Rattle.turn_client_proto_step_laws.proofs.Refreshing.{allocated, number_transmitted}
 use Rattle.turn_client_proto_step_laws.proofs.Requesting.{authenticated}
 use Rattle.turn_client_proto_step_laws.proofs.SameSockets.{same_address}
 use Rattle.turn_client_proto_step_laws.proofs.Tying.{allocations_tying, tying_orderly}
@@ -62,9 +62,9 @@ goes c f queue core less alike adds orderly is sound =
     let after : Protocol = record c.core { allocations = left; queue = queue; closing = core.closing } in
     let fewer = each_less [] f less c.core.allocations in
     subst (λ (p : Protocol). IsRunStep c [] None [] p) (sym is)
-    (run_step [] [] None [] c c.drawn after
-    (quiet None [] c c.drawn after (counts_none c after refl) (λ realm h. inl h)
-    (adds_both [] (parts_of c.core) between (parts_of after) adds (allocations_less [] [] between left fewer (λ r h. absurd h))) (nothing_drawn [] c) refl)
+    (run_step [] [] None [] c c.transmitted after
+    (quiet None [] c c.transmitted after (counts_none c after refl) (λ realm h. inl h)
+    (adds_both [] (parts_of c.core) between (parts_of after) adds (allocations_less [] [] between left fewer (λ r h. absurd h))) (nothing_transmitted [] c) refl)
     (allocations_orderly [] between left fewer (λ r h. absurd h) (same_distinct f alike c.core.allocations sound.orderly.distinct) orderly)
     (until_map c.core.phase (still_can c after refl refl refl) sound.can_ask))
 
@@ -84,7 +84,7 @@ close_step c here server new sound is =
 
 -- ---- a socket was opened, or was not
 
--- an allocation in which a connection waits for its socket knows it
+-- An allocation in which a connection waits for its socket knows it.
 waits_known : (connection : ℕ) (peer : SocketAddr) (a : Allocation) → awaits_socket connection peer a ≡ true → Knows a connection peer
 waits_known connection peer a waits =
     let one : Passes (is_socket_for connection peer) a.waiting = passes_one (is_socket_for connection peer) a.waiting waits in
@@ -94,7 +94,7 @@ waits_known connection peer a waits =
 
 -- ---- the server's own request, of a connection that waits for its socket
 
--- the number of one is that of a connection that waits
+-- The transaction ID of the server's request is that of a connection that waits.
 attempt_waits : (connection : ℕ) (peer : SocketAddr) (number : ℕ) (p : Parts) → attempt_of connection peer p.allocations ≡ Some number → IsAttempted p.allocations p.queue number
 attempt_waits connection peer number p is = by (find (awaits_socket connection peer) p.allocations) refl is
   where
@@ -107,7 +107,7 @@ attempt_waits connection peer number p is = by (find (awaits_socket connection p
     by None at has = absurd (Prim.cc has)
     by (Some a) at has = among a (found_in (awaits_socket connection peer) p.allocations a at) (find (is_socket_for connection peer) a.waiting) refl has
 
--- the answer to it waits
+-- The response to it is queued.
 module _ (c : Client) (answer : AttemptAnswer) (number : ℕ) (is_number : IsNumber number) (waits : IsAttempted c.core.allocations c.core.queue number) where
   abbrev reply : Queued
   reply = queued_answer c.core.agent.here (answer_text c.core.auth answer number)
@@ -126,7 +126,7 @@ module _ (c : Client) (answer : AttemptAnswer) (number : ℕ) (is_number : IsNum
     adds = answered_adds;
     orderly = answered_orderly is.orderly;
     can_ask = record { account = is.can_ask.account; texts = is.can_ask.texts; families = is.can_ask.families; words = is.can_ask.words };
-    told = is.told;
+    reported = is.reported;
     rng = is.rng;
     realms = is.realms;
   }
@@ -136,82 +136,82 @@ module _ (c : Client) (here peer : SocketAddr) (connection now : ℕ) where
   passes = awaits_socket connection peer
 
   abbrev awaited : ℕ → Binding
-  awaited number = record { number = number; expiry = moment_after now binding_time }
+  awaited number = record { number = number; expiry = time_after now binding_time }
 
-  -- with the connection that is asked for
+  -- The allocations with the connection whose binding is requested.
   abbrev tied_with : ℕ → Protocol → List Allocation
   tied_with number mid = change_first passes (binding (to_bind here peer connection (awaited number))) mid.allocations
 
   abbrev bound_with : ℕ → Protocol → Protocol
-  bound_with number mid = record (asked_from here (after_number mid) (ConnectionBind connection) number now) { allocations = map (let_go connection peer) (tied_with number mid) }
+  bound_with number mid = record (requested_from here (after_number mid) (ConnectionBind connection) number now) { allocations = map (release connection peer) (tied_with number mid) }
 
   asks_binding : (mid : Protocol) (number : ℕ) → mid.phase ≡ Authenticated → IsUnderWay c [] mid → IsMade mid (ConnectionBind connection) number → IsRunStep c [] None [] (bound_with number mid)
-  asks_binding mid number stands under_way is =
+  asks_binding mid number occurs under_way is =
       let orderly : IsOrderly (parts_of mid) = under_way.orderly in
       let text = request_text mid.auth (ConnectionBind connection) number in
-      let asking : Parts = parts_of (asked_from here (after_number mid) (ConnectionBind connection) number now) in
+      let asking : Parts = parts_of (requested_from here (after_number mid) (ConnectionBind connection) number now) in
       let change = binding (to_bind here peer connection (awaited number)) in
       let tied : List Allocation = tied_with number mid in
       let between : Parts = record asking { allocations = tied } in
-      let left : List Allocation = map (let_go connection peer) tied in
-      let fewer = each_less [] (let_go connection peer) (let_go_less connection peer) tied in
+      let left : List Allocation = map (release connection peer) tied in
+      let fewer = each_less [] (release connection peer) (release_less connection peer) tied in
       let knew = λ (a : Allocation) (found : find passes mid.allocations ≡ Some a). waits_known connection peer a (found_passes passes mid.allocations a found) in
-      let number_made : HasNumber number (told_by text ∷ []) = record { one = told_by text; listed = inl refl; is = is.number_is } in
+      let number_made : HasNumber number (decoded_by text ∷ []) = record { one = decoded_by text; listed = inl refl; is = is.number_is } in
       let distinct : AreDistinct tied = same_first_distinct passes change (λ a. (refl, refl)) mid.allocations orderly.distinct in
-      let adds = adds_both (told_by text ∷ []) (parts_of mid) asking (record between { allocations = left }) (asked_from_adds here mid (ConnectionBind connection) number now)
-      (adds_both (told_by text ∷ []) asking between (record between { allocations = left }) (allocations_tying here peer connection (awaited number) passes asking knew (told_by text ∷ []) number_made)
-      (allocations_less (told_by text ∷ []) [] between left fewer (λ r h. absurd h))) in
-      let kept = allocations_orderly [] between left fewer (λ r h. absurd h) (same_distinct (let_go connection peer) (let_go_alike connection peer) tied distinct)
+      let adds = adds_both (decoded_by text ∷ []) (parts_of mid) asking (record between { allocations = left }) (requested_from_adds here mid (ConnectionBind connection) number now)
+      (adds_both (decoded_by text ∷ []) asking between (record between { allocations = left }) (allocations_tying here peer connection (awaited number) passes asking knew (decoded_by text ∷ []) number_made)
+      (allocations_less (decoded_by text ∷ []) [] between left fewer (λ r h. absurd h))) in
+      let stored = allocations_orderly [] between left fewer (λ r h. absurd h) (same_distinct (release connection peer) (release_alike connection peer) tied distinct)
       (tying_orderly here peer connection (awaited number) passes asking knew (asks_bind mid here peer connection number now is) distinct
-      (asked_from_orderly here mid (ConnectionBind connection) number now is (allocated _ mid.phase stands) orderly)) in
-      asks c mid (ConnectionBind connection) number under_way is None (bound_with number mid) adds kept refl (λ realm h. h) under_way.can_ask.families refl refl (nothing_drawn (told_by text ∷ []) c)
+      (requested_from_orderly here mid (ConnectionBind connection) number now is (allocated _ mid.phase occurs) orderly)) in
+      asks c mid (ConnectionBind connection) number under_way is None (bound_with number mid) adds stored refl (λ realm h. h) under_way.can_ask.families refl refl (nothing_transmitted (decoded_by text ∷ []) c)
 
-  -- where a peer began it, the server is told first that there is a socket
+  -- If a peer opened the connection, the server is told first that there is a socket.
   opens : (number : ℕ) → c.core.phase ≡ Authenticated → IsUnderWay c [] c.core → IsMade c.core (ConnectionBind connection) number → IfSome (attempt_at connection peer c.core) IsNumber
       → IsRunStep c [] None [] (after_socket here peer connection number now c.core)
   unfolding after_socket answering is_taken
-  opens number stands under_way is told = by (attempt_at connection peer c.core) refl told
+  opens number occurs under_way is reported = by (attempt_at connection peer c.core) refl reported
     where
       by : (attempt : Option ℕ) → attempt_at connection peer c.core ≡ attempt → IfSome attempt IsNumber
-          → IsRunStep c [] None [] (record (asked_from here (answering_if Accepted attempt (after_number c.core)) (ConnectionBind connection) number now) {
-            allocations = map (let_go connection peer) (tied_with number c.core);
+          → IsRunStep c [] None [] (record (requested_from here (answering_if Accepted attempt (after_number c.core)) (ConnectionBind connection) number now) {
+            allocations = map (release connection peer) (tied_with number c.core);
           })
-      by None at small = asks_binding c.core number stands under_way is
+      by None at small = asks_binding c.core number occurs under_way is
       by (Some n) at small =
-          asks_binding (answering Accepted n c.core) number stands (once_answered c Accepted n small (attempt_waits connection peer n (parts_of c.core) at) under_way)
-          (record { is_next = record { steps = is.is_next.steps; is = is.is_next.is; passed = is.is_next.passed; free = is.is_next.free }; message = is.message; number_is = is.number_is; told = is.told })
+          asks_binding (answering Accepted n c.core) number occurs (once_answered c Accepted n small (attempt_waits connection peer n (parts_of c.core) at) under_way)
+          (record { is_next = record { steps = is.is_next.steps; is = is.is_next.is; passed = is.is_next.passed; free = is.is_next.free }; message = is.message; number_is = is.number_is; reported = is.reported })
 
 module _ (c : Client) (peer : SocketAddr) (connection now : ℕ) (sound : IsSound c) where
   none_opened : IfSome (attempt_at connection peer c.core) IsNumber → IsRunStep c [] None [] (unsocketed connection peer c.core)
   unfolding unsocketed answering
-  none_opened told = by (attempt_at connection peer c.core) refl told
+  none_opened reported = by (attempt_at connection peer c.core) refl reported
     where
       by : (attempt : Option ℕ) → attempt_at connection peer c.core ≡ attempt → IfSome attempt IsNumber
-          → IsRunStep c [] None [] (record (answering_if Failed attempt c.core) { allocations = map (let_go connection peer) c.core.allocations })
-      by None at small = goes c (let_go connection peer) c.core.queue _ (let_go_less connection peer) (let_go_alike connection peer) (adds_none [] (parts_of c.core)) sound.orderly refl sound
+          → IsRunStep c [] None [] (record (answering_if Failed attempt c.core) { allocations = map (release connection peer) c.core.allocations })
+      by None at small = goes c (release connection peer) c.core.queue _ (release_less connection peer) (release_alike connection peer) (adds_none [] (parts_of c.core)) sound.orderly refl sound
       by (Some n) at small =
           let waits = attempt_waits connection peer n (parts_of c.core) at in
-          goes c (let_go connection peer) _ _ (let_go_less connection peer) (let_go_alike connection peer) (answered_adds c Failed n small waits) (answered_orderly c Failed n small waits sound.orderly) refl sound
+          goes c (release connection peer) _ _ (release_less connection peer) (release_alike connection peer) (answered_adds c Failed n small waits) (answered_orderly c Failed n small waits sound.orderly) refl sound
 
   taken : (here : Option SocketAddr) (answer : Result (Unit {0}) TcpAllocateError) (new : Protocol) → c.core.phase ≡ Authenticated → CanAsk c
       → IsSocketTaken here c.core connection peer now answer new → IsRunStep c [] None [] new
-  taken None (Ok x) new stands can is = subst (λ (p : Protocol). IsRunStep c [] None [] p) (sym is.after) (none_opened is.attempt)
-  taken None (Err e) new stands can is = still c [] new sound is.1
-  taken (Some here) (Ok x) new stands can is =
+  taken None (Ok x) new occurs can is = subst (λ (p : Protocol). IsRunStep c [] None [] p) (sym is.after) (none_opened is.attempt)
+  taken None (Err e) new occurs can is = still c [] new sound is.1
+  taken (Some here) (Ok x) new occurs can is =
       let under_way = at_first c [] sound.orderly can in
       subst (λ (p : Protocol). IsRunStep c [] None [] p) (sym is.after)
-      (opens c here peer connection now is.number stands under_way (made c c.core (ConnectionBind connection) is.number under_way is.lawful tt is.is_next) is.attempt)
-  taken (Some here) (Err e) new stands can is = subst (λ (p : Protocol). IsRunStep c [] None [] p) (sym is.1) (number_drawn c sound)
+      (opens c here peer connection now is.number occurs under_way (made c c.core (ConnectionBind connection) is.number under_way is.lawful tt is.is_next) is.attempt)
+  taken (Some here) (Err e) new occurs can is = subst (λ (p : Protocol). IsRunStep c [] None [] p) (sym is.1) (number_transmitted c sound)
 
-  -- none is taken but where the server has allocated
-  stands_by : (s : Socket5Tuple) (place : Option ℕ) (used : Bool) → socket_refusal_in place (takes_sockets c.core s) used ≡ None → is_authenticated c.core.phase ≡ true
-  stands_by s None used none = absurd (Prim.cc none)
-  stands_by s (Some place) used none =
+  -- If the socket is taken, the server has allocated.
+  is_active_by : (s : Socket5Tuple) (index : Option ℕ) (used : Bool) → socket_refusal_in index (takes_sockets c.core s) used ≡ None → is_authenticated c.core.phase ≡ true
+  is_active_by s None used none = absurd (Prim.cc none)
+  is_active_by s (Some index) used none =
       let takes : takes_sockets c.core s ≡ true = by (takes_sockets c.core s) none in
       let own = both_so (is_same_transport c.core.allocates Tcp) (is_own c.core s && is_authenticated c.core.phase) takes in
       (both_so (is_own c.core s) (is_authenticated c.core.phase) own.1).1
     where
-      by : (b : Bool) → socket_refusal_in (Some place) b used ≡ None → b ≡ true
+      by : (b : Bool) → socket_refusal_in (Some index) b used ≡ None → b ≡ true
       by true h = refl
       by false h = absurd (Prim.cc h)
 
@@ -221,7 +221,7 @@ socket_step c connection s peer here now answer new sound is = by (socket_refusa
   where
     by : (o : Option TcpAllocateError) → socket_refusal c.core connection s peer here ≡ o → IfSome o (λ error. (answer ≡ Err error) × (new ≡ c.core))
         → IfNone o (IsSocketTaken here c.core connection peer now answer new) → IsRunStep c [] None [] new
-    by (Some error) at turned_down none = still c [] new sound turned_down.1
+    by (Some error) at rejected none = still c [] new sound rejected.1
     by None at none going =
-        let stands = authenticated c.core.phase (stands_by c peer connection now sound s (position (awaits_socket connection peer) c.core.allocations) (is_used here c.core.allocations) at) in
-        taken c peer connection now sound here answer new stands (subst (λ (f : Phase). UntilEnded f (CanAsk c)) stands sound.can_ask) going
+        let occurs = authenticated c.core.phase (is_active_by c peer connection now sound s (position (awaits_socket connection peer) c.core.allocations) (is_used here c.core.allocations) at) in
+        taken c peer connection now sound here answer new occurs (subst (λ (f : Phase). UntilEnded f (CanAsk c)) occurs sound.can_ask) going

@@ -1,4 +1,5 @@
--- A message that came over the control connection brings no bytes of a peer: a client keeps no connection after it but those of before.
+-- A message from the control connection brings no bytes of a peer: each connection that a client has after
+-- it, it had before.
 use Rattle.std.proofs.Common.{◌≡◌, ℕ, ◌==◌, Bool, true, false, ◌&&◌, List, [], ◌∷◌, map, Option, Some, None, Ok, Err, if◌then◌else◌, refl, sym, ap, ◌∙◌, subst, inl, inr}
 use Rattle.std.proofs.lemmas.Bool.{cases_Bool}
 use Rattle.std.specs.Bool.{MatchBool}
@@ -20,31 +21,31 @@ use Rattle.turn_client_proto_timers.specs.TurnRuns.Members.{IsIn}
 use Rattle.turn_client_proto_timers.specs.Allocation.Awaited.{asks_for_permission, has_number}
 use Rattle.turn_client_proto_timers.specs.Allocation.Changes.{change_first}
 use Rattle.turn_client_proto_timers.specs.Allocation.Refreshing.{ends_by, granted, renewed}
-use Rattle.turn_client_proto_timers.specs.Allocation.Requested.{asked_by, asked_too, awaits_reply, permission_too}
+use Rattle.turn_client_proto_timers.specs.Allocation.PendingRequests.{pending_request, reissued_under, awaits_reply, permission_too}
 use Rattle.turn_client_proto_timers.specs.Peers.Channel.Granted as channels
-use Rattle.turn_client_proto_timers.specs.Allocation.declared.requested.Asked.{Asked}
-use Rattle.turn_client_proto_timers.specs.Allocation.declared.requested.Asked.TheVariants.{ChannelRenewal, Lifetime, NewChannel, NewConnection, NewPermission, Renewal}
+use Rattle.turn_client_proto_timers.specs.Allocation.declared.pending.PendingRequest.{PendingRequest}
+use Rattle.turn_client_proto_timers.specs.Allocation.declared.pending.PendingRequest.TheVariants.{ChannelRenewal, Lifetime, NewChannel, NewConnection, NewPermission, Renewal}
 use Rattle.turn_client_proto_timers.specs.Connection.Attempts as attempts
 use Rattle.turn_client_proto_timers.specs.Connection.Streams.{first_raw, has_raw, is_any_raw}
-use Rattle.turn_client_proto_timers.specs.Connection.Told as connections
+use Rattle.turn_client_proto_timers.specs.Connection.Reported as connections
 use Rattle.turn_client_proto_timers.specs.Peers.Permission.Granted as permissions
-use Rattle.turn_client_proto_timers.specs.Allocation.Permissions as permissions_asked
+use Rattle.turn_client_proto_timers.specs.Allocation.Permissions as permissions_requested
 use Rattle.turn_client_proto_timers.specs.TurnRuns.Indications.{is_indication}
-use Rattle.turn_client_proto_timers.specs.Messages.Told.{connection_told, lifetime_told, peer_told}
+use Rattle.turn_client_proto_timers.specs.Messages.Reported.{connection_reported, lifetime_reported, peer_reported}
 use Rattle.turn_client_proto_timers.specs.Messages.declared.answer.AttemptAnswer.{AttemptAnswer}
 use Rattle.turn_client_proto_timers.specs.Messages.declared.answer.AttemptAnswer.TheVariants.{AlreadyExists, BadRequest}
 use Rattle.turn_client_proto_timers.specs.Core.Allocating.{IsAllocatedFor, allocated, brought}
-use Rattle.turn_client_proto_timers.specs.Core.Asking.{asked}
+use Rattle.turn_client_proto_timers.specs.Core.Asking.{requested}
 use Rattle.turn_client_proto_timers.specs.Core.Attempting.{IsAttemptTaken, after_attempt, after_attempt_in, after_attempt_of, answering, is_attempt, may_join}
-use Rattle.turn_client_proto_timers.specs.Core.Authenticating.{IsAccepted, IsAllocateAnswered, IsAllocatingAgain, IsChallenged, IsErrorAnswered, IsFirstJudged, IsSignedJudged, IsTurnedAway, allocates_again, allocates_other, family_left}
-use Rattle.turn_client_proto_timers.specs.Core.Binding.{IsBindResponded, IsBoundFor, IsUnboundFor, bound, lets_lapse, permission_with, permitted_with, renews_channels, turned_down_with, unbound}
+use Rattle.turn_client_proto_timers.specs.Core.Authenticating.{IsAccepted, IsAllocateAnswered, IsAllocatingAgain, IsChallenged, IsErrorAnswered, IsFirstJudged, IsSignedJudged, IsUnauthenticated, allocates_again, allocates_other, family_left}
+use Rattle.turn_client_proto_timers.specs.Core.Binding.{IsBindResponded, IsBoundFor, IsUnboundFor, bound, expires_due, permission_with, permitted_with, renews_channels, rejected_with, unbound}
 use Rattle.turn_client_proto_timers.specs.Core.Ending.{ended}
 use Rattle.turn_client_proto_timers.specs.Core.Outcomes.{IsHandled, IsIgnored}
 use Rattle.turn_client_proto_timers.specs.Core.Permitting as asking
 use Rattle.turn_client_proto_timers.specs.Core.Permitting.{IsGrantedFor, IsPermissionResponded, IsRefusedFor}
-use Rattle.turn_client_proto_timers.specs.Core.Receiving.{Follows, IsFollowed, IsHeard, IsHeardIn}
+use Rattle.turn_client_proto_timers.specs.Core.Receiving.{Follows, IsFollowed, IsProcessed, IsProcessedIn}
 use Rattle.turn_client_proto_timers.specs.Core.Responding.{accepted, answered, challenged, is_error_class, is_tired, judged}
-use Rattle.turn_client_proto_timers.specs.Core.Standing.{IsAskedAgain, IsConnectResponded, IsJudgedStanding, IsRechallenged, IsRequestAnswered, IsTakenUp, after_connect, after_refresh, asks_again, deallocated, is_refreshed, refreshed}
+use Rattle.turn_client_proto_timers.specs.Core.Standing.{IsRequestedAgain, IsConnectResponded, IsJudgedStanding, IsRechallenged, IsRequestAnswered, IsTakenUp, after_connect, after_refresh, asks_again, deallocated, is_refreshed, refreshed}
 use Rattle.turn_client_proto_timers.specs.Core.declared.protocol.Phase.{Phase}
 use Rattle.turn_client_proto_timers.specs.Core.declared.protocol.Phase.TheVariants.{Initial, InitialSent, Authenticating, Authenticated, Ended}
 use Rattle.turn_client_proto_timers.specs.Core.declared.protocol.Protocol.{Protocol}
@@ -57,7 +58,7 @@ use Rattle.turn_client_proto_step_laws.proofs.Streaming.{raw_first}
 
 -- ---- connections of before
 
--- a connection of an allocation of before
+-- A connection of an earlier allocation.
 pub record WasOf (old : List Allocation) (c : Connection) : Type 0 where
   pub before : Allocation
   pub listed : IsIn before old
@@ -77,13 +78,13 @@ of_less old new less a listed c there =
     let was = less a listed in
     record { before = was.before; listed = was.listed; has = was.less.connections c there }
 
--- one change and then another
+-- One change and then another.
 of_both : (old mid new : List Allocation) → AreOf old mid → AreOf mid new → AreOf old new
 of_both old mid new first second a listed c there =
     let was = second a listed c there in
     first was.before was.listed c was.has
 
--- each, or the first that passes, is changed so that its connections stay
+-- Each allocation, or the first that passes, is changed so that its connections stay.
 module _ (f : Allocation → Allocation) (stay : (a : Allocation) → (f a).connections ≡ a.connections) where
   of_each : (old : List Allocation) → AreOf old (map f old)
   of_each old a listed c there =
@@ -110,38 +111,38 @@ permission_stay : (old number : ℕ) (a : Allocation) → (permission_too old nu
 unfolding permission_too
 permission_stay old number a = by (list_any (asks_for_permission old) a.pending_permissions)
   where
-    by : (b : Bool) → (if b then record a { pending_permissions = permissions_asked.asked_again old number a.pending_permissions }
-        else record a { permissions = permissions_asked.renewed_again old number a.permissions }).connections ≡ a.connections
+    by : (b : Bool) → (if b then record a { pending_permissions = permissions_requested.requested_again old number a.pending_permissions }
+        else record a { permissions = permissions_requested.renewed_again old number a.permissions }).connections ≡ a.connections
     by true = refl
     by false = refl
 
-asked_stay : (what : Asked) (old number : ℕ) (a : Allocation) → (asked_too what old number a).connections ≡ a.connections
-asked_stay (Lifetime lifetime) old number a = refl
-asked_stay (NewChannel transport channel peer) old number a = permission_stay old number _
-asked_stay (ChannelRenewal transport channel peer) old number a = permission_stay old number _
-asked_stay (NewPermission transport ip) old number a = refl
-asked_stay (Renewal transport ip) old number a = refl
-asked_stay (NewConnection peer) old number a = refl
+requested_stay : (what : PendingRequest) (old number : ℕ) (a : Allocation) → (reissued_under what old number a).connections ≡ a.connections
+requested_stay (Lifetime lifetime) old number a = refl
+requested_stay (NewChannel transport channel peer) old number a = permission_stay old number _
+requested_stay (ChannelRenewal transport channel peer) old number a = permission_stay old number _
+requested_stay (NewPermission transport ip) old number a = refl
+requested_stay (Renewal transport ip) old number a = refl
+requested_stay (NewConnection peer) old number a = refl
 
-down_stay : (number : ℕ) (a : Allocation) → (permissions.turned_down number a).connections ≡ a.connections
-unfolding permissions.turned_down
+down_stay : (number : ℕ) (a : Allocation) → (permissions.rejected number a).connections ≡ a.connections
+unfolding permissions.rejected
 down_stay number a = refl
 
 renewed_stay : (number now : ℕ) (a : Allocation) → (permissions.renewed number now a).connections ≡ a.connections
 unfolding permissions.renewed
 renewed_stay number now a = refl
 
-channel_down_stay : (number : ℕ) (a : Allocation) → (channels.turned_down number a).connections ≡ a.connections
-unfolding channels.turned_down
+channel_down_stay : (number : ℕ) (a : Allocation) → (channels.rejected number a).connections ≡ a.connections
+unfolding channels.rejected
 channel_down_stay number a = refl
 
 channel_renewed_stay : (number now : ℕ) (a : Allocation) → (channels.renewed number now a).connections ≡ a.connections
 unfolding channels.renewed
 channel_renewed_stay number now a = refl
 
-lapse_stay : (number : ℕ) (a : Allocation) → (channels.let_lapse number a).connections ≡ a.connections
-unfolding channels.let_lapse
-lapse_stay number a = refl
+expire_stay : (number : ℕ) (a : Allocation) → (channels.expire_due number a).connections ≡ a.connections
+unfolding channels.expire_due
+expire_stay number a = refl
 
 given_up_stay : (over : Option ℕ) (a : Allocation) → (connections.given_up over a).connections ≡ a.connections
 unfolding connections.given_up
@@ -179,41 +180,41 @@ module _ (bytes : List ℕ) (now : ℕ) where
   unfolding ended answered
   over_answered p = of_all p.allocations
 
-  asked_again : (p : Protocol) (number : ℕ) → AreOf p.allocations (challenged bytes (allocates_again number now p)).allocations
-  unfolding challenged allocates_again asked
-  asked_again p number = of_all p.allocations
+  requested_again : (p : Protocol) (number : ℕ) → AreOf p.allocations (challenged bytes (allocates_again number now p)).allocations
+  unfolding challenged allocates_again requested
+  requested_again p number = of_all p.allocations
 
   again_keeps : (p : Protocol) → Keeps p.allocations (IsAllocatingAgain p bytes now)
-  again_keeps p = record { keeps = λ handled new h. (handled_so p.allocations _ (asked_again p h.number)).keeps handled new h.outcome }
+  again_keeps p = record { keeps = λ handled new h. (handled_so p.allocations _ (requested_again p h.number)).keeps handled new h.outcome }
 
   challenged_keeps : (p : Protocol) → Keeps p.allocations (IsChallenged p bytes now)
   challenged_keeps p = tested (is_awaited p.agent bytes) (tested (is_tired p) (handled_so p.allocations (ended p) (over p)) (again_keeps p)) (ignored p)
 
-  turned_keeps : (p : Protocol) → Keeps p.allocations (IsTurnedAway p bytes)
+  turned_keeps : (p : Protocol) → Keeps p.allocations (IsUnauthenticated p bytes)
   turned_keeps p = tested (is_awaited p.agent bytes) (handled_so p.allocations (ended (answered bytes p)) (over_answered p)) (ignored p)
 
-  other_asked : (p : Protocol) (family : AddressFamily) (number : ℕ) → AreOf p.allocations (allocates_other family number now p).allocations
-  unfolding allocates_other asked
-  other_asked p family number = of_all p.allocations
+  other_requested : (p : Protocol) (family : AddressFamily) (number : ℕ) → AreOf p.allocations (allocates_other family number now p).allocations
+  unfolding allocates_other requested
+  other_requested p family number = of_all p.allocations
 
   error_keeps : (left : Option AddressFamily) (p : Protocol) → Keeps p.allocations (IsErrorAnswered left p now)
   error_keeps None p = handled_so p.allocations (ended p) (over p)
-  error_keeps (Some family) p = record { keeps = λ handled new h. (handled_so p.allocations _ (other_asked p family h.number)).keeps handled new h.outcome }
+  error_keeps (Some family) p = record { keeps = λ handled new h. (handled_so p.allocations _ (other_requested p family h.number)).keeps handled new h.outcome }
 
-  -- a fresh allocation has no connection
+  -- A fresh allocation has no connection.
   fresh_of : (p : Protocol) (lifetime : ℕ) (old : List Allocation) → AreOf old (allocated (brought p bytes lifetime now) p).allocations
   unfolding allocated
   fresh_of p lifetime old a listed c there =
       let image = in_map (λ (address : SocketAddr). granted p.allocates address lifetime now) a _ listed in
       absurd (subst (λ (x : Allocation). IsIn c x.connections) image.is there)
 
-  allocated_keeps : (told : Option ℕ) (p : Protocol) → Keeps p.allocations (IsAllocatedFor told p bytes now)
+  allocated_keeps : (reported : Option ℕ) (p : Protocol) → Keeps p.allocations (IsAllocatedFor reported p bytes now)
   allocated_keeps None p = handled_so p.allocations (ended p) (over p)
   allocated_keeps (Some lifetime) p = handled_so p.allocations (allocated (brought p bytes lifetime now) p) (fresh_of p lifetime p.allocations)
 
   class_keeps : (class : MessageClass) (p : Protocol) → Keeps p.allocations (IsAllocateAnswered class p bytes now)
   class_keeps Error p = error_keeps (family_left p bytes) p
-  class_keeps Success p = allocated_keeps (lifetime_told bytes) p
+  class_keeps Success p = allocated_keeps (lifetime_reported bytes) p
   class_keeps Request p = handled_so p.allocations p (of_all p.allocations)
   class_keeps Indication p = handled_so p.allocations p (of_all p.allocations)
 
@@ -242,19 +243,19 @@ module _ (bytes : List ℕ) (now : ℕ) where
 
   -- ---- where the server has allocated
 
-  sent_again : (what : Asked) (p : Protocol) (number : ℕ) → AreOf p.allocations (challenged bytes (asks_again what (number_at bytes) number now p)).allocations
-  unfolding challenged asks_again asked
-  sent_again what p number = of_first (asked_too what (number_at bytes) number) (asked_stay what (number_at bytes) number) (awaits_reply (number_at bytes)) p.allocations
+  sent_again : (what : PendingRequest) (p : Protocol) (number : ℕ) → AreOf p.allocations (challenged bytes (asks_again what (number_at bytes) number now p)).allocations
+  unfolding challenged asks_again requested
+  sent_again what p number = of_first (reissued_under what (number_at bytes) number) (requested_stay what (number_at bytes) number) (awaits_reply (number_at bytes)) p.allocations
 
-  asked_keeps : (what : Option Asked) (p : Protocol) → Keeps p.allocations (IsAskedAgain what p bytes now)
-  asked_keeps None p = ignored p
-  asked_keeps (Some what) p = record { keeps = λ handled new h. (handled_so p.allocations _ (sent_again what p h.number)).keeps handled new h.outcome }
+  requested_keeps : (what : Option PendingRequest) (p : Protocol) → Keeps p.allocations (IsRequestedAgain what p bytes now)
+  requested_keeps None p = ignored p
+  requested_keeps (Some what) p = record { keeps = λ handled new h. (handled_so p.allocations _ (sent_again what p h.number)).keeps handled new h.outcome }
 
   rechallenged_keeps : (p : Protocol) → Keeps p.allocations (IsRechallenged p bytes now)
   rechallenged_keeps p = tested (is_tired p) (handled_so p.allocations (ended p) (over p))
-      (tested (is_awaited p.agent bytes) (asked_keeps (asked_by (number_at bytes) p.allocations) p) (ignored p))
+      (tested (is_awaited p.agent bytes) (requested_keeps (pending_request (number_at bytes) p.allocations) p) (ignored p))
 
-  -- a REFRESH
+  -- The response to a REFRESH.
   gone : (p : Protocol) → AreOf p.allocations (deallocated p).allocations
   unfolding deallocated
   gone p = of_none p.allocations
@@ -262,10 +263,10 @@ module _ (bytes : List ℕ) (now : ℕ) where
   refreshes : (p : Protocol) → AreOf p.allocations (refreshed bytes now p).allocations
   unfolding refreshed
   refreshes p =
-      let left : List Allocation = map (renewed (number_at bytes) now (lifetime_told bytes)) p.allocations in
+      let left : List Allocation = map (renewed (number_at bytes) now (lifetime_reported bytes)) p.allocations in
       elim (list_any (ends_by (number_at bytes)) p.allocations) as (λ (b : Bool). AreOf p.allocations (if b then deallocated p else record p { allocations = left }).allocations) [
         | true ↦ gone p
-        | false ↦ of_less p.allocations left (all_renewed (number_at bytes) now (lifetime_told bytes) p.allocations)
+        | false ↦ of_less p.allocations left (all_renewed (number_at bytes) now (lifetime_reported bytes) p.allocations)
       ]
 
   refresh_after : (p : Protocol) → AreOf p.allocations (after_refresh bytes now p).allocations
@@ -276,11 +277,11 @@ module _ (bytes : List ℕ) (now : ℕ) where
         | false ↦ of_all p.allocations
       ]
 
-  -- a CREATE_PERMISSION
+  -- The response to a CREATE_PERMISSION.
   permitted_first : (ip : IpAddr) (number : ℕ) (old : List Allocation) → AreOf old (change_first (awaits_reply number) (permissions.permitted ip number now) old)
   permitted_first ip number old = of_first (permissions.permitted ip number now) (λ a. refl) (awaits_reply number) old
 
-  granted_keeps : (what : Option Asked) (p : Protocol) → Keeps p.allocations (IsGrantedFor what p (number_at bytes) now)
+  granted_keeps : (what : Option PendingRequest) (p : Protocol) → Keeps p.allocations (IsGrantedFor what p (number_at bytes) now)
   unfolding asking.granted asking.renews
   granted_keeps None p = ignored p
   granted_keeps (Some (Lifetime lifetime)) p = ignored p
@@ -292,10 +293,10 @@ module _ (bytes : List ℕ) (now : ℕ) where
   granted_keeps (Some (Renewal transport ip)) p =
       handled_so p.allocations (asking.renews (number_at bytes) now p) (of_each (permissions.renewed (number_at bytes) now) (renewed_stay (number_at bytes) now) p.allocations)
 
-  refused : (p : Protocol) → AreOf p.allocations (map (permissions.turned_down (number_at bytes)) p.allocations)
-  refused p = of_each (permissions.turned_down (number_at bytes)) (down_stay (number_at bytes)) p.allocations
+  refused : (p : Protocol) → AreOf p.allocations (map (permissions.rejected (number_at bytes)) p.allocations)
+  refused p = of_each (permissions.rejected (number_at bytes)) (down_stay (number_at bytes)) p.allocations
 
-  refused_keeps : (what : Option Asked) (p : Protocol) → Keeps p.allocations (IsRefusedFor what p (number_at bytes))
+  refused_keeps : (what : Option PendingRequest) (p : Protocol) → Keeps p.allocations (IsRefusedFor what p (number_at bytes))
   unfolding asking.refused
   refused_keeps None p = ignored p
   refused_keeps (Some (Lifetime lifetime)) p = ignored p
@@ -307,9 +308,9 @@ module _ (bytes : List ℕ) (now : ℕ) where
 
   permission_keeps : (p : Protocol) → Keeps p.allocations (IsPermissionResponded p bytes now)
   permission_keeps p = tested (is_error_class (class_of (kind_at bytes)))
-      (refused_keeps (asked_by (number_at bytes) p.allocations) p) (granted_keeps (asked_by (number_at bytes) p.allocations) p)
+      (refused_keeps (pending_request (number_at bytes) p.allocations) p) (granted_keeps (pending_request (number_at bytes) p.allocations) p)
 
-  -- a CHANNEL_BIND
+  -- The response to a CHANNEL_BIND.
   with_permission : (ip : Option IpAddr) (old : List Allocation) → AreOf old (permitted_with ip (number_at bytes) now old)
   with_permission None old = of_all old
   with_permission (Some ip) old = permitted_first ip (number_at bytes) old
@@ -320,16 +321,16 @@ module _ (bytes : List ℕ) (now : ℕ) where
       of_both old (permitted_with ip (number_at bytes) now old) _ (with_permission ip old)
       (of_first (channels.bound channel peer (number_at bytes) now) (λ a. refl) (awaits_reply (number_at bytes)) (permitted_with ip (number_at bytes) now old))
 
-  without_permission : (ip : Option IpAddr) (old : List Allocation) → AreOf old (turned_down_with ip (number_at bytes) old)
+  without_permission : (ip : Option IpAddr) (old : List Allocation) → AreOf old (rejected_with ip (number_at bytes) old)
   without_permission None old = of_all old
-  without_permission (Some ip) old = of_each (permissions.turned_down (number_at bytes)) (down_stay (number_at bytes)) old
+  without_permission (Some ip) old = of_each (permissions.rejected (number_at bytes)) (down_stay (number_at bytes)) old
 
-  unbinds : (ip : Option IpAddr) (old : List Allocation) → AreOf old (turned_down_with ip (number_at bytes) (map (channels.turned_down (number_at bytes)) old))
+  unbinds : (ip : Option IpAddr) (old : List Allocation) → AreOf old (rejected_with ip (number_at bytes) (map (channels.rejected (number_at bytes)) old))
   unbinds ip old =
-      of_both old (map (channels.turned_down (number_at bytes)) old) _ (of_each (channels.turned_down (number_at bytes)) (channel_down_stay (number_at bytes)) old)
-      (without_permission ip (map (channels.turned_down (number_at bytes)) old))
+      of_both old (map (channels.rejected (number_at bytes)) old) _ (of_each (channels.rejected (number_at bytes)) (channel_down_stay (number_at bytes)) old)
+      (without_permission ip (map (channels.rejected (number_at bytes)) old))
 
-  bound_keeps : (what : Option Asked) (p : Protocol) → Keeps p.allocations (IsBoundFor what p (number_at bytes) now)
+  bound_keeps : (what : Option PendingRequest) (p : Protocol) → Keeps p.allocations (IsBoundFor what p (number_at bytes) now)
   unfolding bound renews_channels
   bound_keeps None p = ignored p
   bound_keeps (Some (Lifetime lifetime)) p = ignored p
@@ -342,8 +343,8 @@ module _ (bytes : List ℕ) (now : ℕ) where
   bound_keeps (Some (NewPermission transport ip)) p = ignored p
   bound_keeps (Some (Renewal transport ip)) p = ignored p
 
-  unbound_keeps : (what : Option Asked) (p : Protocol) → Keeps p.allocations (IsUnboundFor what p (number_at bytes))
-  unfolding unbound lets_lapse
+  unbound_keeps : (what : Option PendingRequest) (p : Protocol) → Keeps p.allocations (IsUnboundFor what p (number_at bytes))
+  unfolding unbound expires_due
   unbound_keeps None p = ignored p
   unbound_keeps (Some (Lifetime lifetime)) p = ignored p
   unbound_keeps (Some (NewConnection to)) p = ignored p
@@ -351,31 +352,31 @@ module _ (bytes : List ℕ) (now : ℕ) where
       handled_so p.allocations (unbound transport peer (permission_with (number_at bytes) p.allocations) (number_at bytes) p)
       (unbinds (permission_with (number_at bytes) p.allocations) p.allocations)
   unbound_keeps (Some (ChannelRenewal transport channel peer)) p =
-      handled_so p.allocations (lets_lapse transport peer (number_at bytes) p) (of_each (channels.let_lapse (number_at bytes)) (lapse_stay (number_at bytes)) p.allocations)
+      handled_so p.allocations (expires_due transport peer (number_at bytes) p) (of_each (channels.expire_due (number_at bytes)) (expire_stay (number_at bytes)) p.allocations)
   unbound_keeps (Some (NewPermission transport ip)) p = ignored p
   unbound_keeps (Some (Renewal transport ip)) p = ignored p
 
   binding_keeps : (p : Protocol) → Keeps p.allocations (IsBindResponded p bytes now)
   binding_keeps p = tested (is_error_class (class_of (kind_at bytes)))
-      (unbound_keeps (asked_by (number_at bytes) p.allocations) p) (bound_keeps (asked_by (number_at bytes) p.allocations) p)
+      (unbound_keeps (pending_request (number_at bytes) p.allocations) p) (bound_keeps (pending_request (number_at bytes) p.allocations) p)
 
-  -- a CONNECT
-  connects : (what : Option Asked) (told : Option ℕ) (old : List Allocation) → AreOf old (connections.answered what told (number_at bytes) old)
-  connects None told old = of_all old
-  connects (Some (Lifetime lifetime)) told old = of_all old
-  connects (Some (NewChannel transport channel peer)) told old = of_all old
-  connects (Some (ChannelRenewal transport channel peer)) told old = of_all old
-  connects (Some (NewPermission transport ip)) told old = of_all old
-  connects (Some (Renewal transport ip)) told old = of_all old
+  -- The response to a CONNECT.
+  connects : (what : Option PendingRequest) (reported : Option ℕ) (old : List Allocation) → AreOf old (connections.answered what reported (number_at bytes) old)
+  connects None reported old = of_all old
+  connects (Some (Lifetime lifetime)) reported old = of_all old
+  connects (Some (NewChannel transport channel peer)) reported old = of_all old
+  connects (Some (ChannelRenewal transport channel peer)) reported old = of_all old
+  connects (Some (NewPermission transport ip)) reported old = of_all old
+  connects (Some (Renewal transport ip)) reported old = of_all old
   connects (Some (NewConnection peer)) None old = of_each (connections.given_up (Some (number_at bytes))) (given_up_stay (Some (number_at bytes))) old
   connects (Some (NewConnection peer)) (Some connection) old = of_first (connections.connected connection peer (number_at bytes)) (λ a. refl) (awaits_reply (number_at bytes)) old
 
   connect_after : (p : Protocol) → AreOf p.allocations (after_connect bytes p).allocations
   unfolding after_connect
-  connect_after p = connects (asked_by (number_at bytes) p.allocations) (connection_told bytes) p.allocations
+  connect_after p = connects (pending_request (number_at bytes) p.allocations) (connection_reported bytes) p.allocations
 
   connect_keeps : (p : Protocol) → Keeps p.allocations (IsConnectResponded p bytes)
-  connect_keeps p = outcome (connections.is_connect (asked_by (number_at bytes) p.allocations)) p.allocations (after_connect bytes p) (connect_after p)
+  connect_keeps p = outcome (connections.is_connect (pending_request (number_at bytes) p.allocations)) p.allocations (after_connect bytes p) (connect_after p)
 
   request_keeps : (p : Protocol) → Keeps p.allocations (IsRequestAnswered p bytes now)
   request_keeps p = tested (method_of (kind_at bytes) == refresh_method) (handled_so p.allocations (after_refresh bytes now p) (refresh_after p))
@@ -387,7 +388,7 @@ module _ (bytes : List ℕ) (now : ℕ) where
   unfolding accepted
   request_accepted p = record { keeps = (request_keeps (accepted bytes p)).keeps }
 
-  -- the server's own request changes no connection
+  -- The server's own request changes no connection.
   answer_stays : (answer : AttemptAnswer) (p : Protocol) → AreOf p.allocations (answering answer (number_at bytes) p).allocations
   unfolding answering
   answer_stays answer p = of_all p.allocations
@@ -408,7 +409,7 @@ module _ (bytes : List ℕ) (now : ℕ) where
   attempt_of (Some connection) (Some peer) p = attempt_in (find (may_join peer p) p.allocations) connection peer p
 
   attempt_keeps : (p : Protocol) → Keeps p.allocations (IsAttemptTaken p bytes)
-  attempt_keeps p = tested (is_attempt bytes) (handled_so p.allocations (after_attempt bytes p) (attempt_of (connection_told bytes) (peer_told bytes) p)) (ignored p)
+  attempt_keeps p = tested (is_attempt bytes) (handled_so p.allocations (after_attempt bytes p) (attempt_of (connection_reported bytes) (peer_reported bytes) p)) (ignored p)
 
   taken_keeps : (p : Protocol) → Keeps p.allocations (IsTakenUp p bytes now)
   taken_keeps p = tested (is_response bytes && is_awaited p.agent bytes) (request_accepted p) (attempt_keeps p)
@@ -427,23 +428,23 @@ module _ (bytes : List ℕ) (now : ℕ) where
     followed_keeps : (follows : Follows) → ((verdict : Verdict) (p : Protocol) → Keeps p.allocations (follows verdict p bytes now)) → Keeps old.allocations (IsFollowed follows old bytes now)
     followed_keeps follows each = record { keeps = λ handled new h. (each h.verdict (judged h.auth old)).keeps handled new h.outcome }
 
-    heard_in : (phase : Phase) → Keeps old.allocations (IsHeardIn phase old bytes now)
-    heard_in Initial = ignored old
-    heard_in (InitialSent numbers) = tested (is_response bytes) (followed_keeps IsFirstJudged first_keeps) (ignored old)
-    heard_in (Authenticating numbers) = tested (is_response bytes && has_number (number_at bytes) numbers) (followed_keeps IsSignedJudged signed_keeps) (ignored old)
-    heard_in Authenticated = tested (is_indication (class_of (kind_at bytes))) (ignored old) (followed_keeps IsJudgedStanding standing_keeps)
-    heard_in Ended = ignored old
+    processed_in : (phase : Phase) → Keeps old.allocations (IsProcessedIn phase old bytes now)
+    processed_in Initial = ignored old
+    processed_in (InitialSent numbers) = tested (is_response bytes) (followed_keeps IsFirstJudged first_keeps) (ignored old)
+    processed_in (Authenticating numbers) = tested (is_response bytes && has_number (number_at bytes) numbers) (followed_keeps IsSignedJudged signed_keeps) (ignored old)
+    processed_in Authenticated = tested (is_indication (class_of (kind_at bytes))) (ignored old) (followed_keeps IsJudgedStanding standing_keeps)
+    processed_in Ended = ignored old
 
-    pub heard_keeps : Keeps old.allocations (IsHeard old bytes now)
-    heard_keeps = heard_in old.phase
+    pub processed_keeps : Keeps old.allocations (IsProcessed old bytes now)
+    processed_keeps = processed_in old.phase
 
 -- ---- bytes that wait
 
--- none wait of any connection
+-- No connection buffers bytes of its peer.
 abbrev pub NoneRaw : List Allocation → Type 0
 NoneRaw all = (a : Allocation) → IsIn a all → (c : Connection) → IsIn c a.connections → has_raw c ≡ true → ⊥
 
--- where one passes, one is found
+-- If an element passes, one is found.
 found_one : {X : Type 0} (p : X → Bool) (xs : List X) (x : X) → IsIn x xs → p x ≡ true → find p xs ≡ None → ⊥
 found_one p [] x h is none = h
 found_one p (y ∷ ys) x h is none = elim (cases_Bool (p y)) [
@@ -490,5 +491,5 @@ raw_none all none = by (first_raw all) refl
 pub still_none : (old new : List Allocation) → AreOf old new → first_raw old ≡ None → first_raw new ≡ None
 still_none old new are none = raw_none new (λ a listed c there raw. let was = are a listed c there in none_raw old none was.before was.listed c was.has raw)
 
-pub heard_none : (old : Protocol) (bytes : List ℕ) (now : ℕ) (handled : Bool) (new : Protocol) → IsHeard old bytes now handled new → first_raw old.allocations ≡ None → first_raw new.allocations ≡ None
-heard_none old bytes now handled new is none = still_none old.allocations new.allocations ((heard_keeps bytes now old).keeps handled new is) none
+pub processed_none : (old : Protocol) (bytes : List ℕ) (now : ℕ) (handled : Bool) (new : Protocol) → IsProcessed old bytes now handled new → first_raw old.allocations ≡ None → first_raw new.allocations ≡ None
+processed_none old bytes now handled new is none = still_none old.allocations new.allocations ((processed_keeps bytes now old).keeps handled new is) none

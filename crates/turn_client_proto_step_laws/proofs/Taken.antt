@@ -1,4 +1,4 @@
--- A number that a request is not given is taken.
+-- A transaction ID that a request may not get is taken.
 use Rattle.std.proofs.Common.{◌≡◌, ℕ, Bool, true, false, ◌||◌, List, eqb, Option, Some, None, refl, sym, ap, ◌∙◌, subst, inl, inr}
 use Rattle.std.proofs.lemmas.Bool.{cases_Bool, eqb-false, eqb-true}
 use Rattle.std.specs.Prelude.{is_some}
@@ -28,7 +28,7 @@ number_is : (number : ℕ) (o : Option ℕ) → is_number number o ≡ true → 
 number_is number None h = absurd (Prim.cc h)
 number_is number (Some n) h = ap Some (eqb-true n number h)
 
--- the CONNECTION_BIND that is awaited, and its number
+-- The CONNECTION_BIND that is awaited, and its transaction ID.
 record IsBoundBy (number : ℕ) (o : Option Binding) : Type 0 where
   binding : Binding
   is : o ≡ Some binding
@@ -135,7 +135,7 @@ first_true x y is = ap (λ b. b || y) is
 later_true : (x y : Bool) → y ≡ true → (x || y) ≡ true
 later_true x y is = ap (λ b. x || b) is ∙ or_true x
 
--- what an allocation awaits, kind by kind
+-- What an allocation awaits, kind by kind.
 module _ (number : ℕ) (a : Allocation) where
   abbrev from_bindings : Bool
   from_bindings = list_any (is_binding number) a.connections
@@ -203,12 +203,12 @@ listed_taken p number is =
     ∙ ap (λ b. is_some (map.get p.agent.outstanding number) || b) (or_true (awaits number p.phase))
     ∙ or_true (is_some (map.get p.agent.outstanding number))
 
--- a number that is not taken is awaited by no allocation
+-- A transaction ID that is not taken is awaited by no allocation.
 pub free_by : (p : Protocol) (number : ℕ) → is_taken p number ≡ false → IsFree (parts_of p) number
 free_by p number none a listed pending =
     Prim.cc (sym none ∙ listed_taken p number (any_passes (is_awaited number) p.allocations a listed (awaited_by number a pending)))
 
--- nothing is outstanding under it
+-- Nothing is outstanding with it.
 pub none_outstanding : (p : Protocol) (number : ℕ) (found : Option Transaction) → map.get p.agent.outstanding number ≡ found → is_taken p number ≡ false → found ≡ None
 unfolding is_taken
 none_outstanding p number None at none = refl

@@ -1,4 +1,4 @@
--- What becomes of an allocation where a connection that waited for its socket has one, and is to be bound.
+-- What becomes of an allocation if a connection that waited for its socket gets one, and is to be bound.
 use Rattle.std.proofs.Common.{◌≡◌, ◌⊎◌, ℕ, Bool, List, [], ◌∷◌, Some, sym, ap, ◌∙◌, subst, inl, inr}
 use Rattle.std.specs.List.{find}
 use Rattle.std.specs.declared.net.socket_addr.SocketAddr.{SocketAddr}
@@ -8,10 +8,10 @@ use Rattle.turn_client_proto_timers.specs.Peers.Channel.Numbers.{AreDistinct}
 use Rattle.turn_client_proto_timers.specs.Connection.Sockets.{binding, to_bind}
 use Rattle.turn_client_proto_timers.specs.TurnRuns.Members.{IsIn}
 use Rattle.turn_client_proto_timers.specs.TurnRuns.Messages as run
-use Rattle.turn_client_proto_step_laws.specs.ClientWords.{Has, HasItself, HasPermission, HasChannel, HasConnection, IsAttempted, IsWaiting, IsAnswered, IsKept, IsPending, OfPermission, OfChannel, OfNewPermission, OfNewChannel, OfRefresh, OfConnect, OfAttempt, OfBinding, IsTaken, Outstanding, Allocating, Pending, Knows, ByWaiting, ByConnection, Waits}
+use Rattle.turn_client_proto_step_laws.specs.ClientWords.{Has, HasItself, HasPermission, HasChannel, HasConnection, IsAttempted, IsWaiting, IsAnswered, IsStored, IsPending, OfPermission, OfChannel, OfNewPermission, OfNewChannel, OfRefresh, OfConnect, OfAttempt, OfBinding, IsTaken, Outstanding, Allocating, Pending, Knows, ByWaiting, ByConnection, Waits}
 use Rattle.turn_client_proto_step_laws.specs.Held.{Allocation, Binding, Connection}
 use Rattle.turn_client_proto_step_laws.specs.RunClient.{Parts}
-use Rattle.turn_client_proto_step_laws.specs.Sound.{AreAsked, AreBinding, AreConnecting, AreShort, AreWhole, AsksFor, IsOrderly}
+use Rattle.turn_client_proto_step_laws.specs.Sound.{AreRequested, AreBinding, AreConnecting, AreShort, AreWhole, AsksFor, IsOrderly}
 use Rattle.turn_client_proto_step_laws.proofs.Adding.{Adds, HasNumber}
 use Rattle.turn_client_proto_step_laws.proofs.Lists.{in_either, in_first, inside, found_in}
 
@@ -27,10 +27,10 @@ module _ (here peer : SocketAddr) (connection : ℕ) (awaited : Binding) where
     | inr own ↦ elim own [ inl same ↦ inr same | inr none ↦ absurd none ]
   ]
 
-  -- what awaits a number is the connection of before, or the one that is to be bound now
+  -- What awaits a transaction ID is a connection of before, or the one that is to be bound now.
   ties : (agent : Agent) (a : Allocation) → AsksFor agent (run.Connection here peer connection) awaited.number → AreConnecting agent a → AreConnecting agent (binding tied a)
   ties agent a asks is = record {
-    asked = is.asked;
+    requested = is.requested;
     whole = is.whole;
     binds = λ c there b awaits. elim (old_or_tied a c there) [
       | inl was ↦ is.binds c was b awaits
@@ -45,7 +45,7 @@ module _ (here peer : SocketAddr) (connection : ℕ) (awaited : Binding) where
     abbrev after : Allocation
     after = binding tied a
 
-    -- it is not bound yet
+    -- The connection is not bound yet.
     has_before : (h : run.Held) → Has after h → Has a h
     has_before h HasItself = HasItself
     has_before h (HasPermission p listed) = HasPermission p listed
@@ -83,7 +83,7 @@ module _ (here peer : SocketAddr) (connection : ℕ) (awaited : Binding) where
     abbrev all : List Allocation
     all = change_first passes (binding tied) p.allocations
 
-    -- it is there as it was; or it is the one that knew the connection
+    -- The allocation is there as it was; or it is the one that knew the connection.
     data WasTied (a : Allocation) : Type 0 where
       Still : IsIn a p.allocations → WasTied a
       Now : (before : Allocation) → find passes p.allocations ≡ Some before → IsIn before p.allocations → a ≡ binding tied before → WasTied a
@@ -94,19 +94,19 @@ module _ (here peer : SocketAddr) (connection : ℕ) (awaited : Binding) where
       | inr changed ↦ Now changed.0 changed.1 (found_in passes p.allocations changed.0 changed.1) changed.2
     ]
 
-    pub allocations_tying : (begun : List run.Message) → HasNumber awaited.number begun → Adds begun p (record p { allocations = all })
-    allocations_tying begun made = record {
+    pub allocations_tying : (started : List run.Message) → HasNumber awaited.number started → Adds started p (record p { allocations = all })
+    allocations_tying started made = record {
       outstanding = λ m h. inl h;
       queued = λ m h. inl h;
       taken = taken;
-      kept = λ h k. by_kept h k.allocation k.has (was_tied k.allocation k.listed);
+      stored = λ h k. by_stored h k.allocation k.has (was_tied k.allocation k.listed);
       waits = λ n to h. by_known n to h.allocation h.knows (was_tied h.allocation h.listed);
       attempted = attempted;
     }
       where
-        by_kept : (h : run.Held) (a : Allocation) → Has a h → WasTied a → IsKept p.allocations h
-        by_kept h a has (Still listed) = record { allocation = a; listed = listed; has = has }
-        by_kept h a has (Now before found listed is) =
+        by_stored : (h : run.Held) (a : Allocation) → Has a h → WasTied a → IsStored p.allocations h
+        by_stored h a has (Still listed) = record { allocation = a; listed = listed; has = has }
+        by_stored h a has (Now before found listed is) =
             record { allocation = before; listed = listed; has = has_before before (knew before found) h (subst (λ (x : Allocation). Has x h) is has) }
 
         by_known : (n : ℕ) (to : SocketAddr) (a : Allocation) → Knows a n to → WasTied a → Waits p.allocations n to
@@ -114,14 +114,14 @@ module _ (here peer : SocketAddr) (connection : ℕ) (awaited : Binding) where
         by_known n to a knows (Now before found listed is) =
             record { allocation = before; listed = listed; knows = knows_before before (knew before found) n to (subst (λ (x : Allocation). Knows x n to) is knows) }
 
-        by_pending : (n : ℕ) (a : Allocation) → IsPending n a → WasTied a → IsTaken p n ⊎ HasNumber n begun
+        by_pending : (n : ℕ) (a : Allocation) → IsPending n a → WasTied a → IsTaken p n ⊎ HasNumber n started
         by_pending n a pending (Still listed) = inl (Pending a listed pending)
         by_pending n a pending (Now before found listed is) = elim (pending_before before (knew before found) n (subst (λ (x : Allocation). IsPending n x) is pending)) [
           | inl was ↦ inl (Pending before listed was)
           | inr own ↦ inr (record { one = made.one; listed = made.listed; is = made.is ∙ own })
         ]
 
-        taken : (n : ℕ) → IsTaken (record p { allocations = all }) n → IsTaken p n ⊎ HasNumber n begun
+        taken : (n : ℕ) → IsTaken (record p { allocations = all }) n → IsTaken p n ⊎ HasNumber n started
         taken n (Outstanding t there) = inl (Outstanding t there)
         taken n (Allocating listed) = inl (Allocating listed)
         taken n (Pending a listed pending) = by_pending n a pending (was_tied a listed)
@@ -134,7 +134,7 @@ module _ (here peer : SocketAddr) (connection : ℕ) (awaited : Binding) where
             by (Still before) = IsWaiting a before w has number
             by (Now before found was is) = IsWaiting before was w (subst (λ (x : Allocation). IsIn w x.waiting) is has) number
 
-    -- what is outstanding under its number asks that it be bound
+    -- What is outstanding with its transaction ID asks that it be bound.
     pub tying_orderly : AsksFor p.agent (run.Connection here peer connection) awaited.number → AreDistinct all → IsOrderly p → IsOrderly (record p { allocations = all })
     tying_orderly asks distinct is = record {
       numbers = is.numbers;
@@ -142,9 +142,9 @@ module _ (here peer : SocketAddr) (connection : ℕ) (awaited : Binding) where
       allocates = is.allocates;
       queued = is.queued;
       lifetimes = λ a listed. each (λ x. AreShort x.pending_refreshes) (λ x h. h) is.lifetimes a (was_tied a listed);
-      permissions = λ a listed. each (AreAsked p.agent) (λ x h. h) is.permissions a (was_tied a listed);
-      channels = λ a listed. each (AreBinding p.agent) (λ x h. record { asked = h.asked; renewed = h.renewed }) is.channels a (was_tied a listed);
-      peers = λ a listed. each AreWhole (λ x h. record { asked = h.asked; standing = h.standing }) is.peers a (was_tied a listed);
+      permissions = λ a listed. each (AreRequested p.agent) (λ x h. h) is.permissions a (was_tied a listed);
+      channels = λ a listed. each (AreBinding p.agent) (λ x h. record { requested = h.requested; renewed = h.renewed }) is.channels a (was_tied a listed);
+      peers = λ a listed. each AreWhole (λ x h. record { requested = h.requested; standing = h.standing }) is.peers a (was_tied a listed);
       connects = λ a listed. each (AreConnecting p.agent) (λ x h. ties p.agent x asks h) is.connects a (was_tied a listed);
       distinct = distinct;
     }

@@ -1,4 +1,5 @@
--- What becomes of what is kept, by what came of a message: nothing is kept that wasn't; or the message was awaited and accepted, and no number was drawn.
+-- What becomes of a client's items, by the outcome of a message: nothing is there that wasn't before; or the
+-- message was awaited and accepted, and no transaction ID was generated.
 use Rattle.std.proofs.Common.{◌≡◌, ◌⊎◌, ℕ, ◌==◌, Bool, true, false, ◌&&◌, List, [], map, Option, Some, None, Ok, Err, if◌then◌else◌, refl, sym, ap, ◌∙◌, subst, inl, inr}
 use Rattle.std.specs.Bool.{MatchBool}
 use Rattle.std.specs.List.{find, list_any}
@@ -22,40 +23,40 @@ use Rattle.turn_client_proto_timers.specs.Allocation.Awaited.{asks_for_permissio
 use Rattle.turn_client_proto_timers.specs.Allocation.Changes.{change_first}
 use Rattle.turn_client_proto_timers.specs.Allocation.Permissions as permissions
 use Rattle.turn_client_proto_timers.specs.Allocation.Refreshing.{ends_by, refreshing, renewed}
-use Rattle.turn_client_proto_timers.specs.Allocation.Requested.{asked_by, asked_too, awaits_reply, permission_too}
+use Rattle.turn_client_proto_timers.specs.Allocation.PendingRequests.{pending_request, reissued_under, awaits_reply, permission_too}
 use Rattle.turn_client_proto_timers.specs.Allocation.Channels as channels
-use Rattle.turn_client_proto_timers.specs.Allocation.declared.requested.Asked.{Asked}
-use Rattle.turn_client_proto_timers.specs.Allocation.declared.requested.Asked.TheVariants.{ChannelRenewal, Lifetime, NewChannel, NewConnection, NewPermission, Renewal}
+use Rattle.turn_client_proto_timers.specs.Allocation.declared.pending.PendingRequest.{PendingRequest}
+use Rattle.turn_client_proto_timers.specs.Allocation.declared.pending.PendingRequest.TheVariants.{ChannelRenewal, Lifetime, NewChannel, NewConnection, NewPermission, Renewal}
 use Rattle.turn_client_proto_timers.specs.Connection.Attempts.{attempted, is_joining}
 use Rattle.turn_client_proto_timers.specs.Connection.Sockets.{closed, has_from, is_from}
 use Rattle.turn_client_proto_timers.specs.Connection.Streams.{awaiting, waits_in}
-use Rattle.turn_client_proto_timers.specs.Connection.Told.{is_connect}
-use Rattle.turn_client_proto_recv.specs.Hearing.{IsAnswerHeard, IsAnswerJudged, IsAskedAnew, IsHeardAt, IsOfBinding, IsSettled, asked_anew, awaited_at, bound_at, broken_off, is_answer, is_of_binding, is_success_class}
-use Rattle.turn_client_proto_recv.specs.declared.hearing.Joining.{Joining}
+use Rattle.turn_client_proto_timers.specs.Connection.Reported.{is_connect}
+use Rattle.turn_client_proto_recv.specs.Processing.{IsAnswerProcessed, IsAnswerJudged, IsRequestedAnew, IsProcessedAt, IsOfBinding, IsSettled, requested_anew, awaited_at, bound_at, aborted, is_answer, is_of_binding, is_success_class}
+use Rattle.turn_client_proto_recv.specs.declared.processing.Joining.{Joining}
 use Rattle.turn_client_proto_timers.specs.TurnRuns.Indications.{is_indication}
-use Rattle.turn_client_proto_timers.specs.Messages.Told.{connection_told, lifetime_told, peer_told}
+use Rattle.turn_client_proto_timers.specs.Messages.Reported.{connection_reported, lifetime_reported, peer_reported}
 use Rattle.turn_client_proto_timers.specs.Messages.Judging.{IsJudged}
 use Rattle.turn_client_proto_timers.specs.Messages.declared.answer.AttemptAnswer.{AttemptAnswer}
 use Rattle.turn_client_proto_timers.specs.Messages.declared.answer.AttemptAnswer.TheVariants.{AlreadyExists, BadRequest}
 use Rattle.turn_client_proto_recv.specs.Sockets.{binding_time}
 use Rattle.turn_client_proto_timers.specs.Core.Allocating.{IsAllocatedFor, allocated, brought}
-use Rattle.turn_client_proto_timers.specs.Core.Asking.{asked}
+use Rattle.turn_client_proto_timers.specs.Core.Asking.{requested}
 use Rattle.turn_client_proto_timers.specs.Core.Attempting.{IsAttemptTaken, after_attempt, after_attempt_in, after_attempt_of, answering, is_attempt, may_join}
-use Rattle.turn_client_proto_timers.specs.Core.Authenticating.{IsAccepted, IsAllocateAnswered, IsAllocatingAgain, IsChallenged, IsErrorAnswered, IsFirstJudged, IsSignedJudged, IsTurnedAway, allocates_again, allocates_other, family_left}
-use Rattle.turn_client_proto_timers.specs.Core.Binding.{IsBindResponded, IsBoundFor, IsUnboundFor, bound, lets_lapse, permission_with, renews_channels, unbound}
+use Rattle.turn_client_proto_timers.specs.Core.Authenticating.{IsAccepted, IsAllocateAnswered, IsAllocatingAgain, IsChallenged, IsErrorAnswered, IsFirstJudged, IsSignedJudged, IsUnauthenticated, allocates_again, allocates_other, family_left}
+use Rattle.turn_client_proto_timers.specs.Core.Binding.{IsBindResponded, IsBoundFor, IsUnboundFor, bound, expires_due, permission_with, renews_channels, unbound}
 use Rattle.turn_client_proto_timers.specs.Core.Deleting.{is_authenticated}
 use Rattle.turn_client_proto_timers.specs.Core.Ending.{ended}
-use Rattle.turn_client_proto_timers.specs.StunTypesBase.Moments.{moment_after}
+use Rattle.turn_client_proto_timers.specs.StunTypesBase.Times.{time_after}
 use Rattle.turn_client_proto_timers.specs.Core.Outcomes.{IsHandled, IsIgnored}
 use Rattle.turn_client_proto_timers.specs.Core.Permitting as asking
 use Rattle.turn_client_proto_timers.specs.Core.Permitting.{IsGrantedFor, IsPermissionResponded, IsRefusedFor}
-use Rattle.turn_client_proto_timers.specs.Core.Receiving.{Follows, IsFollowed, IsHeard, IsHeardIn}
+use Rattle.turn_client_proto_timers.specs.Core.Receiving.{Follows, IsFollowed, IsProcessed, IsProcessedIn}
 use Rattle.turn_client_proto_timers.specs.Core.Responding.{accepted, answered, challenged, is_error_class, is_tired, judged}
-use Rattle.turn_client_proto_timers.specs.Core.Standing.{IsAskedAgain, IsConnectResponded, IsJudgedStanding, IsRechallenged, IsRequestAnswered, IsTakenUp, after_connect, after_refresh, asks_again, deallocated, is_refreshed, refreshed}
+use Rattle.turn_client_proto_timers.specs.Core.Standing.{IsRequestedAgain, IsConnectResponded, IsJudgedStanding, IsRechallenged, IsRequestAnswered, IsTakenUp, after_connect, after_refresh, asks_again, deallocated, is_refreshed, refreshed}
 use Rattle.turn_client_proto_timers.specs.Core.declared.protocol.Phase.{Phase}
 use Rattle.turn_client_proto_timers.specs.Core.declared.protocol.Phase.TheVariants.{Initial, InitialSent, Authenticating, Authenticated, Ended}
 use Rattle.turn_client_proto_timers.specs.Core.declared.protocol.Protocol.{Protocol}
-use Rattle.turn_client_proto_step_laws.specs.ClientWords.{Has, HasItself, HasPermission, HasChannel, HasConnection, IsKept}
+use Rattle.turn_client_proto_step_laws.specs.ClientWords.{Has, HasItself, HasPermission, HasChannel, HasConnection, IsStored}
 use Rattle.turn_client_proto_step_laws.specs.Held.{Allocation, Binding, Channel, Connection, PendingRefresh, Permission}
 use Rattle.turn_client_proto_step_laws.specs.RunClient.{parts_of}
 use Rattle.turn_client_proto_step_laws.proofs.Adding.{AreLess, allocations_less}
@@ -67,22 +68,22 @@ use Rattle.turn_client_proto_step_laws.proofs.Polling.{by_test}
 use Rattle.turn_client_proto_step_laws.proofs.Realms.{IsGoing, going_at}
 use Rattle.turn_client_proto_step_laws.proofs.Requesting.{authenticated}
 
--- ---- nothing is kept that wasn't
+-- ---- nothing is stored that wasn't
 
 abbrev pub NoMore : List Allocation → List Allocation → Type 0
-NoMore old new = (h : run.Held) → IsKept new h → IsKept old h
+NoMore old new = (h : run.Held) → IsStored new h → IsStored old h
 
 same_more : (all : List Allocation) → NoMore all all
 same_more all h k = k
 
 less_more : (p : Protocol) (new : List Allocation) → AreLess [] p.allocations new → NoMore p.allocations new
-less_more p new less = (allocations_less [] [] (parts_of p) new less (λ r h. absurd h)).kept
+less_more p new less = (allocations_less [] [] (parts_of p) new less (λ r h. absurd h)).stored
 
--- a change after which an allocation has nothing more
+-- A change after which an allocation has nothing more.
 abbrev NothingMore : (Allocation → Allocation) → Type 0
 NothingMore f = (a : Allocation) (h : run.Held) → Has (f a) h → Has a h
 
--- the first that passes is changed so
+-- The first allocation that passes is changed in this way.
 first_more : (f : Allocation → Allocation) → NothingMore f → (passes : Allocation → Bool) (old : List Allocation) → NoMore old (change_first passes f old)
 first_more f none passes old h k = elim (in_changed passes f k.allocation old k.listed) [
   | inl was ↦ record { allocation = k.allocation; listed = was; has = k.has }
@@ -96,7 +97,7 @@ first_more f none passes old h k = elim (in_changed passes f k.allocation old k.
 -- ---- a request that is made once more
 
 module _ (old number : ℕ) where
-  new_permissions : NothingMore (λ a. record a { pending_permissions = permissions.asked_again old number a.pending_permissions })
+  new_permissions : NothingMore (λ a. record a { pending_permissions = permissions.requested_again old number a.pending_permissions })
   new_permissions a h HasItself = HasItself
   new_permissions a h (HasPermission p listed) = HasPermission p listed
   new_permissions a h (HasChannel c listed) = HasChannel c listed
@@ -115,12 +116,12 @@ module _ (old number : ℕ) where
   unfolding permission_too
   with_permission a h = by (list_any (asks_for_permission old) a.pending_permissions)
     where
-      by : (b : Bool) → Has (if b then record a { pending_permissions = permissions.asked_again old number a.pending_permissions }
+      by : (b : Bool) → Has (if b then record a { pending_permissions = permissions.requested_again old number a.pending_permissions }
           else record a { permissions = permissions.renewed_again old number a.permissions }) h → Has a h
       by true = new_permissions a h
       by false = renewed_permissions a h
 
-  new_channels : NothingMore (λ a. record a { pending_channels = channels.asked_again old number a.pending_channels })
+  new_channels : NothingMore (λ a. record a { pending_channels = channels.requested_again old number a.pending_channels })
   new_channels a h HasItself = HasItself
   new_channels a h (HasPermission p listed) = HasPermission p listed
   new_channels a h (HasChannel c listed) = HasChannel c listed
@@ -141,19 +142,19 @@ module _ (old number : ℕ) where
   one_refresh refresh a h (HasChannel c listed) = HasChannel c listed
   one_refresh refresh a h (HasConnection c listed bound) = HasConnection c listed bound
 
-  one_connect : (peer : SocketAddr) → NothingMore (asked_too (NewConnection peer) old number)
+  one_connect : (peer : SocketAddr) → NothingMore (reissued_under (NewConnection peer) old number)
   one_connect peer a h HasItself = HasItself
   one_connect peer a h (HasPermission p listed) = HasPermission p listed
   one_connect peer a h (HasChannel c listed) = HasChannel c listed
   one_connect peer a h (HasConnection c listed bound) = HasConnection c listed bound
 
-  asked_more : (what : Asked) → NothingMore (asked_too what old number)
-  asked_more (Lifetime lifetime) a h has = one_refresh (record { number = number; lifetime = lifetime }) a h has
-  asked_more (NewChannel transport channel peer) a h has = new_channels a h (with_permission _ h has)
-  asked_more (ChannelRenewal transport channel peer) a h has = renewed_channels a h (with_permission _ h has)
-  asked_more (NewPermission transport ip) a h has = new_permissions a h has
-  asked_more (Renewal transport ip) a h has = renewed_permissions a h has
-  asked_more (NewConnection peer) a h has = one_connect peer a h has
+  requested_more : (what : PendingRequest) → NothingMore (reissued_under what old number)
+  requested_more (Lifetime lifetime) a h has = one_refresh (record { number = number; lifetime = lifetime }) a h has
+  requested_more (NewChannel transport channel peer) a h has = new_channels a h (with_permission _ h has)
+  requested_more (ChannelRenewal transport channel peer) a h has = renewed_channels a h (with_permission _ h has)
+  requested_more (NewPermission transport ip) a h has = new_permissions a h has
+  requested_more (Renewal transport ip) a h has = renewed_permissions a h has
+  requested_more (NewConnection peer) a h has = one_connect peer a h has
 
 -- ---- other changes
 
@@ -163,7 +164,7 @@ attempt_more connection peer number a h (HasPermission p listed) = HasPermission
 attempt_more connection peer number a h (HasChannel c listed) = HasChannel c listed
 attempt_more connection peer number a h (HasConnection c listed bound) = HasConnection c listed bound
 
--- a connection that awaits a response is not bound
+-- A connection that awaits a response is not bound.
 waits_more : (here : SocketAddr) (b : Binding) → NothingMore (waits_in here (Some b))
 waits_more here b a h HasItself = HasItself
 waits_more here b a h (HasPermission p listed) = HasPermission p listed
@@ -175,18 +176,19 @@ waits_more here b a h (HasConnection c listed bound) = elim (in_changed (is_from
 
 -- ---- what came of a message
 
--- a message was accepted by a client that has not ended, by an algorithm
+-- A client that has not ended accepted the message, by some algorithm.
 pub record IsAcceptedBy (old : Protocol) (bytes : List ℕ) : Type 0 where
   pub going : IsGoing old.phase
   pub algorithm : IntegrityAlgorithm
   pub signer : signers.Client
   pub valid : IsJudged old.auth bytes (Ok (Validated algorithm)) signer
 
--- nothing is kept that wasn't; or the message was awaited and accepted, and no number was drawn
+-- Nothing is there that wasn't before; or the message was awaited and accepted, and no transaction ID was
+-- generated.
 abbrev pub Comes : (Signed : Type 0) → (bytes : List ℕ) → List Allocation → Agent → ChaCha → Protocol → Type 0
 Comes Signed bytes allocations agent rng new = NoMore allocations new.allocations ⊎ ((is_awaited agent bytes ≡ true) × (new.rng ≡ rng) × Signed)
 
--- nothing is kept that wasn't, or no number was drawn
+-- Nothing is there that wasn't before, or no transaction ID was generated.
 abbrev ComesQuietly : Protocol → Protocol → Type 0
 ComesQuietly p new = NoMore p.allocations new.allocations ⊎ (new.rng ≡ p.rng)
 
@@ -241,12 +243,12 @@ module _ (Signed : Type 0) (bytes : List ℕ) (now : ℕ) where
   unfolding ended answered
   over_answered p = same_more p.allocations
 
-  asked_again : (p : Protocol) (number : ℕ) → NoMore p.allocations (challenged bytes (allocates_again number now p)).allocations
-  unfolding challenged allocates_again asked
-  asked_again p number = same_more p.allocations
+  requested_again : (p : Protocol) (number : ℕ) → NoMore p.allocations (challenged bytes (allocates_again number now p)).allocations
+  unfolding challenged allocates_again requested
+  requested_again p number = same_more p.allocations
 
   again_keeps : (p : Protocol) → Keeps Signed bytes p (IsAllocatingAgain p bytes now)
-  again_keeps p = record { keeps = λ handled new h. (handled_so bytes p _ (asked_again p h.number)).keeps handled new h.outcome }
+  again_keeps p = record { keeps = λ handled new h. (handled_so bytes p _ (requested_again p h.number)).keeps handled new h.outcome }
 
   challenged_keeps : (p : Protocol) → Keeps Signed bytes p (IsChallenged p bytes now)
   challenged_keeps p =
@@ -254,46 +256,46 @@ module _ (Signed : Type 0) (bytes : List ℕ) (now : ℕ) where
       (λ _. tested bytes (is_tired p) (λ _. handled_so bytes p (ended p) (over p)) (λ _. again_keeps p))
       (λ _. ignored bytes p)
 
-  turned_keeps : (p : Protocol) → Keeps Signed bytes p (IsTurnedAway p bytes)
+  turned_keeps : (p : Protocol) → Keeps Signed bytes p (IsUnauthenticated p bytes)
   turned_keeps p = tested bytes (is_awaited p.agent bytes) (λ _. handled_so bytes p (ended (answered bytes p)) (over_answered p)) (λ _. ignored bytes p)
 
-  -- an ALLOCATE
+  -- The response to an ALLOCATE.
   over_rng : (p : Protocol) → (ended p).rng ≡ p.rng
   unfolding ended
   over_rng p = refl
 
-  other_asked : (p : Protocol) (family : AddressFamily) (number : ℕ) → NoMore p.allocations (allocates_other family number now p).allocations
-  unfolding allocates_other asked
-  other_asked p family number = same_more p.allocations
+  other_requested : (p : Protocol) (family : AddressFamily) (number : ℕ) → NoMore p.allocations (allocates_other family number now p).allocations
+  unfolding allocates_other requested
+  other_requested p family number = same_more p.allocations
 
   error_quiet : (left : Option AddressFamily) (p : Protocol) → IsQuiet p (IsErrorAnswered left p now)
   error_quiet None p = quiet_handled (ended p) (over_rng p)
   error_quiet (Some family) p = record {
-    quiet = λ handled new h. inl (subst (λ (x : Protocol). NoMore p.allocations x.allocations) (sym h.outcome.1) (other_asked p family h.number));
+    quiet = λ handled new h. inl (subst (λ (x : Protocol). NoMore p.allocations x.allocations) (sym h.outcome.1) (other_requested p family h.number));
   }
 
   allocated_rng : (p : Protocol) (all : List Allocation) → (allocated all p).rng ≡ p.rng
   unfolding allocated
   allocated_rng p all = refl
 
-  allocated_quiet : (told : Option ℕ) (p : Protocol) → IsQuiet p (IsAllocatedFor told p bytes now)
+  allocated_quiet : (reported : Option ℕ) (p : Protocol) → IsQuiet p (IsAllocatedFor reported p bytes now)
   allocated_quiet None p = quiet_handled (ended p) (over_rng p)
   allocated_quiet (Some lifetime) p = quiet_handled (allocated (brought p bytes lifetime now) p) (allocated_rng p (brought p bytes lifetime now))
 
   class_quiet : (class : MessageClass) (p : Protocol) → IsQuiet p (IsAllocateAnswered class p bytes now)
   class_quiet Error p = error_quiet (family_left p bytes) p
-  class_quiet Success p = allocated_quiet (lifetime_told bytes) p
+  class_quiet Success p = allocated_quiet (lifetime_reported bytes) p
   class_quiet Request p = quiet_handled p refl
   class_quiet Indication p = quiet_handled p refl
 
-  -- a message that is awaited was accepted
+  -- An awaited message was accepted.
   accepts : Signed → (p : Protocol) (leads : Leads) → is_awaited p.agent bytes ≡ true → IsQuiet (accepted bytes p) leads → Keeps Signed bytes p leads
   unfolding accepted
   accepts own p leads awaited is = record {
     keeps = λ handled new h. elim (is.quiet handled new h) [ inl more ↦ inl more | inr same ↦ inr (awaited, same, own) ];
   }
 
-  -- a message that was accepted, if this verdict accepts it
+  -- The message was accepted, if this verdict accepts it.
   abbrev SignedIf : Verdict → Type 0
   SignedIf verdict = (algorithm : IntegrityAlgorithm) → verdict ≡ Ok (Validated algorithm) → Signed
 
@@ -321,24 +323,24 @@ module _ (Signed : Type 0) (bytes : List ℕ) (now : ℕ) where
 
   -- ---- where the server has allocated
 
-  sent_again : (what : Asked) (p : Protocol) (number : ℕ) → NoMore p.allocations (challenged bytes (asks_again what (number_at bytes) number now p)).allocations
-  unfolding challenged asks_again asked
-  sent_again what p number = first_more (asked_too what (number_at bytes) number) (asked_more (number_at bytes) number what) (awaits_reply (number_at bytes)) p.allocations
+  sent_again : (what : PendingRequest) (p : Protocol) (number : ℕ) → NoMore p.allocations (challenged bytes (asks_again what (number_at bytes) number now p)).allocations
+  unfolding challenged asks_again requested
+  sent_again what p number = first_more (reissued_under what (number_at bytes) number) (requested_more (number_at bytes) number what) (awaits_reply (number_at bytes)) p.allocations
 
-  asked_keeps : (what : Option Asked) (p : Protocol) → Keeps Signed bytes p (IsAskedAgain what p bytes now)
-  asked_keeps None p = ignored bytes p
-  asked_keeps (Some what) p = record { keeps = λ handled new h. (handled_so bytes p _ (sent_again what p h.number)).keeps handled new h.outcome }
+  requested_keeps : (what : Option PendingRequest) (p : Protocol) → Keeps Signed bytes p (IsRequestedAgain what p bytes now)
+  requested_keeps None p = ignored bytes p
+  requested_keeps (Some what) p = record { keeps = λ handled new h. (handled_so bytes p _ (sent_again what p h.number)).keeps handled new h.outcome }
 
   rechallenged_keeps : (p : Protocol) → Keeps Signed bytes p (IsRechallenged p bytes now)
   rechallenged_keeps p =
       tested bytes (is_tired p) (λ _. handled_so bytes p (ended p) (over p))
-      (λ _. tested bytes (is_awaited p.agent bytes) (λ _. asked_keeps (asked_by (number_at bytes) p.allocations) p) (λ _. ignored bytes p))
+      (λ _. tested bytes (is_awaited p.agent bytes) (λ _. requested_keeps (pending_request (number_at bytes) p.allocations) p) (λ _. ignored bytes p))
 
-  -- a REFRESH
+  -- The response to a REFRESH.
   refreshed_rng : (p : Protocol) → (refreshed bytes now p).rng ≡ p.rng
   unfolding refreshed deallocated
   refreshed_rng p =
-      elim (list_any (ends_by (number_at bytes)) p.allocations) as (λ (b : Bool). (if b then deallocated p else record p { allocations = map (renewed (number_at bytes) now (lifetime_told bytes)) p.allocations }).rng ≡ p.rng) [
+      elim (list_any (ends_by (number_at bytes)) p.allocations) as (λ (b : Bool). (if b then deallocated p else record p { allocations = map (renewed (number_at bytes) now (lifetime_reported bytes)) p.allocations }).rng ≡ p.rng) [
         | true ↦ refl
         | false ↦ refl
       ]
@@ -351,8 +353,8 @@ module _ (Signed : Type 0) (bytes : List ℕ) (now : ℕ) where
         | false ↦ refl
       ]
 
-  -- a CREATE_PERMISSION
-  granted_quiet : (what : Option Asked) (p : Protocol) → IsQuiet p (IsGrantedFor what p (number_at bytes) now)
+  -- The response to a CREATE_PERMISSION.
+  granted_quiet : (what : Option PendingRequest) (p : Protocol) → IsQuiet p (IsGrantedFor what p (number_at bytes) now)
   unfolding asking.granted asking.renews
   granted_quiet None p = quiet_still
   granted_quiet (Some (Lifetime lifetime)) p = quiet_still
@@ -362,7 +364,7 @@ module _ (Signed : Type 0) (bytes : List ℕ) (now : ℕ) where
   granted_quiet (Some (NewPermission transport ip)) p = quiet_handled (asking.granted transport ip (number_at bytes) now p) refl
   granted_quiet (Some (Renewal transport ip)) p = quiet_handled (asking.renews (number_at bytes) now p) refl
 
-  refused_quiet : (what : Option Asked) (p : Protocol) → IsQuiet p (IsRefusedFor what p (number_at bytes))
+  refused_quiet : (what : Option PendingRequest) (p : Protocol) → IsQuiet p (IsRefusedFor what p (number_at bytes))
   unfolding asking.refused
   refused_quiet None p = quiet_still
   refused_quiet (Some (Lifetime lifetime)) p = quiet_still
@@ -374,10 +376,10 @@ module _ (Signed : Type 0) (bytes : List ℕ) (now : ℕ) where
 
   permission_quiet : (p : Protocol) → IsQuiet p (IsPermissionResponded p bytes now)
   permission_quiet p = quiet_tested (is_error_class (class_of (kind_at bytes)))
-      (refused_quiet (asked_by (number_at bytes) p.allocations) p) (granted_quiet (asked_by (number_at bytes) p.allocations) p)
+      (refused_quiet (pending_request (number_at bytes) p.allocations) p) (granted_quiet (pending_request (number_at bytes) p.allocations) p)
 
-  -- a CHANNEL_BIND
-  bound_quiet : (what : Option Asked) (p : Protocol) → IsQuiet p (IsBoundFor what p (number_at bytes) now)
+  -- The response to a CHANNEL_BIND.
+  bound_quiet : (what : Option PendingRequest) (p : Protocol) → IsQuiet p (IsBoundFor what p (number_at bytes) now)
   unfolding bound renews_channels
   bound_quiet None p = quiet_still
   bound_quiet (Some (Lifetime lifetime)) p = quiet_still
@@ -387,27 +389,27 @@ module _ (Signed : Type 0) (bytes : List ℕ) (now : ℕ) where
   bound_quiet (Some (NewPermission transport ip)) p = quiet_still
   bound_quiet (Some (Renewal transport ip)) p = quiet_still
 
-  unbound_quiet : (what : Option Asked) (p : Protocol) → IsQuiet p (IsUnboundFor what p (number_at bytes))
-  unfolding unbound lets_lapse
+  unbound_quiet : (what : Option PendingRequest) (p : Protocol) → IsQuiet p (IsUnboundFor what p (number_at bytes))
+  unfolding unbound expires_due
   unbound_quiet None p = quiet_still
   unbound_quiet (Some (Lifetime lifetime)) p = quiet_still
   unbound_quiet (Some (NewConnection to)) p = quiet_still
   unbound_quiet (Some (NewChannel transport channel peer)) p = quiet_handled (unbound transport peer (permission_with (number_at bytes) p.allocations) (number_at bytes) p) refl
-  unbound_quiet (Some (ChannelRenewal transport channel peer)) p = quiet_handled (lets_lapse transport peer (number_at bytes) p) refl
+  unbound_quiet (Some (ChannelRenewal transport channel peer)) p = quiet_handled (expires_due transport peer (number_at bytes) p) refl
   unbound_quiet (Some (NewPermission transport ip)) p = quiet_still
   unbound_quiet (Some (Renewal transport ip)) p = quiet_still
 
   binding_quiet : (p : Protocol) → IsQuiet p (IsBindResponded p bytes now)
   binding_quiet p = quiet_tested (is_error_class (class_of (kind_at bytes)))
-      (unbound_quiet (asked_by (number_at bytes) p.allocations) p) (bound_quiet (asked_by (number_at bytes) p.allocations) p)
+      (unbound_quiet (pending_request (number_at bytes) p.allocations) p) (bound_quiet (pending_request (number_at bytes) p.allocations) p)
 
-  -- a CONNECT
+  -- The response to a CONNECT.
   connect_rng : (p : Protocol) → (after_connect bytes p).rng ≡ p.rng
   unfolding after_connect
   connect_rng p = refl
 
   connect_quiet : (p : Protocol) → IsQuiet p (IsConnectResponded p bytes)
-  connect_quiet p = quiet_so (is_connect (asked_by (number_at bytes) p.allocations)) (after_connect bytes p) (connect_rng p)
+  connect_quiet p = quiet_so (is_connect (pending_request (number_at bytes) p.allocations)) (after_connect bytes p) (connect_rng p)
 
   request_quiet : (p : Protocol) → IsQuiet p (IsRequestAnswered p bytes now)
   request_quiet p = quiet_tested (method_of (kind_at bytes) == refresh_method) (quiet_handled (after_refresh bytes now p) (refresh_rng p))
@@ -415,7 +417,7 @@ module _ (Signed : Type 0) (bytes : List ℕ) (now : ℕ) where
       (quiet_tested (method_of (kind_at bytes) == channel_bind_method) (binding_quiet p)
       (quiet_tested (method_of (kind_at bytes) == connect_method) (connect_quiet p) quiet_still)))
 
-  -- the server's own request
+  -- The server's own request.
   answer_more : (answer : AttemptAnswer) (p : Protocol) → NoMore p.allocations (answering answer (number_at bytes) p).allocations
   unfolding answering
   answer_more answer p = same_more p.allocations
@@ -438,7 +440,7 @@ module _ (Signed : Type 0) (bytes : List ℕ) (now : ℕ) where
   attempt_keeps : (p : Protocol) → Keeps Signed bytes p (IsAttemptTaken p bytes)
   attempt_keeps p =
       tested bytes (is_attempt bytes)
-      (λ _. handled_so bytes p (after_attempt bytes p) (attempt_of (connection_told bytes) (peer_told bytes) p)) (λ _. ignored bytes p)
+      (λ _. handled_so bytes p (after_attempt bytes p) (attempt_of (connection_reported bytes) (peer_reported bytes) p)) (λ _. ignored bytes p)
 
   taken_keeps : Signed → (p : Protocol) → Keeps Signed bytes p (IsTakenUp p bytes now)
   taken_keeps own p =
@@ -467,20 +469,20 @@ module _ (bytes : List ℕ) (now : ℕ) (old : Protocol) where
         (each h.verdict own (judged h.auth old)).keeps handled new h.outcome;
   }
 
-  heard_in : (phase : Phase) → old.phase ≡ phase → Keeps (IsAcceptedBy old bytes) bytes old (IsHeardIn phase old bytes now)
-  heard_in Initial at = ignored bytes old
-  heard_in (InitialSent numbers) at =
-      tested bytes (is_response bytes) (λ _. followed_keeps IsFirstJudged (going_at old.phase (InitialSent numbers) at (λ kept. refl)) (first_keeps (IsAcceptedBy old bytes) bytes now)) (λ _. ignored bytes old)
-  heard_in (Authenticating numbers) at =
+  processed_in : (phase : Phase) → old.phase ≡ phase → Keeps (IsAcceptedBy old bytes) bytes old (IsProcessedIn phase old bytes now)
+  processed_in Initial at = ignored bytes old
+  processed_in (InitialSent numbers) at =
+      tested bytes (is_response bytes) (λ _. followed_keeps IsFirstJudged (going_at old.phase (InitialSent numbers) at (λ stored. refl)) (first_keeps (IsAcceptedBy old bytes) bytes now)) (λ _. ignored bytes old)
+  processed_in (Authenticating numbers) at =
       tested bytes (is_response bytes && has_number (number_at bytes) numbers)
-      (λ _. followed_keeps IsSignedJudged (going_at old.phase (Authenticating numbers) at (λ kept. refl)) (signed_keeps (IsAcceptedBy old bytes) bytes now)) (λ _. ignored bytes old)
-  heard_in Authenticated at =
+      (λ _. followed_keeps IsSignedJudged (going_at old.phase (Authenticating numbers) at (λ stored. refl)) (signed_keeps (IsAcceptedBy old bytes) bytes now)) (λ _. ignored bytes old)
+  processed_in Authenticated at =
       tested bytes (is_indication (class_of (kind_at bytes))) (λ _. ignored bytes old)
-      (λ _. followed_keeps IsJudgedStanding (going_at old.phase Authenticated at (λ kept. refl)) (standing_keeps (IsAcceptedBy old bytes) bytes now))
-  heard_in Ended at = ignored bytes old
+      (λ _. followed_keeps IsJudgedStanding (going_at old.phase Authenticated at (λ stored. refl)) (standing_keeps (IsAcceptedBy old bytes) bytes now))
+  processed_in Ended at = ignored bytes old
 
-  pub heard_keeps : Keeps (IsAcceptedBy old bytes) bytes old (IsHeard old bytes now)
-  heard_keeps = heard_in old.phase refl
+  pub processed_keeps : Keeps (IsAcceptedBy old bytes) bytes old (IsProcessed old bytes now)
+  processed_keeps = processed_in old.phase refl
 
 -- ---- a message that came over the socket of a connection
 
@@ -493,26 +495,26 @@ module _ (Signed : Type 0) (here : SocketAddr) (bytes : List ℕ) (now : ℕ) (n
       inl (subst (λ (l : List Allocation). NoMore p.allocations l) (sym is)
       (less_more p (map (closed here) p.allocations) (each_less [] (closed here) (closed_less here) p.allocations)))
 
-  broken : (peer : SocketAddr) (p : Protocol) → new ≡ broken_off here peer p → ComesTo p
-  unfolding broken_off
-  broken peer p is = breaks p (ap (λ (x : Protocol). x.allocations) is)
+  invalid : (peer : SocketAddr) (p : Protocol) → new ≡ aborted here peer p → ComesTo p
+  unfolding aborted
+  invalid peer p is = breaks p (ap (λ (x : Protocol). x.allocations) is)
 
-  broken_accepted : (peer : SocketAddr) (p : Protocol) → new ≡ broken_off here peer (accepted bytes p) → ComesTo p
-  unfolding broken_off accepted
-  broken_accepted peer p is = breaks p (ap (λ (x : Protocol). x.allocations) is)
+  invalid_accepted : (peer : SocketAddr) (p : Protocol) → new ≡ aborted here peer (accepted bytes p) → ComesTo p
+  unfolding aborted accepted
+  invalid_accepted peer p is = breaks p (ap (λ (x : Protocol). x.allocations) is)
 
-  broken_answered : (peer : SocketAddr) (p : Protocol) → new ≡ broken_off here peer (answered bytes p) → ComesTo p
-  unfolding broken_off answered
-  broken_answered peer p is = breaks p (ap (λ (x : Protocol). x.allocations) is)
+  invalid_answered : (peer : SocketAddr) (p : Protocol) → new ≡ aborted here peer (answered bytes p) → ComesTo p
+  unfolding aborted answered
+  invalid_answered peer p is = breaks p (ap (λ (x : Protocol). x.allocations) is)
 
   binds : Signed → (peer : SocketAddr) (p : Protocol) → is_awaited p.agent bytes ≡ true → new ≡ bound_at here peer (accepted bytes p) → ComesTo p
   unfolding bound_at accepted
   binds own peer p awaited is = inr (awaited, ap (λ (x : Protocol). x.rng) is, own)
 
-  asks_anew : (connection : ℕ) (p : Protocol) → IsAskedAnew here connection now p new → ComesTo p
-  unfolding asked_anew
+  asks_anew : (connection : ℕ) (p : Protocol) → IsRequestedAnew here connection now p new → ComesTo p
+  unfolding requested_anew
   asks_anew connection p is =
-      let binding : Binding = record { number = is.number; expiry = moment_after now binding_time } in
+      let binding : Binding = record { number = is.number; expiry = time_after now binding_time } in
       inl (subst (λ (l : List Allocation). NoMore p.allocations l) (sym (ap (λ (x : Protocol). x.allocations) is.after))
       (first_more (waits_in here (Some binding)) (waits_more here binding) (has_from here) p.allocations))
 
@@ -521,17 +523,17 @@ module _ (Signed : Type 0) (here : SocketAddr) (bytes : List ℕ) (now : ℕ) (n
       by_test (is_awaited p.agent bytes)
       (λ (awaited : is_awaited p.agent bytes ≡ true) one. by_test (is_success_class (class_of (kind_at bytes)))
       (λ (_ : is_success_class (class_of (kind_at bytes)) ≡ true) (o : new ≡ bound_at here peer (accepted bytes p)). binds own peer p awaited o)
-      (λ (_ : is_success_class (class_of (kind_at bytes)) ≡ false) (o : new ≡ broken_off here peer (accepted bytes p)). broken_accepted peer p o)
+      (λ (_ : is_success_class (class_of (kind_at bytes)) ≡ false) (o : new ≡ aborted here peer (accepted bytes p)). invalid_accepted peer p o)
       one)
-      (λ (_ : is_awaited p.agent bytes ≡ false) (o : new ≡ broken_off here peer p). broken peer p o) h
+      (λ (_ : is_awaited p.agent bytes ≡ false) (o : new ≡ aborted here peer p). invalid peer p o) h
 
   judges : (verdict : Verdict) → ((algorithm : IntegrityAlgorithm) → verdict ≡ Ok (Validated algorithm) → Signed) → (j : Joining) (p : Protocol) → IsAnswerJudged verdict here j p bytes now new → ComesTo p
   judges (Ok (ResendRequest choice)) own j p h = asks_anew j.connection p h
   judges (Ok (Validated algorithm)) own j p h = settles (own algorithm refl) j.peer p h
   judges (Err NoMemory) own j p h = absurd h
-  judges (Err Unauthorized) own j p h = broken_answered j.peer p h
-  judges (Err (IntegrityFailed algorithm)) own j p h = broken_answered j.peer p h
-  judges (Err UnsupportedFeature) own j p h = broken_answered j.peer p h
+  judges (Err Unauthorized) own j p h = invalid_answered j.peer p h
+  judges (Err (IntegrityFailed algorithm)) own j p h = invalid_answered j.peer p h
+  judges (Err UnsupportedFeature) own j p h = invalid_answered j.peer p h
 
 module _ (here : SocketAddr) (bytes : List ℕ) (now : ℕ) (new old : Protocol) where
   abbrev ComesOf : Type 0
@@ -544,18 +546,18 @@ module _ (here : SocketAddr) (bytes : List ℕ) (now : ℕ) (new old : Protocol)
   of_binding None going h = stays h
   of_binding (Some j) going h =
       by_test (is_answer j.number bytes)
-      (λ (_ : is_answer j.number bytes ≡ true) (o : IsAnswerHeard here j old bytes now new).
+      (λ (_ : is_answer j.number bytes ≡ true) (o : IsAnswerProcessed here j old bytes now new).
       let own : (algorithm : IntegrityAlgorithm) → o.verdict ≡ Ok (Validated algorithm) → IsAcceptedBy old bytes =
       λ algorithm same. record { going = going; algorithm = algorithm; signer = o.auth; valid = subst (λ (v : Verdict). IsJudged old.auth bytes v o.auth) same o.is_judged } in
       judges (IsAcceptedBy old bytes) here bytes now new o.verdict own j (judged o.auth old) o.outcome)
-      (λ (_ : is_answer j.number bytes ≡ false) (o : new ≡ broken_off here j.peer old). broken (IsAcceptedBy old bytes) here bytes now new j.peer old o) h
+      (λ (_ : is_answer j.number bytes ≡ false) (o : new ≡ aborted here j.peer old). invalid (IsAcceptedBy old bytes) here bytes now new j.peer old o) h
 
-  pub heard_at_comes : IsHeardAt here old bytes now new → ComesOf
-  heard_at_comes is =
+  pub processed_at_comes : IsProcessedAt here old bytes now new → ComesOf
+  processed_at_comes is =
       by_test (is_of_binding old bytes)
       (λ (passes : is_of_binding old bytes ≡ true) (o : IsOfBinding (awaited_at here old.allocations) here old bytes now new).
-      let stands = authenticated old.phase (both_so (is_authenticated old.phase) (method_of (kind_at bytes) == connection_bind_method) passes).0 in
-      of_binding (awaited_at here old.allocations) (going_at old.phase Authenticated stands (λ kept. refl)) o)
+      let occurs = authenticated old.phase (both_so (is_authenticated old.phase) (method_of (kind_at bytes) == connection_bind_method) passes).0 in
+      of_binding (awaited_at here old.allocations) (going_at old.phase Authenticated occurs (λ stored. refl)) o)
       (λ (_ : is_of_binding old bytes ≡ false) (o : new ≡ old). stays o) is
 
 -- ---- where it is not awaited

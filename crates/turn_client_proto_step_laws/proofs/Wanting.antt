@@ -15,7 +15,7 @@ use Rattle.turn_client_proto_step_laws.specs.RunClient.{Parts}
 use Rattle.turn_client_proto_step_laws.specs.Sound.{IsOrderly, IsWhole}
 use Rattle.turn_client_proto_step_laws.proofs.Lists.{found_in}
 
--- the first channel of an allocation that is to be renewed has this number and this peer
+-- The first channel of an allocation that is to be renewed has this number and this peer.
 pub record IsToRenew (now : ℕ) (a : Allocation) (channel : ℕ) (peer : SocketAddr) : Type 0 where
   pub first : Channel
   pub found : find (wants_renewal now) a.channels ≡ Some first
@@ -23,16 +23,16 @@ pub record IsToRenew (now : ℕ) (a : Allocation) (channel : ℕ) (peer : Socket
   pub peer_is : first.peer ≡ peer
 
 module _ (now : ℕ) (channel : ℕ) (peer : SocketAddr) where
-  -- it is what is to be sent for the allocation
+  -- The channel is what is to be sent for the allocation.
   to_renew : (a : Allocation) → want now a ≡ Some (what.Channel channel peer) → IsToRenew now a channel peer
   unfolding want channels.renewal_wanted
-  to_renew a h = by (wants_refresh now a) (permissions.stands now a) (find (wants_renewal now) a.channels) (permissions.renewal_wanted now a) refl h
+  to_renew a h = by (wants_refresh now a) (permissions.occurs now a) (find (wants_renewal now) a.channels) (permissions.renewal_wanted now a) refl h
     where
-      by : (refreshes stands : Bool) (found : Option Channel) (ip : Option IpAddr) → find (wants_renewal now) a.channels ≡ found
+      by : (refreshes occurs : Bool) (found : Option Channel) (ip : Option IpAddr) → find (wants_renewal now) a.channels ≡ found
           → (if refreshes then Some what.Refresh
-          else option_or (option_map (λ (c : ℕ × SocketAddr). what.Channel c.0 c.1) (if stands then option_map (λ (c : Channel). (c.number, c.peer)) found else None)) (option_map what.Permission ip)) ≡ Some (what.Channel channel peer)
+          else option_or (option_map (λ (c : ℕ × SocketAddr). what.Channel c.0 c.1) (if occurs then option_map (λ (c : Channel). (c.number, c.peer)) found else None)) (option_map what.Permission ip)) ≡ Some (what.Channel channel peer)
           → IsToRenew now a channel peer
-      by true stands found ip at is = absurd (Prim.cc is)
+      by true occurs found ip at is = absurd (Prim.cc is)
       by false true (Some c) ip at is = record { first = c; found = at; number_is = Prim.cc is; peer_is = Prim.cc is }
       by false true None (Some ip) at is = absurd (Prim.cc is)
       by false true None None at is = absurd (Prim.cc is)
@@ -40,11 +40,11 @@ module _ (now : ℕ) (channel : ℕ) (peer : SocketAddr) where
       by false false found None at is = absurd (Prim.cc is)
 
   module _ (all : List Allocation) (is : wanted now all ≡ Some (what.Channel channel peer)) where
-    -- of the first allocation for which something is to be sent
+    -- The allocation is the first for which something is to be sent.
     pub first_to_renew : (a : Allocation) → find (wants now) all ≡ Some a → IsToRenew now a channel peer
     first_to_renew a found = to_renew a (sym (ap (option_and_then (want now)) found) ∙ is)
 
--- its peer can be named in a request
+-- XOR-PEER-ADDRESS carries its peer completely.
 pub renewal_whole : (now : ℕ) (channel : ℕ) (peer : SocketAddr) (p : Parts) → wanted now p.allocations ≡ Some (what.Channel channel peer) → IsOrderly p → IsWhole peer
 renewal_whole now channel peer p is orderly = by (find (wants now) p.allocations) refl
   where

@@ -6,12 +6,13 @@ use Rattle.turn_client_proto_timers.specs.Core.declared.protocol.Protocol.{Proto
 use Rattle.turn_client_proto_step_laws.specs.RunClient.{Client}
 use Rattle.turn_client_proto_step_laws.specs.Sound.{stream_from}
 
--- a client of which nothing was asked: its numbers are drawn from the generator of a seed, and none was; and no frame waits
+-- A client on which nothing was called yet: its transaction IDs come from the generator of a seed, none was
+-- generated, and no frame is buffered.
 abbrev pub first_client : NameAndPassword → (seed : List ℕ) → Protocol → Client
 first_client credentials seed core = record {
   credentials = credentials;
   seed = stream_from (of_seed seed);
-  drawn = 0;
+  transmitted = 0;
   core = core;
   waiting = [];
 }

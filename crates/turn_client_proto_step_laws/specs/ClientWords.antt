@@ -1,5 +1,5 @@
--- A client in the words of a run. Each word speaks of a part of the client, so that a step which leaves that
--- part keeps it.
+-- The client in the vocabulary of a run. Each definition looks at one part of the client only, so that a step
+-- which does not change that part preserves it.
 use Rattle.std.specs.Prelude.{◌≡◌, ℕ, true, false, List, Option, Some, None}
 use Rattle.std.specs.FinMap as map
 use Rattle.std.specs.List.{filter_map}
@@ -26,14 +26,14 @@ use Rattle.turn_client_proto_step_laws.specs.RunClient.{Client, Parts, numbers_b
 
 -- ---- the challenge
 
--- the challenge under which a client signs and validates: the one that it keeps. A client that has ended takes up no
--- message and signs none, so that it has none
+-- The challenge under which a client signs and validates: the stored one. A client that has ended handles and
+-- signs no message, so it has none.
 abbrev pub challenge_in : Phase → Option Challenge → Option Challenge
-challenge_in Initial kept = kept
-challenge_in (InitialSent numbers) kept = kept
-challenge_in (Authenticating numbers) kept = kept
-challenge_in Authenticated kept = kept
-challenge_in Ended kept = None
+challenge_in Initial stored = stored
+challenge_in (InitialSent numbers) stored = stored
+challenge_in (Authenticating numbers) stored = stored
+challenge_in Authenticated stored = stored
+challenge_in Ended stored = None
 
 abbrev pub challenge_of : Protocol → Option Challenge
 challenge_of p = challenge_in p.phase p.auth.challenge
@@ -46,44 +46,44 @@ choice_in challenge = option_map (λ (c : Challenge). c.choice) challenge
 
 -- ---- requests
 
--- some outstanding request shows this message
+-- Some outstanding request shows this message.
 pub record IsOutstanding (agent : Agent) (m : run.Message) : Type 0 where
   pub number : ℕ
   pub transaction : Transaction
   pub there : map.get agent.outstanding number ≡ Some transaction
-  pub shows : stun_wire.shown transaction.bytes ≡ Some m
+  pub shows : stun_wire.visible transaction.bytes ≡ Some m
 
--- some request that waits to be drawn shows this message
+-- Some queued request, not transmitted yet, shows this message.
 pub record IsQueued (queue : List Queued) (m : run.Message) : Type 0 where
   pub queued : Queued
   pub listed : IsIn queued queue
   pub is_request : queued.is_request ≡ true
-  pub shows : stun_wire.shown queued.bytes ≡ Some m
+  pub shows : stun_wire.visible queued.bytes ≡ Some m
 
--- ---- numbers
+-- ---- transaction IDs
 
--- one of an allocation's lists has this number
-pub data IsPending (number : ℕ) (a : Allocation) : Type 0 where
-  OfPermission : (p : Permission) → IsIn p a.permissions → IsIn number p.renewals → IsPending number a
-  OfChannel : (c : Channel) → IsIn c a.channels → IsIn number c.renewals → IsPending number a
-  OfNewPermission : (p : PendingPermission) → IsIn p a.pending_permissions → IsIn number p.numbers → IsPending number a
-  OfNewChannel : (c : PendingChannel) → IsIn c a.pending_channels → IsIn number c.numbers → IsPending number a
-  OfRefresh : (r : PendingRefresh) → IsIn r a.pending_refreshes → r.number ≡ number → IsPending number a
-  OfConnect : (c : Connecting) → IsIn c a.connecting → c.number ≡ number → IsPending number a
-  OfAttempt : (w : Waiting) → IsIn w a.waiting → w.attempt ≡ Some number → IsPending number a
-  OfBinding : (c : Connection) → IsIn c a.connections → (b : Binding) → c.awaited ≡ Some b → b.number ≡ number
-      → IsPending number a
+-- One of the allocation's lists contains this transaction ID.
+pub data IsPending (transaction_id : ℕ) (a : Allocation) : Type 0 where
+  OfPermission : (p : Permission) → IsIn p a.permissions → IsIn transaction_id p.renewals → IsPending transaction_id a
+  OfChannel : (c : Channel) → IsIn c a.channels → IsIn transaction_id c.renewals → IsPending transaction_id a
+  OfNewPermission : (p : PendingPermission) → IsIn p a.pending_permissions → IsIn transaction_id p.numbers → IsPending transaction_id a
+  OfNewChannel : (c : PendingChannel) → IsIn c a.pending_channels → IsIn transaction_id c.numbers → IsPending transaction_id a
+  OfRefresh : (r : PendingRefresh) → IsIn r a.pending_refreshes → r.number ≡ transaction_id → IsPending transaction_id a
+  OfConnect : (c : Connecting) → IsIn c a.connecting → c.number ≡ transaction_id → IsPending transaction_id a
+  OfAttempt : (w : Waiting) → IsIn w a.waiting → w.attempt ≡ Some transaction_id → IsPending transaction_id a
+  OfBinding : (c : Connection) → IsIn c a.connections → (b : Binding) → c.awaited ≡ Some b → b.number ≡ transaction_id
+      → IsPending transaction_id a
 
--- a number that a request is not given: it is outstanding; an ALLOCATE was sent under it, and none is answered; or it is
--- pending
-pub data IsTaken (p : Parts) (number : ℕ) : Type 0 where
-  Outstanding : (t : Transaction) → map.get p.agent.outstanding number ≡ Some t → IsTaken p number
-  Allocating : IsIn number (numbers_sent p.phase) → IsTaken p number
-  Pending : (a : Allocation) → IsIn a p.allocations → IsPending number a → IsTaken p number
+-- A transaction ID that a new request may not get: a request with it is outstanding; or an ALLOCATE was sent
+-- with it, and no ALLOCATE is answered yet; or it is pending in an allocation.
+pub data IsTaken (p : Parts) (transaction_id : ℕ) : Type 0 where
+  Outstanding : (t : Transaction) → map.get p.agent.outstanding transaction_id ≡ Some t → IsTaken p transaction_id
+  Allocating : IsIn transaction_id (numbers_sent p.phase) → IsTaken p transaction_id
+  Pending : (a : Allocation) → IsIn a p.allocations → IsPending transaction_id a → IsTaken p transaction_id
 
 -- ---- what is held
 
--- an allocation has this, whether marked as expired or not
+-- The allocation has this item, whether it is marked as expired or not.
 pub data Has (a : Allocation) : run.Held → Type 0 where
   HasItself : Has a (run.Allocation a.transport a.address)
   HasPermission : (p : Permission) → IsIn p a.permissions → Has a (run.Permission a.transport p.ip)
@@ -91,38 +91,38 @@ pub data Has (a : Allocation) : run.Held → Type 0 where
   HasConnection : (c : Connection) → IsIn c a.connections → c.awaited ≡ None
       → Has a (run.Connection c.here c.peer c.connection)
 
-pub record IsKept (allocations : List Allocation) (held : run.Held) : Type 0 where
+pub record IsStored (allocations : List Allocation) (held : run.Held) : Type 0 where
   pub allocation : Allocation
   pub listed : IsIn allocation allocations
   pub has : Has allocation held
 
--- what getters show: that of allocations which are not marked as expired
+-- What getters list: the items of the allocations that are not marked as expired.
 pub record IsHeld (allocations : List Allocation) (held : run.Held) : Type 0 where
   pub allocation : Allocation
   pub listed : IsIn allocation allocations
-  pub stands : allocation.is_expired ≡ false
+  pub occurs : allocation.is_expired ≡ false
   pub has : Has allocation held
 
 -- ---- connections
 
--- a connection to a peer that may be bound, or is
-pub data Knows (a : Allocation) : (number : ℕ) (peer : SocketAddr) → Type 0 where
+-- The allocation has a connection to this peer that may be bound, or is bound.
+pub data Knows (a : Allocation) : (transaction_id : ℕ) (peer : SocketAddr) → Type 0 where
   ByWaiting : (w : Waiting) → IsIn w a.waiting → Knows a w.connection w.peer
   ByConnection : (c : Connection) → IsIn c a.connections → Knows a c.connection c.peer
 
-pub record Waits (allocations : List Allocation) (number : ℕ) (peer : SocketAddr) : Type 0 where
+pub record Waits (allocations : List Allocation) (transaction_id : ℕ) (peer : SocketAddr) : Type 0 where
   pub allocation : Allocation
   pub listed : IsIn allocation allocations
-  pub knows : Knows allocation number peer
+  pub knows : Knows allocation transaction_id peer
 
--- a request of the server's own that is not answered, or whose response waits to be drawn
-pub data IsAttempted (allocations : List Allocation) (queue : List Queued) (number : ℕ) : Type 0 where
-  IsWaiting : (a : Allocation) → IsIn a allocations → (w : Waiting) → IsIn w a.waiting → w.attempt ≡ Some number
-      → IsAttempted allocations queue number
-  IsAnswered : (q : Queued) → IsIn q queue → q.is_request ≡ false → number_at q.bytes ≡ number
-      → IsAttempted allocations queue number
+-- A request of the server's that is not answered, or whose response is queued.
+pub data IsAttempted (allocations : List Allocation) (queue : List Queued) (transaction_id : ℕ) : Type 0 where
+  IsWaiting : (a : Allocation) → IsIn a allocations → (w : Waiting) → IsIn w a.waiting → w.attempt ≡ Some transaction_id
+      → IsAttempted allocations queue transaction_id
+  IsAnswered : (q : Queued) → IsIn q queue → q.is_request ≡ false → number_at q.bytes ≡ transaction_id
+      → IsAttempted allocations queue transaction_id
 
--- ---- what is told
+-- ---- what is reported
 
 abbrev pub notice_of : TurnEvent → Option run.Notice
 notice_of (AllocationCreated transport relayed) = Some (run.AllocationCreated transport relayed)
@@ -140,12 +140,12 @@ client_words = record {
   realm = λ c. realm_in (challenge_of c.core);
   algorithm = λ c. choice_in (challenge_of c.core);
   seed = λ c. c.seed;
-  count = λ c. c.drawn;
+  count = λ c. c.transmitted;
   given = λ before after. numbers_between before.core.rng after.core.rng;
   IsOutstanding = λ c. IsOutstanding c.core.agent;
   IsQueued = λ c. IsQueued c.core.queue;
   IsTaken = λ c. IsTaken (parts_of c.core);
-  IsKept = λ c. IsKept c.core.allocations;
+  IsStored = λ c. IsStored c.core.allocations;
   IsHeld = λ c. IsHeld c.core.allocations;
   Waits = λ c. Waits c.core.allocations;
   IsAttempted = λ c. IsAttempted c.core.allocations c.core.queue;
@@ -153,6 +153,6 @@ client_words = record {
   created = λ c. filter_map notice_of c.core.events;
 }
 
--- what is said of such a client and a desk, by STUN's bytes
+-- The vocabulary of a run of such a client and a server core, on STUN's bytes.
 abbrev pub run_words : {D : Type 0} → DeskWords D → Words Client D
 run_words desk = record { wire = stun_wire; client = client_words; desk = desk }

@@ -1,7 +1,7 @@
--- What a client keeps of an allocation, by name.
+-- What a client stores of an allocation, by name.
 pub use Rattle.turn_client_proto_timers.specs.Allocation.declared.allocation.Allocation.{Allocation}
 pub use Rattle.turn_client_proto_timers.specs.Allocation.declared.channel.Channel.{Channel}
-pub use Rattle.turn_client_proto_timers.specs.Allocation.declared.channel.LapsedChannel.{LapsedChannel}
+pub use Rattle.turn_client_proto_timers.specs.Allocation.declared.channel.ExpiredChannel.{ExpiredChannel}
 pub use Rattle.turn_client_proto_timers.specs.Allocation.declared.channel.PendingChannel.{PendingChannel}
 pub use Rattle.turn_client_proto_timers.specs.Allocation.declared.connection.Binding.{Binding}
 pub use Rattle.turn_client_proto_timers.specs.Allocation.declared.connection.Connecting.{Connecting}

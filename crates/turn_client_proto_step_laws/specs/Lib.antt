@@ -8,7 +8,7 @@ pub mod Adding
 pub mod Cuts
 pub mod Order
 pub mod SocketCuts
--- What stands above this crate has these through it.
+-- Crates above this one get these definitions through it.
 pub use Rattle.turn_client_proto_timers.specs.Connection as Connection
 pub use Rattle.turn_client_proto_timers.specs.Peers as Peers
 pub use Rattle.turn_client_proto_recv.specs.Payload as Payload

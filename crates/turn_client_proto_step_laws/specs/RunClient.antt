@@ -11,29 +11,30 @@ use Rattle.turn_client_proto_timers.specs.Messages.Waiting.{Queued}
 use Rattle.turn_client_proto_timers.specs.Core.declared.protocol.Phase.{Phase}
 use Rattle.turn_client_proto_timers.specs.Core.declared.protocol.Protocol.{Protocol}
 
--- a client in a run: whose it is, which stream its numbers are drawn from, and how many were so far; what its
--- protocol core keeps; and the whole frames that came over TCP and wait, the oldest first
+-- A client in a run: its user's credentials; the random stream from which its transaction IDs come, and the
+-- count of those generated so far; the state of its protocol core; and the complete frames received over TCP
+-- that are buffered, the oldest first.
 pub record Client : Type 0 where
   pub credentials : NameAndPassword
   pub seed : Stream
-  pub drawn : ℕ
+  pub transmitted : ℕ
   pub core : Protocol
   pub waiting : List (List ℕ)
 
--- the client after a call, when so many numbers were drawn
+-- The client after a call, with this count of generated transaction IDs and this core.
 abbrev pub moved : Client → ℕ → Protocol → Client
-moved c drawn core = record c { drawn = drawn; core = core }
+moved c generated core = record c { transmitted = generated; core = core }
 
--- how many words a generator gave on its way from one place to another; behind the last place, 2 ^ 68 - 1, comes
--- the first
+-- The count of words that a generator gave between two positions. After the last position, 2 ^ 68 - 1, comes
+-- the first.
 abbrev pub words_between : (before after : ChaCha) → ℕ
 words_between before after = (after.word_pos + (2 ^ 68 - before.word_pos % 2 ^ 68)) % 2 ^ 68
 
--- how many numbers that are
+-- The count of transaction IDs that those words make.
 abbrev pub numbers_between : (before after : ChaCha) → ℕ
 numbers_between before after = words_between before after / number_words
 
--- the parts of a core that a run tells of
+-- The parts of a core that a run looks at.
 pub record Parts : Type 0 where
   pub agent : Agent
   pub phase : Phase

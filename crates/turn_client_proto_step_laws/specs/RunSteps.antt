@@ -7,30 +7,32 @@ use Rattle.turn_client_proto_step_laws.specs.ClientWords.{client_words}
 use Rattle.turn_client_proto_step_laws.specs.RunClient.{Client}
 use Rattle.turn_client_proto_step_laws.specs.Sound.{IsSound}
 
--- a call in which messages came and were taken up at once, bytes were drawn, or things answered as created
-abbrev pub call_of : Client → (came : List (List ℕ)) → (drawn : Option (List ℕ)) → List Notice → Client → Call Client
-call_of before came drawn answered after = record {
+-- A call in which messages were received and handled at once, bytes were transmitted, or items were reported
+-- as created.
+abbrev pub call_of : Client → (came : List (List ℕ)) → (generated : Option (List ℕ)) → List Notice → Client → Call Client
+call_of before came generated answered after = record {
   before = before;
   came = came;
   handled = came;
-  drawn = drawn;
+  transmitted = generated;
   answered = answered;
   payloads = [];
-  shown = [];
+  visible = [];
   after = after;
 }
 
--- such a call leaves the client with this core: it is a step of a run, as many numbers count as drawn as the generator
--- gave, and the client is sound again
-pub record IsRunStep (before : Client) (came : List (List ℕ)) (drawn : Option (List ℕ)) (answered : List Notice)
+-- The call leaves the client with this core and with the same buffered frames. It is a step of a run, so
+-- every transaction ID that the generator gave is counted; and the client's invariant holds afterwards.
+pub record IsRunStep (before : Client) (came : List (List ℕ)) (generated : Option (List ℕ)) (answered : List Notice)
     (core : Protocol) : Type 0 where
   pub after : Client
   pub core_is : after.core ≡ core
   pub waits : after.waiting ≡ before.waiting
-  pub step : ClientStep client_words (call_of before came drawn answered after)
+  pub step : ClientStep client_words (call_of before came generated answered after)
   pub sound : IsSound after
 
--- a message or a channel frame came, and by it these payloads were handed over; nothing was drawn or answered
+-- A message or a channel frame was received, and these payloads were delivered from it. Nothing was
+-- transmitted or reported.
 pub record IsGiving (before : Client) (bytes : List ℕ) (payloads : List Payload) (core : Protocol) : Type 0 where
   pub after : Client
   pub core_is : after.core ≡ core
@@ -38,8 +40,8 @@ pub record IsGiving (before : Client) (bytes : List ℕ) (payloads : List Payloa
   pub step : ClientStep client_words (record (call_of before (bytes ∷ []) None [] after) { payloads = payloads })
   pub sound : IsSound after
 
--- nothing came that is a message or a frame, and these payloads were handed over: bytes of the peers of bound connections,
--- which had come over their sockets. Nothing was drawn or answered
+-- No message or frame was received, and these payloads were delivered: bytes of the peers of bound
+-- connections, which had come over their sockets. Nothing was transmitted or reported.
 pub record IsPassingOn (before : Client) (payloads : List Payload) (core : Protocol) : Type 0 where
   pub after : Client
   pub core_is : after.core ≡ core
@@ -47,17 +49,17 @@ pub record IsPassingOn (before : Client) (payloads : List Payload) (core : Proto
   pub step : ClientStep client_words (record (call_of before [] None [] after) { payloads = payloads })
   pub sound : IsSound after
 
--- a message came, and nothing was drawn or answered
+-- A message was received and handled. Nothing was transmitted or reported.
 abbrev pub IsReceiving : Client → List ℕ → Protocol → Type 0
 IsReceiving before bytes core = IsRunStep before (bytes ∷ []) None [] core
 
--- nothing came, and nothing was drawn or answered
+-- Nothing was received, transmitted or reported.
 abbrev pub IsSilent : Client → Protocol → Type 0
 IsSilent before core = IsRunStep before [] None [] core
 
 -- ---- over TCP
 
--- frames came whole, and none was taken up: afterwards these wait
+-- Complete frames were received, and none was handled. Afterwards the frames `waiting` are buffered.
 pub record IsComing (before : Client) (came waiting : List (List ℕ)) : Type 0 where
   pub after : Client
   pub core_is : after.core ≡ before.core
@@ -65,7 +67,7 @@ pub record IsComing (before : Client) (came waiting : List (List ℕ)) : Type 0 
   pub step : ClientStep client_words (record (call_of before came None [] after) { handled = [] })
   pub sound : IsSound after
 
--- the oldest frame that waited was taken up, and by it these payloads were handed over
+-- The oldest buffered frame was handled, and these payloads were delivered from it.
 pub record IsTakingUp (before : Client) (frame : List ℕ) (payloads : List Payload) (core : Protocol) : Type 0 where
   pub after : Client
   pub core_is : after.core ≡ core

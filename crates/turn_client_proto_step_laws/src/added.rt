@@ -1,7 +1,7 @@
-//! What a message that came adds to what a client keeps: allocations, permissions, channels and bound
-//! connections (RFC 8656, sections 7.3, 10.3 and 12.3; RFC 6062, section 4.3). A response adds what its
-//! own request asked for, and nothing else adds anything. The functions here do nothing; each contract
-//! is a law.
+//! What a received message adds to a client's state: allocations, permissions, channels and bound
+//! connections (RFC 8656, sections 7.3, 10.3 and 12.3; RFC 6062, section 4.3). A response adds what
+//! its own request asked for, and nothing else adds anything. The functions here do nothing; each
+//! contract is a theorem.
 
 ghost use Rattle.std.specs.Prelude.{◌≡◌, ℕ, List, [], Bool, false, None};
 ghost use Rattle.std.specs.declared.net.socket_addr.SocketAddr.{SocketAddr};
@@ -9,9 +9,9 @@ ghost use Rattle.turn_client_proto_timers.specs.StunProtoAgent.Handling.{is_awai
 ghost use Rattle.turn_client_proto_timers.specs.StunTypesWire.Grammar.{refusal};
 ghost use Rattle.turn_client_proto_timers.specs.StunTypesWire.Headers.{AreBytes};
 ghost use Rattle.turn_client_proto_timers.specs.StunTypesWire.declared.algorithm.IntegrityAlgorithm.{IntegrityAlgorithm};
-ghost use Rattle.turn_client_proto_timers.specs.Core.Receiving.{IsHeard};
+ghost use Rattle.turn_client_proto_timers.specs.Core.Receiving.{IsProcessed};
 ghost use Rattle.turn_client_proto_timers.specs.Core.declared.protocol.Protocol.{Protocol};
-ghost use Rattle.turn_client_proto_recv.specs.Hearing.{IsHeardAt};
+ghost use Rattle.turn_client_proto_recv.specs.Processing.{IsProcessedAt};
 ghost use Rattle.turn_client_proto_timers.specs.TurnRuns.Steps.{Call, ClientStep};
 ghost use Rattle.turn_client_proto_timers.specs.TurnRuns.StunWire.{AreValid};
 ghost use Rattle.turn_client_proto_step_laws.specs.Adding.{AddsAnswered, AddsNothing, IsSignedFor, ShowNoIntegrity};
@@ -19,50 +19,63 @@ ghost use Rattle.turn_client_proto_step_laws.specs.ClientWords.{client_words};
 ghost use Rattle.turn_client_proto_step_laws.specs.RunClient.{Client};
 ghost use Rattle.turn_client_proto_step_laws.specs.Sound.{IsSound};
 
-/// What a message adds is what it brings as the success response to a request of the client's own. It
-/// validates under the client's key: that of its name and password, in the realm of the challenge that it
-/// keeps, by the algorithm that it chose for that challenge (RFC 8489, sections 9.2.2 and 9.2.5). The
-/// request of its number was outstanding, is so no more, and asked for that very thing: an allocation over
-/// that transport, a permission for that address, a channel of that number to that peer, or that a
-/// connection of that number be bound (RFC 8656, sections 7.3, 10.3 and 12.3; RFC 6062, section 4.3). It is
-/// so of a message of the control connection (`heard`), and of one that came over the socket of a
-/// connection (`heard_at`).
+/// Whatever a message adds, it adds as the success response to one of the client's own requests
+/// (RFC 8656, sections 7.3, 10.3 and 12.3; RFC 6062, section 4.3).
+///
+/// Premises: the client's invariant holds, and the bytes, which parse as a message, came to the
+/// client. Conclusion: each item that the client has afterwards it had before, or all of this
+/// holds:
+///
+/// - The message validates under the client's key, which belongs to its name and password, the
+///   realm of its stored challenge, and the algorithm that it chose for that challenge (RFC 8489,
+///   sections 9.2.2 and 9.2.5).
+/// - A request with the message's transaction ID was outstanding, and no longer is.
+/// - That request asked for this very item: an allocation over this transport, a permission for
+///   this address, a channel with this number to this peer, or that the connection with this
+///   connection ID be bound.
+///
+/// `processed` is about messages of the control connection, `processed_at` about those that came
+/// over the socket of a connection to a peer.
 pub fn answers_alone_add()
-    ensures heard { (c : Client) (bytes : List ℕ) (now : ℕ) (handled : Bool) (new : Protocol)
+    ensures processed { (c : Client) (bytes : List ℕ) (now : ℕ) (handled : Bool) (new : Protocol)
         → IsSound c
         → AreBytes bytes
         → refusal bytes ≡ None
-        → IsHeard c.core bytes now handled new
+        → IsProcessed c.core bytes now handled new
         → AddsAnswered c bytes new }
-    ensures heard_at { (c : Client) (here : SocketAddr) (bytes : List ℕ) (now : ℕ) (new : Protocol)
+    ensures processed_at { (c : Client) (here : SocketAddr) (bytes : List ℕ) (now : ℕ) (new :
+        Protocol)
         → IsSound c
         → AreBytes bytes
         → refusal bytes ≡ None
-        → IsHeardAt here c.core bytes now new
+        → IsProcessedAt here c.core bytes now new
         → AddsAnswered c bytes new }
 {}
 
-/// A message that is not signed, or is signed wrongly, adds nothing: where it does not validate under the
-/// client's one key, all that is kept afterwards was kept before (RFC 8489, section 9.2.5). That key is of
-/// the client's name and password, in the realm of the challenge that it keeps, and counts by the algorithm
-/// that it chose for that challenge alone. So a message that is right under a key of another realm, or by
-/// another algorithm, adds nothing either. A client that keeps no challenge or has ended has no key. A
-/// message that shows no MESSAGE-INTEGRITY, no MESSAGE-INTEGRITY-SHA256 and no MESSAGE-INTEGRITY-SHA512
-/// validates under no key at all (`unsigned`).
+/// A message that does not validate under the client's one key adds nothing: all that the client
+/// has afterwards, it had before (RFC 8489, section 9.2.5).
+///
+/// - The key belongs to the client's name and password, the realm of its stored challenge, and only
+///   the algorithm that it chose for that challenge. So a message that is right under a key of
+///   another realm, or by another algorithm, adds nothing either.
+/// - A client that stores no challenge, or has ended, has no key.
+/// - A message without a visible MESSAGE-INTEGRITY, MESSAGE-INTEGRITY-SHA256 or
+///   MESSAGE-INTEGRITY-SHA512 validates under no key at all (`unsigned`).
 pub fn unsigned_adds_nothing()
-    ensures heard { (c : Client) (bytes : List ℕ) (now : ℕ) (handled : Bool) (new : Protocol)
+    ensures processed { (c : Client) (bytes : List ℕ) (now : ℕ) (handled : Bool) (new : Protocol)
         → IsSound c
         → AreBytes bytes
         → refusal bytes ≡ None
         → (IsSignedFor c bytes → ⊥)
-        → IsHeard c.core bytes now handled new
+        → IsProcessed c.core bytes now handled new
         → AddsNothing c.core new }
-    ensures heard_at { (c : Client) (here : SocketAddr) (bytes : List ℕ) (now : ℕ) (new : Protocol)
+    ensures processed_at { (c : Client) (here : SocketAddr) (bytes : List ℕ) (now : ℕ) (new :
+        Protocol)
         → IsSound c
         → AreBytes bytes
         → refusal bytes ≡ None
         → (IsSignedFor c bytes → ⊥)
-        → IsHeardAt here c.core bytes now new
+        → IsProcessedAt here c.core bytes now new
         → AddsNothing c.core new }
     ensures unsigned { (bytes key text : List ℕ) (algorithm : IntegrityAlgorithm)
         → ShowNoIntegrity bytes
@@ -70,22 +83,23 @@ pub fn unsigned_adds_nothing()
         → ⊥ }
 {}
 
-/// A message that nothing asked for adds nothing: where no request of its number is outstanding, all
-/// that is kept afterwards was kept before, whatever it shows and whoever signed it (RFC 8489, section
-/// 6.3). It is so of any client, and of any bytes.
+/// A message with a transaction ID for which no request is outstanding adds nothing: all that the
+/// client has afterwards, it had before, whatever the message contains and whoever signed it (RFC
+/// 8489, section 6.3). This holds of any client and any bytes.
 pub fn unasked_adds_nothing()
-    ensures heard { (old new : Protocol) (bytes : List ℕ) (now : ℕ) (handled : Bool)
+    ensures processed { (old new : Protocol) (bytes : List ℕ) (now : ℕ) (handled : Bool)
         → is_awaited old.agent bytes ≡ false
-        → IsHeard old bytes now handled new
+        → IsProcessed old bytes now handled new
         → AddsNothing old new }
-    ensures heard_at { (old new : Protocol) (here : SocketAddr) (bytes : List ℕ) (now : ℕ)
+    ensures processed_at { (old new : Protocol) (here : SocketAddr) (bytes : List ℕ) (now : ℕ)
         → is_awaited old.agent bytes ≡ false
-        → IsHeardAt here old bytes now new
+        → IsProcessedAt here old bytes now new
         → AddsNothing old new }
 {}
 
-/// A call that takes up no message adds nothing: neither one that asks for something, nor the passing of
-/// time, nor what is drawn to be sent. All that is kept after such a step was kept before.
+/// A call that handles no message adds nothing: neither a call that requests something, nor the
+/// passing of time, nor the transmission of bytes. All that the client has after this step, it had
+/// before.
 pub fn calls_add_nothing()
     ensures { (call : Call Client)
         → ClientStep client_words call

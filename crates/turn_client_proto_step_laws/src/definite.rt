@@ -1,9 +1,10 @@
-//! What a TURN client does is determined (RFC 8489, RFC 8656): of one state, one call, one moment or
-//! one message makes one answer and one state, where memory is not refused.
+//! A TURN client is deterministic (RFC 8489, RFC 8656): one state and one call, time or message
+//! give one result and one new state, unless memory runs out.
 //!
-//! The functions here do nothing; each contract is a law of a relation that the contracts of a client
-//! cite: two outcomes of it on one state are equal. A law is named after its relation. The getters,
-//! `poll_event` and `protocol_error` need none, since their contracts are equations.
+//! The functions here do nothing; each contract is a theorem on a relation that a client's
+//! contracts use: two outcomes of the relation from one state are equal. Each theorem is named
+//! after its relation. The getters, `poll_event` and `protocol_error` need none, since their
+//! contracts are equations.
 
 ghost use Rattle.std.specs.Prelude.{◌≡◌, ◌≢◌, ℕ, List, Bool, Option, Result, Err};
 ghost use Rattle.std.specs.declared.net.ip_addr.IpAddr.{IpAddr};
@@ -27,35 +28,35 @@ ghost use Rattle.turn_client_proto_recv.specs.Connecting.{IsConnectAnswered};
 ghost use Rattle.turn_client_proto_timers.specs.Core.Binding.{IsBindAnswered};
 ghost use Rattle.turn_client_proto_timers.specs.Core.Deleting.{IsDeleteAnswered};
 ghost use Rattle.turn_client_proto_timers.specs.Core.Permitting.{IsPermissionAnswered};
-ghost use Rattle.turn_client_proto_timers.specs.Core.Receiving.{IsHeard};
+ghost use Rattle.turn_client_proto_timers.specs.Core.Receiving.{IsProcessed};
 ghost use Rattle.turn_client_proto_timers.specs.Core.declared.protocol.Protocol.{Protocol};
-ghost use Rattle.turn_client_proto_timers.specs.Drawing.{IsDrawn};
+ghost use Rattle.turn_client_proto_timers.specs.Drawing.{IsTransmitted};
 ghost use Rattle.turn_client_proto_timers.specs.Api.Sent.{Sent};
-ghost use Rattle.turn_client_proto_recv.specs.Hearing.{IsHeardAt};
+ghost use Rattle.turn_client_proto_recv.specs.Processing.{IsProcessedAt};
 ghost use Rattle.turn_client_proto_timers.specs.Polling.{IsPolled};
 ghost use Rattle.turn_client_proto_recv.specs.Payload.Sending.{IsSendAnswered};
 ghost use Rattle.turn_client_proto_recv.specs.Sockets.{IsSocketAnswered};
 
-/// One message at one moment: whether it was for the client, and what the client is then, are one.
-/// No outcome of this relation is one of a client that was refused memory.
-pub fn hearing_is_definite()
+/// A message that is received at a given time determines whether it was for the client, and the
+/// client's new state. The relation has no outcome in which memory runs out.
+pub fn processing_is_definite()
     ensures { (old one other : Protocol) (bytes : List ℕ) (now : ℕ) (handled again : Bool)
-        → IsHeard old bytes now handled one
-        → IsHeard old bytes now again other
+        → IsProcessed old bytes now handled one
+        → IsProcessed old bytes now again other
         → (handled ≡ again) × (one ≡ other) }
 {}
 
-/// One message that came over the socket of one own address at one moment: what the client is then is one.
-/// No outcome of this relation is one of a client that was refused memory.
-pub fn hearing_at_is_definite()
+/// A message that is received at a given time over the socket with a given local address determines
+/// the client's new state. The relation has no outcome in which memory runs out.
+pub fn processing_at_is_definite()
     ensures { (old one other : Protocol) (here : SocketAddr) (bytes : List ℕ) (now : ℕ)
-        → IsHeardAt here old bytes now one
-        → IsHeardAt here old bytes now other
+        → IsProcessedAt here old bytes now one
+        → IsProcessedAt here old bytes now other
         → one ≡ other }
 {}
 
-/// One moment: what `poll` answers, and what the client is then, are one, unless memory was
-/// refused.
+/// The time determines what `poll` returns and the client's new state, unless it returns
+/// `NoMemory`.
 pub fn polling_is_definite()
     ensures { (old one other : Protocol) (now : ℕ) (answer again : TurnPollRet)
         → answer ≢ poll.NoMemory
@@ -65,16 +66,16 @@ pub fn polling_is_definite()
         → (answer ≡ again) × (one ≡ other) }
 {}
 
-/// One moment: what `poll_transmit` answers, and what the client is then, are one.
+/// The time determines what `poll_transmit` returns and the client's new state.
 pub fn drawing_is_definite()
     ensures { (old one other : Protocol) (now : ℕ) (answer again : Option Sent)
-        → IsDrawn old now answer one
-        → IsDrawn old now again other
+        → IsTransmitted old now answer one
+        → IsTransmitted old now again other
         → (answer ≡ again) × (one ≡ other) }
 {}
 
-/// One moment: what `delete` answers, and what the client is then, are one, unless memory was
-/// refused.
+/// The time determines what `delete` returns and the client's new state, unless it fails with
+/// `NoMemory`.
 pub fn deleting_is_definite()
     ensures { (old one other : Protocol) (now : ℕ) (answer again : Result (Unit {0}) DeleteError)
         → answer ≢ Err deletion.NoMemory
@@ -84,8 +85,8 @@ pub fn deleting_is_definite()
         → (answer ≡ again) × (one ≡ other) }
 {}
 
-/// One address, over one transport, at one moment: what `create_permission` answers, and what the
-/// client is then, are one, unless memory was refused.
+/// Transport, address and time determine what `create_permission` returns and the client's new
+/// state, unless it fails with `NoMemory`.
 pub fn permitting_is_definite()
     ensures { (old one other : Protocol) (transport : TransportType) (ip : IpAddr) (now : ℕ)
         (answer again : Result (Unit {0}) CreatePermissionError)
@@ -96,8 +97,8 @@ pub fn permitting_is_definite()
         → (answer ≡ again) × (one ≡ other) }
 {}
 
-/// Bytes for one peer, over one transport, at one moment: what `send_to` answers, as bytes, and what
-/// the client is then, are one.
+/// Transport, peer, bytes and time determine what `send_to` returns, taken as bytes, and the
+/// client's new state.
 pub fn sending_is_definite()
     ensures { (old one other : Protocol) (transport : TransportType) (to : SocketAddr)
         (bytes : List ℕ) (now : ℕ) (answer again : Result (Option Sent) SendError)
@@ -106,8 +107,8 @@ pub fn sending_is_definite()
         → (answer ≡ again) × (one ≡ other) }
 {}
 
-/// One peer, over one transport, at one moment: what `bind_channel` answers, and what the client is
-/// then, are one, unless memory was refused.
+/// Transport, peer and time determine what `bind_channel` returns and the client's new state,
+/// unless it fails with `NoMemory`.
 pub fn binding_is_definite()
     ensures { (old one other : Protocol) (transport : TransportType) (peer : SocketAddr) (now : ℕ)
         (answer again : Result (Unit {0}) BindChannelError)
@@ -118,8 +119,8 @@ pub fn binding_is_definite()
         → (answer ≡ again) × (one ≡ other) }
 {}
 
-/// One peer at one moment: what `tcp_connect` answers, and what the client is then, are one, unless
-/// memory was refused.
+/// Peer and time determine what `tcp_connect` returns and the client's new state, unless it fails
+/// with `NoMemory`.
 pub fn connecting_is_definite()
     ensures { (old one other : Protocol) (peer : SocketAddr) (now : ℕ)
         (answer again : Result (Unit {0}) TcpConnectError)
@@ -130,8 +131,8 @@ pub fn connecting_is_definite()
         → (answer ≡ again) × (one ≡ other) }
 {}
 
-/// One socket at one moment: what `allocated_tcp_socket` answers, and what the client is then, are one,
-/// unless memory was refused.
+/// The arguments and the time determine what `allocated_tcp_socket` returns and the client's new
+/// state, unless it fails with `NoMemory`.
 pub fn socketing_is_definite()
     ensures { (old one other : Protocol) (number : ℕ) (s : Socket5Tuple) (peer : SocketAddr)
         (here : Option SocketAddr) (now : ℕ) (answer again : Result (Unit {0}) TcpAllocateError)

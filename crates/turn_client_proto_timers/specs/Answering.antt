@@ -1,8 +1,8 @@
--- The answers to the server's own requests that wait to be sent (RFC 6062, section 4.4).
+-- The queued replies to the server's own requests (RFC 6062, section 4.4).
 use Rattle.std.specs.Prelude.{List}
 use Rattle.turn_client_proto_allocation.specs.Changes.{without_first}
 use Rattle.turn_client_proto_messages.specs.Waiting.{Queued, is_answer}
 
--- what waits but for the first answer, in its order
+-- The queue without its first reply, in order.
 abbrev pub without_answer : List Queued → List Queued
 without_answer queue = without_first is_answer queue

@@ -6,8 +6,8 @@ use Rattle.std.specs.declared.net.ip_addr.IpAddr.{IpAddr}
 use Rattle.std.specs.declared.net.socket_addr.SocketAddr.{SocketAddr}
 use Rattle.turn_client_proto_allocation.specs.StunProtoTransaction.Agents.{Transaction, transmitted}
 use Rattle.turn_client_proto_allocation.specs.StunProtoTransaction.Least.{IsLeast}
-use Rattle.stun_types_base.specs.Moments.{moment_after}
-use Rattle.stun_proto_agent.specs.Sending.{NoneDue, is_due_of, kept_under, with_request}
+use Rattle.stun_types_base.specs.Times.{time_after}
+use Rattle.stun_proto_agent.specs.Sending.{NoneDue, is_due_of, stored_under, with_request}
 use Rattle.stun_proto_agent.specs.State.{is_tcp}
 use Rattle.stun_types_base.specs.declared.transport.TransportType.{TransportType}
 use Rattle.turn_client_proto_allocation.specs.declared.allocation.Allocation.{Allocation}
@@ -15,7 +15,7 @@ use Rattle.turn_client_proto_messages.specs.Requests.{allocation_lifetime, reque
 use Rattle.turn_client_proto_messages.specs.declared.request.TurnRequest.{TurnRequest}
 use Rattle.turn_client_proto_messages.specs.declared.request.TurnRequest.TheVariants.{ChannelBind, CreatePermission, FirstAllocate}
 use Rattle.turn_client_proto_messages.specs.declared.request.TurnRequest.TheVariants.{Refresh as RefreshRequest}
-use Rattle.turn_client_proto_messages.specs.ToldRequests.{IsLawfulRequest}
+use Rattle.turn_client_proto_messages.specs.ReportedRequests.{IsLawfulRequest}
 use Rattle.turn_client_proto_core.specs.Numbering.{IsNextNumber, after_number}
 use Rattle.turn_client_proto_timers.specs.Answering.{without_answer}
 use Rattle.turn_client_proto_timers.specs.Polling.{cadence}
@@ -27,17 +27,17 @@ use Rattle.turn_client_proto_core.specs.declared.protocol.Phase.{Phase}
 use Rattle.turn_client_proto_core.specs.declared.protocol.Phase.TheVariants.{Initial, InitialSent, Authenticated}
 use Rattle.turn_client_proto_core.specs.declared.protocol.Protocol.{Protocol}
 
--- a client that sent something at a moment
+-- The client after it sent something at `now`.
 abbrev pub after_sending : ℕ → Protocol → Protocol
 after_sending now p = record p { last_send = Some now }
 
--- nothing is sent, and nothing changes
+-- Nothing is sent, and nothing changes.
 abbrev pub IsStill : Protocol → Option Sent → Protocol → Type 0
 IsStill old answer new = (answer ≡ None) × (new ≡ old)
 
 -- ---- a request that is sent again
 
--- the request of least number of which a transmission is due is sent again
+-- A request is retransmitted: of those that are due, the one with the least transaction ID.
 pub record IsRepeated (old : Protocol) (now : ℕ) (sent : Sent) (new : Protocol) : Type 0 where
   pub number : ℕ
   pub transaction : Transaction
@@ -49,22 +49,22 @@ pub record IsRepeated (old : Protocol) (now : ℕ) (sent : Sent) (new : Protocol
     to = transaction.to;
   }
   pub after : new ≡ after_sending now
-      (record old { agent = kept_under old.agent number (transmitted (is_tcp old.agent.transport) transaction) })
+      (record old { agent = stored_under old.agent number (transmitted (is_tcp old.agent.transport) transaction) })
 
 -- ---- a message that waits
 
--- a message was sent so short a time ago that no other one is sent yet
+-- The last message was sent so recently that no other one may be sent yet.
 abbrev pub is_resting : Option ℕ → ℕ → Bool
 is_resting None now = false
-is_resting (Some last) now = nat_lt now (moment_after last cadence)
+is_resting (Some last) now = nat_lt now (time_after last cadence)
 
--- the first message of the queue is sent
+-- The first message of the queue is sent.
 pub record IsQueuedSent (old : Protocol) (now : ℕ) (q : Queued) (rest : List Queued) (sent : Sent) (new : Protocol)
     : Type 0 where
   pub is_sent : sent ≡ record { bytes = q.bytes; transport = old.agent.transport; from = q.from; to = old.server }
   pub after : new ≡ after_sending now (record old { queue = rest })
 
--- where messages rest: the first answer to a request of the server's, which is no message that others wait for
+-- The first queued reply to the server is sent, if there is one. This doesn't delay other messages.
 abbrev pub IsAnswerSent : Option Queued → Protocol → Option Sent → Protocol → Type 0
 IsAnswerSent None old answer new = IsStill old answer new
 IsAnswerSent (Some q) old answer new =
@@ -73,27 +73,27 @@ IsAnswerSent (Some q) old answer new =
 
 -- ---- a request that is made and sent at once
 
--- a client with a request that is outstanding
+-- The client after it made a request that is sent at once. The request is outstanding.
 unfoldable pub sent_at_once : Protocol → TurnRequest → ℕ → ℕ → Protocol
-sent_at_once p request number now = record p {
-  agent = with_request p.agent (request_text p.auth request number) p.server now;
+sent_at_once p request transaction_id now = record p {
+  agent = with_request p.agent (request_text p.auth request transaction_id) p.server now;
 }
 
--- a request of the next number is sent
-pub record IsMade (old : Protocol) (request : TurnRequest) (number : ℕ) (sent : Sent) : Type 0 where
-  pub is_next : IsNextNumber old number
+-- A request with the next transaction ID is sent.
+pub record IsMade (old : Protocol) (request : TurnRequest) (transaction_id : ℕ) (sent : Sent) : Type 0 where
+  pub is_next : IsNextNumber old transaction_id
   pub is_sent : sent ≡ record {
-    bytes = request_text old.auth request number;
+    bytes = request_text old.auth request transaction_id;
     transport = old.agent.transport;
     from = old.agent.here;
     to = old.server;
   }
 
--- the first ALLOCATE
+-- The client after it sent the first ALLOCATE.
 unfoldable pub first_allocated : ℕ → ℕ → Protocol → Protocol
-first_allocated number now p =
-    record (sent_at_once (after_number p) (FirstAllocate p.allocates p.families) number now) {
-      phase = InitialSent (number ∷ []);
+first_allocated transaction_id now p =
+    record (sent_at_once (after_number p) (FirstAllocate p.allocates p.families) transaction_id now) {
+      phase = InitialSent (transaction_id ∷ []);
     }
 
 pub record IsFirstSent (old : Protocol) (now : ℕ) (sent : Sent) (new : Protocol) : Type 0 where
@@ -101,10 +101,10 @@ pub record IsFirstSent (old : Protocol) (now : ℕ) (sent : Sent) (new : Protoco
   pub made : IsMade old (FirstAllocate old.allocates old.families) number sent
   pub after : new ≡ after_sending now (first_allocated number now old)
 
--- a REFRESH for the first allocation for which something is to be sent
+-- The client after it sent a REFRESH for the first allocation for which something is to be sent.
 unfoldable pub first_refreshed : ℕ → ℕ → Protocol → Protocol
-first_refreshed number now p = record (sent_at_once (after_number p) (RefreshRequest allocation_lifetime) number now) {
-  allocations = refreshed_first now (record { number = number; lifetime = allocation_lifetime }) p.allocations;
+first_refreshed transaction_id now p = record (sent_at_once (after_number p) (RefreshRequest allocation_lifetime) transaction_id now) {
+  allocations = refreshed_first now (record { number = transaction_id; lifetime = allocation_lifetime }) p.allocations;
 }
 
 pub record IsRefreshSent (old : Protocol) (now : ℕ) (sent : Sent) (new : Protocol) : Type 0 where
@@ -112,10 +112,10 @@ pub record IsRefreshSent (old : Protocol) (now : ℕ) (sent : Sent) (new : Proto
   pub made : IsMade old (RefreshRequest allocation_lifetime) number sent
   pub after : new ≡ after_sending now (first_refreshed number now old)
 
--- a CREATE_PERMISSION for the first permission of an address that is to be renewed
+-- The client after it sent a CREATE_PERMISSION for an address, which renews the first permission that is due.
 unfoldable pub first_permitted : IpAddr → ℕ → ℕ → Protocol → Protocol
-first_permitted ip number now p = record (sent_at_once (after_number p) (CreatePermission ip) number now) {
-  allocations = renewal_first now number p.allocations;
+first_permitted ip transaction_id now p = record (sent_at_once (after_number p) (CreatePermission ip) transaction_id now) {
+  allocations = renewal_first now transaction_id p.allocations;
 }
 
 pub record IsRenewalSent (old : Protocol) (ip : IpAddr) (now : ℕ) (sent : Sent) (new : Protocol) : Type 0 where
@@ -124,10 +124,10 @@ pub record IsRenewalSent (old : Protocol) (ip : IpAddr) (now : ℕ) (sent : Sent
   pub made : IsMade old (CreatePermission ip) number sent
   pub after : new ≡ after_sending now (first_permitted ip number now old)
 
--- a CHANNEL_BIND for the first channel that is to be renewed
+-- The client after it sent a CHANNEL_BIND, which renews the first channel that is due.
 unfoldable pub first_bound : (channel : ℕ) → SocketAddr → ℕ → ℕ → Protocol → Protocol
-first_bound channel peer number now p = record (sent_at_once (after_number p) (ChannelBind channel peer) number now) {
-  allocations = channel_renewal_first now number p.allocations;
+first_bound channel peer transaction_id now p = record (sent_at_once (after_number p) (ChannelBind channel peer) transaction_id now) {
+  allocations = channel_renewal_first now transaction_id p.allocations;
 }
 
 pub record IsChannelRenewalSent (old : Protocol) (channel : ℕ) (peer : SocketAddr) (now : ℕ) (sent : Sent)
@@ -139,11 +139,12 @@ pub record IsChannelRenewalSent (old : Protocol) (channel : ℕ) (peer : SocketA
 
 -- ---- all of it
 
--- something is sent
+-- Something is sent, and `Is` holds for it.
 abbrev pub Sends : Option Sent → (Sent → Type 0) → Type 0
 Sends answer Is = MatchOption answer ⊥ Is
 
--- by what is to be renewed: an allocation, a channel to a peer, or a permission of an address
+-- The renewal that is sent, by what is to be renewed: an allocation, a channel to a peer, or a permission for
+-- an address.
 abbrev pub IsRenewed : Option Want → Protocol → ℕ → Option Sent → Protocol → Type 0
 IsRenewed None old now answer new = IsStill old answer new
 IsRenewed (Some Refresh) old now answer new = Sends answer (λ sent. IsRefreshSent old now sent new)
@@ -151,49 +152,51 @@ IsRenewed (Some (Channel channel peer)) old now answer new =
     Sends answer (λ sent. IsChannelRenewalSent old channel peer now sent new)
 IsRenewed (Some (Permission ip)) old now answer new = Sends answer (λ sent. IsRenewalSent old ip now sent new)
 
--- by how far the client is: the first ALLOCATE, or what is to be renewed
-abbrev pub IsBegun : Phase → Protocol → ℕ → Option Sent → Protocol → Type 0
-IsBegun Initial old now answer new = Sends answer (λ sent. IsFirstSent old now sent new)
-IsBegun Authenticated old now answer new = IsRenewed (wanted now old.allocations) old now answer new
-IsBegun _ old now answer new = IsStill old answer new
+-- The message that is made, by the client's phase: the first ALLOCATE, or a renewal.
+abbrev pub IsStarted : Phase → Protocol → ℕ → Option Sent → Protocol → Type 0
+IsStarted Initial old now answer new = Sends answer (λ sent. IsFirstSent old now sent new)
+IsStarted Authenticated old now answer new = IsRenewed (wanted now old.allocations) old now answer new
+IsStarted _ old now answer new = IsStill old answer new
 
--- the first message that waits, or else one that is made now
+-- The first message of the queue is sent; if there is none, a message that is made now.
 abbrev pub IsNextSent : List Queued → Protocol → ℕ → Option Sent → Protocol → Type 0
 IsNextSent (q ∷ rest) old now answer new = Sends answer (λ sent. IsQueuedSent old now q rest sent new)
-IsNextSent [] old now answer new = IsBegun old.phase old now answer new
+IsNextSent [] old now answer new = IsStarted old.phase old now answer new
 
--- where nothing is due again: for a short time after the last message answers alone
+-- What is sent if no retransmission is due. For a short time after the last message, only replies to the
+-- server are sent.
 abbrev pub IsFreshSent : Protocol → ℕ → Option Sent → Protocol → Type 0
 IsFreshSent old now answer new = MatchBool (is_resting old.last_send now)
     (IsAnswerSent (find is_answer old.queue) old answer new)
     (IsNextSent old.queue old now answer new)
 
--- a request that is due again comes first
-pub data IsDrawn (old : Protocol) (now : ℕ) (answer : Option Sent) (new : Protocol) : Type 0 where
-  Again : (sent : Sent) → answer ≡ Some sent → IsRepeated old now sent new → IsDrawn old now answer new
-  Fresh : NoneDue old.agent now → IsFreshSent old now answer new → IsDrawn old now answer new
+-- What `poll_transmit` returns. A retransmission that is due comes first.
+pub data IsTransmitted (old : Protocol) (now : ℕ) (answer : Option Sent) (new : Protocol) : Type 0 where
+  Again : (sent : Sent) → answer ≡ Some sent → IsRepeated old now sent new → IsTransmitted old now answer new
+  Fresh : NoneDue old.agent now → IsFreshSent old now answer new → IsTransmitted old now answer new
 
--- ---- when memory may be refused
+-- ---- when an allocation of memory may fail
 
--- a request is due again, and its bytes are handed out
+-- A retransmission is due, and its bytes are returned.
 pub record HasToRepeat (old : Protocol) (now : ℕ) : Type 0 where
   pub number : ℕ
   pub transaction : Transaction
   pub least : IsLeast (is_due_of old.agent now) old.agent.outstanding number transaction
 
--- a request is to be made, by how far the client is: the first ALLOCATE, or what renews something
+-- A request is to be made, by the client's phase: the first ALLOCATE, or a renewal.
 abbrev pub HasToBegin : Phase → List Allocation → ℕ → Type 0
 HasToBegin Initial allocations now = Unit {0}
 HasToBegin Authenticated allocations now = wanted now allocations ≢ None
 HasToBegin _ allocations now = ⊥
 
--- none is due again, the time since the last message is over, none waits, and one is to be made
+-- No retransmission is due, the time since the last message is long enough, no message is queued, and a
+-- request is to be made.
 pub record HasToMake (old : Protocol) (now : ℕ) : Type 0 where
   pub none_due : NoneDue old.agent now
   pub free : is_resting old.last_send now ≡ false
   pub none_waits : old.queue ≡ []
   pub begins : HasToBegin old.phase old.allocations now
 
--- a client has something to send that doesn't wait yet. A message that waits takes no memory
+-- The client has something to send that isn't queued. Sending a queued message needs no memory.
 abbrev pub HasToSend : Protocol → ℕ → Type 0
 HasToSend old now = HasToRepeat old now ⊎ HasToMake old now

@@ -1,9 +1,9 @@
 pub mod Answering
 pub mod Drawing
 pub mod Polling
-pub mod Telling
+pub mod Reporting
 pub mod Wanting
--- What stands above this crate has these through it.
+-- Re-exports for the crates above this one.
 pub use Rattle.stun_types_base.specs as StunTypesBase
 pub use Rattle.stun_types_wire.specs as StunTypesWire
 pub use Rattle.turn_client_proto_messages.specs.StunTypesWrite as StunTypesWrite

@@ -1,4 +1,4 @@
-//! The answers to the server's own requests that wait to be sent (RFC 6062, section 4.4).
+//! The queued replies to the server's own requests (RFC 6062, section 4.4).
 
 ghost use Rattle.std.specs.Prelude.{◌≡◌, IfNone, find, position};
 ghost use Rattle.std.specs.List.{list_any};
@@ -8,46 +8,46 @@ ghost use Rattle.turn_client_proto_timers.specs.Answering.{without_answer};
 use turn_client_proto_api::queue::QueueOf;
 use turn_client_proto_messages::queued::Queued;
 
-/// Whether one of some messages is an answer.
+/// Returns whether one of these messages is a reply.
 fn has_one(queued: &[Queued]) -> bool
     ensures { result ≡ list_any is_answer queued.now }
 {
     queued.iter().any(|q| !q.is_request())
 }
 
-/// Whether an answer waits.
+/// Returns whether a reply is queued.
 pub(crate) fn has_answer(queue: &QueueOf<Queued>) -> bool
     ensures { result ≡ list_any is_answer queue.now }
 {
-    let (front, behind) = queue.as_slices();
-    has_one(front) || has_one(behind)
+    let (head, following) = queue.as_slices();
+    has_one(head) || has_one(following)
 }
 
-/// The place of the first answer of some messages.
-fn place_in(queued: &[Queued]) -> Option<usize>
+/// Returns the index of the first reply among these messages.
+fn index_in(queued: &[Queued]) -> Option<usize>
     ensures { result ≡ position is_answer queued.now }
 {
     queued.iter().position(|q| !q.is_request())
 }
 
-/// The place of the first answer that waits.
-fn place_of(queue: &QueueOf<Queued>) -> Option<usize>
+/// Returns the index of the first reply in the queue.
+fn index_of(queue: &QueueOf<Queued>) -> Option<usize>
     ensures { result ≡ position is_answer queue.now }
 {
-    let (front, behind) = queue.as_slices();
-    if let Some(place) = place_in(front) {
-        return Some(place);
+    let (head, following) = queue.as_slices();
+    if let Some(index) = index_in(head) {
+        return Some(index);
     }
-    let place = place_in(behind)?;
-    Some(front.len() + place)
+    let index = index_in(following)?;
+    Some(head.len() + index)
 }
 
-/// Takes out the first answer that waits. The others keep their order.
+/// Removes and returns the first reply in the queue. The other messages keep their order.
 pub(crate) fn take_answer(queue: &mut QueueOf<Queued>) -> Option<Queued>
     ensures given { result ≡ find is_answer queue.old }
     ensures after { queue.new ≡ without_answer queue.old }
     ensures none { IfNone result (queue.new ≡ queue.old) }
 {
-    let place = place_of(queue)?;
-    queue.remove(place)
+    let index = index_of(queue)?;
+    queue.remove(index)
 }

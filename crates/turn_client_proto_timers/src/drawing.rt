@@ -5,8 +5,8 @@ ghost use Rattle.std.specs.Option.{option_map};
 ghost use Rattle.stun_proto_agent.specs.Sending.{NoneDue};
 ghost use Rattle.turn_client_proto_messages.specs.Requests.{request_text};
 ghost use Rattle.turn_client_proto_messages.specs.Waiting.{is_answer};
-ghost use Rattle.turn_client_proto_timers.specs.Drawing.{HasToBegin, HasToRepeat, HasToSend, IsAnswerSent, IsBegun};
-ghost use Rattle.turn_client_proto_timers.specs.Drawing.{IsChannelRenewalSent, IsDrawn, IsFirstSent, IsFreshSent};
+ghost use Rattle.turn_client_proto_timers.specs.Drawing.{HasToBegin, HasToRepeat, HasToSend, IsAnswerSent, IsStarted};
+ghost use Rattle.turn_client_proto_timers.specs.Drawing.{IsChannelRenewalSent, IsTransmitted, IsFirstSent, IsFreshSent};
 ghost use Rattle.turn_client_proto_timers.specs.Drawing.{IsNextSent, IsRefreshSent, IsRenewalSent};
 ghost use Rattle.turn_client_proto_timers.specs.Drawing.{IsRenewed, IsRepeated, after_sending};
 ghost use Rattle.turn_client_proto_timers.specs.Drawing.{first_allocated, first_bound, first_permitted};
@@ -31,25 +31,29 @@ use stun_types_wire::transaction::TransactionId;
 use turn_client_proto_allocation::channel::ChannelId;
 use turn_client_proto_allocation::refresh::PendingRefresh;
 use turn_client_proto_core::protocol::{Phase, Protocol};
-use turn_client_proto_messages::laws::requests_are_lawful;
+use turn_client_proto_messages::laws::proof_requests_are_lawful;
 use turn_client_proto_messages::request::{ALLOCATION_LIFETIME, TurnRequest};
 
-/// What is to be sent at a moment, where there is something. A request that is due again comes
-/// first; then, 50 ms after the last message at the earliest, what waits longest, and before that
-/// moment the answer to a request of the server's that waits longest; then the first ALLOCATE, or what
-/// renews something whose time has come: a REFRESH for an allocation, a CHANNEL_BIND for a channel, or a
-/// CREATE_PERMISSION for a permission, for the first allocation for which there is one, in this order.
-/// Call it again until it answers `None`.
+/// Returns the message to send at `now`, if there is one. Call it until it returns `None`. The
+/// order is:
 ///
-/// Memory is asked for where a request is due again, and where one is made. A message that waits
-/// takes none, and neither does a call that answers `None`. Where it is refused, `NoMemory`, and
-/// the client has failed.
+/// 1. A request whose retransmission is due.
+/// 2. Within 50 ms after the last message, only the oldest queued reply to the server.
+/// 3. After that, the oldest message of the queue.
+/// 4. The first ALLOCATE, or a renewal that is due, for the first allocation that has one: a
+///    REFRESH of the allocation, then a CHANNEL_BIND for a channel, then a CREATE_PERMISSION for a
+///    permission.
+///
+/// # Errors
+///
+/// - `NoMemory`: a memory allocation failed, and the client has failed. Memory is needed only for a
+///   request that is retransmitted or made by this call, not for a queued message or for `None`.
 pub fn poll_transmit(
     protocol: &mut Protocol,
     now: Instant,
 ) -> Result<Option<Transmit<Data<'static>>>, NoMemory>
     ensures ok { IfOk result (λ answer.
-        IsDrawn protocol.old now (option_map sent_of answer) protocol.new) }
+        IsTransmitted protocol.old now (option_map sent_of answer) protocol.new) }
     ensures err { OnErr result (HasFailed protocol.old protocol.new) }
     ensures memory { OnErr result (HasToSend protocol.old now) }
 {
@@ -63,10 +67,11 @@ pub fn poll_transmit(
     }
 }
 
-/// The same; but where memory is refused, the client is under way still.
+/// Returns the message to send for `poll_transmit`. If a memory allocation fails, the client is
+/// left in an intermediate state (`IsUnderWay`).
 fn draw(protocol: &mut Protocol, now: Instant) -> Result<Option<Transmit<Data<'static>>>, NoMemory>
     ensures ok { IfOk result (λ answer.
-        IsDrawn protocol.old now (option_map sent_of answer) protocol.new) }
+        IsTransmitted protocol.old now (option_map sent_of answer) protocol.new) }
     ensures err { OnErr result (IsUnderWay protocol.old protocol.new) }
     ensures memory { OnErr result (HasToSend protocol.old now) }
 {
@@ -79,7 +84,7 @@ fn draw(protocol: &mut Protocol, now: Instant) -> Result<Option<Transmit<Data<'s
     draw_next(protocol, now)
 }
 
-/// A request that is due again.
+/// Returns a request whose retransmission is due.
 fn draw_again(
     protocol: &mut Protocol,
     now: Instant,
@@ -99,7 +104,7 @@ fn draw_again(
     Ok(Some(again))
 }
 
-/// Whether a message was sent so short a time ago that no other one is sent yet.
+/// Returns whether the last message was sent so recently that no other one may be sent yet.
 fn is_resting(protocol: &Protocol, now: Instant) -> bool
     ensures { result ≡ is_resting protocol.now.last_send now }
 {
@@ -109,7 +114,7 @@ fn is_resting(protocol: &Protocol, now: Instant) -> bool
     }
 }
 
-/// The first answer to a request of the server's that waits. It is no message for whose sake others wait.
+/// Returns the first queued reply to the server. Sending it doesn't delay other messages.
 fn draw_answer(protocol: &mut Protocol) -> Option<Transmit<Data<'static>>>
     ensures { IsAnswerSent (find is_answer protocol.old.queue) protocol.old
         (option_map sent_of result) protocol.new }
@@ -120,7 +125,7 @@ fn draw_answer(protocol: &mut Protocol) -> Option<Transmit<Data<'static>>>
     Some(transmit(queued.into_bytes(), transport, from, protocol.server))
 }
 
-/// The first message that waits, or else one that is made now.
+/// Returns the first message of the queue, or one that is made now if the queue is empty.
 fn draw_next(
     protocol: &mut Protocol,
     now: Instant,
@@ -143,10 +148,10 @@ fn draw_next(
     }
 }
 
-/// A message that is made now: the first ALLOCATE, or what renews something whose time has come.
+/// Returns a message that is made now: the first ALLOCATE, or a renewal that is due.
 fn begin(protocol: &mut Protocol, now: Instant) -> Result<Option<Transmit<Data<'static>>>, NoMemory>
     ensures ok { IfOk result (λ answer.
-        IsBegun protocol.old.phase protocol.old now (option_map sent_of answer) protocol.new) }
+        IsStarted protocol.old.phase protocol.old now (option_map sent_of answer) protocol.new) }
     ensures err { OnErr result (IsUnderWay protocol.old protocol.new) }
     ensures memory { OnErr result
         (HasToBegin protocol.old.phase protocol.old.allocations now) }
@@ -158,8 +163,8 @@ fn begin(protocol: &mut Protocol, now: Instant) -> Result<Option<Transmit<Data<'
     }
 }
 
-/// A REFRESH for an allocation, a CHANNEL_BIND for a channel, or a CREATE_PERMISSION for a
-/// permission, whose time has come.
+/// Returns the renewal that is due: a REFRESH for an allocation, a CHANNEL_BIND for a channel, or a
+/// CREATE_PERMISSION for a permission.
 fn renew(protocol: &mut Protocol, now: Instant) -> Result<Option<Transmit<Data<'static>>>, NoMemory>
     ensures ok { IfOk result (λ answer. IsRenewed (wanted now protocol.old.allocations)
         protocol.old now (option_map sent_of answer) protocol.new) }
@@ -183,7 +188,7 @@ fn send_first(protocol: &mut Protocol, now: Instant) -> Result<Transmit<Data<'st
     ensures ok { IfOk result (λ sent. IsFirstSent protocol.old now (sent_of sent) protocol.new) }
     ensures err { OnErr result (IsUnderWay protocol.old protocol.new) }
 {
-    let number = protocol.draw_number()?;
+    let number = protocol.generate_id()?;
     let request = TurnRequest::FirstAllocate(protocol.allocates, protocol.families);
     let sent = send_at_once(protocol, number, request, now)?;
     let mut numbers = ListOf::new(protocol.alloc);
@@ -198,7 +203,7 @@ fn send_refresh(protocol: &mut Protocol, now: Instant) -> Result<Transmit<Data<'
     ensures ok { IfOk result (λ sent. IsRefreshSent protocol.old now (sent_of sent) protocol.new) }
     ensures err { OnErr result (IsUnderWay protocol.old protocol.new) }
 {
-    let number = protocol.draw_number()?;
+    let number = protocol.generate_id()?;
     let sent = send_at_once(
         protocol,
         number,
@@ -214,8 +219,7 @@ fn send_refresh(protocol: &mut Protocol, now: Instant) -> Result<Transmit<Data<'
     Ok(sent)
 }
 
-/// Sends a CREATE_PERMISSION for an address, by which the first permission that is to be renewed
-/// is.
+/// Sends a CREATE_PERMISSION for an address, which renews the first permission that is due.
 fn send_renewal(
     protocol: &mut Protocol,
     ip: IpAddr,
@@ -225,16 +229,17 @@ fn send_renewal(
         IsRenewalSent protocol.old ip now (sent_of sent) protocol.new) }
     ensures err { OnErr result (IsUnderWay protocol.old protocol.new) }
 {
-    let number = protocol.draw_number()?;
+    let number = protocol.generate_id()?;
     let request = TurnRequest::CreatePermission(ip);
-    requests_are_lawful(&request);
+    proof_requests_are_lawful(&request);
     let sent = send_at_once(protocol, number, request, now)?;
     renew_first(protocol.allocations.as_mut_slice(), now, number)?;
     protocol.last_send = Some(now);
     Ok(sent)
 }
 
-/// Sends a CHANNEL_BIND of a number to a peer, by which the first channel that is to be renewed is.
+/// Sends a CHANNEL_BIND for a channel number and a peer, which renews the first channel that is
+/// due.
 fn send_channel_renewal(
     protocol: &mut Protocol,
     channel: ChannelId,
@@ -245,36 +250,36 @@ fn send_channel_renewal(
         IsChannelRenewalSent protocol.old channel peer now (sent_of sent) protocol.new) }
     ensures err { OnErr result (IsUnderWay protocol.old protocol.new) }
 {
-    let number = protocol.draw_number()?;
+    let number = protocol.generate_id()?;
     let request = TurnRequest::ChannelBind(channel.number(), peer);
-    requests_are_lawful(&request);
+    proof_requests_are_lawful(&request);
     let sent = send_at_once(protocol, number, request, now)?;
     renew_channel_first(protocol.allocations.as_mut_slice(), now, number)?;
     protocol.last_send = Some(now);
     Ok(sent)
 }
 
-/// Makes a request of this number that is sent at once, and is outstanding from now on. Where
-/// memory is refused, nothing changes.
+/// Builds a request with this transaction ID that is sent at once; it is outstanding from now on.
+/// With `NoMemory`, nothing has changed.
 fn send_at_once(
     protocol: &mut Protocol,
-    number: TransactionId,
+    transaction_id: TransactionId,
     request: TurnRequest,
     now: Instant,
 ) -> Result<Transmit<Data<'static>>, NoMemory>
-    requires unused { IsUnused protocol.old.agent number }
+    requires unused { IsUnused protocol.old.agent transaction_id }
     ensures sent { IfOk result (λ sent. sent_of sent ≡ record {
-      bytes = request_text protocol.old.auth request number;
+      bytes = request_text protocol.old.auth request transaction_id;
       transport = protocol.old.agent.transport;
       from = protocol.old.agent.here;
       to = protocol.old.server;
     }) }
-    ensures ok { OnOk result (protocol.new ≡ sent_at_once protocol.old request number now) }
+    ensures ok { OnOk result (protocol.new ≡ sent_at_once protocol.old request transaction_id now) }
     ensures err { OnErr result (protocol.new ≡ protocol.old) }
 {
     let bytes = protocol
         .auth
-        .write_request(protocol.alloc, number, request)?;
+        .write_request(protocol.alloc, transaction_id, request)?;
     match protocol
         .agent
         .send_request(bytes.as_slice(), protocol.server, now)
@@ -282,7 +287,7 @@ fn send_at_once(
         Ok(_) => {}
         Err(e) => match e {
             StunError::NoMemory => return Err(NoMemory),
-            // It is a request, and none of its number is outstanding.
+            // The bytes are a request, and its transaction ID isn't outstanding (`unused`).
             _ => unreachable!(),
         },
     }
@@ -291,7 +296,7 @@ fn send_at_once(
     Ok(transmit(bytes, transport, from, protocol.server))
 }
 
-/// Owned bytes that are sent.
+/// Returns a transmit that owns its bytes.
 fn transmit(
     bytes: Vec<u8>,
     transport: TransportType,

@@ -1,7 +1,8 @@
-//! What a TURN client does as time goes on (RFC 8656): [`polling`] says what is to be done and
-//! until when there is nothing, and [`drawing`] what is to be sent. [`telling`] and [`wanting`] say
-//! it of allocations, with their permissions and channels: which of these go, and which are to be
-//! renewed. [`laws`] has what these promise each other and a layer above.
+//! What a TURN client does as time passes (RFC 8656). [`polling`] does the timed work and returns
+//! how long to wait, and [`drawing`] returns what to send. [`reporting`] handles what expires of
+//! the permissions, channels and connections of an allocation, and [`wanting`] finds what to renew.
+//! [`deleting`] asks the server to delete the allocations. [`laws`] proves what these modules
+//! guarantee together to the crates above.
 #![tactic(auto, using(crate::proofs::Usual::usual), unfolding(crate::proofs::Usual::opened))]
 
 mod answers;
@@ -9,5 +10,5 @@ pub mod deleting;
 pub mod drawing;
 pub mod laws;
 pub mod polling;
-pub mod telling;
+pub mod reporting;
 pub mod wanting;

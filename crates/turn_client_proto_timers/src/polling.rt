@@ -1,20 +1,20 @@
-//! What a client does as time goes on.
+//! The timed work of a client.
 
 ghost use Rattle.std.specs.Prelude.{◌≡◌, ◌≢◌, [], IfNone, IfOk, IfSome, None, OnErr, max, min, option_map};
 ghost use Rattle.turn_client_proto_connection.specs.Waiting.{unasked};
-ghost use Rattle.stun_types_base.specs.Moments.{moment_after};
+ghost use Rattle.stun_types_base.specs.Times.{time_after};
 ghost use Rattle.turn_client_proto_core.specs.Ending.{IsUnderWay};
-ghost use Rattle.turn_client_proto_timers.specs.Polling.{HasToTell, HasToTellIn, IsClosing, IsPolled};
+ghost use Rattle.turn_client_proto_timers.specs.Polling.{HasToReport, HasToReportIn, IsClosing, IsPolled};
 ghost use Rattle.turn_client_proto_timers.specs.Polling.{IsPolledBy, IsPolledIn, IsPolledSent};
-ghost use Rattle.turn_client_proto_timers.specs.Polling.{IsPolledStanding, IsTicked, IsWalked};
+ghost use Rattle.turn_client_proto_timers.specs.Polling.{IsPolledStanding, IsAgentPolled, AreAllocationsPolled};
 ghost use Rattle.turn_client_proto_timers.specs.Polling.{after_asking, answer_of, socket_for};
 ghost use Rattle.turn_client_proto_timers.specs.Polling.{cadence, ended_of, left, longest_pause};
 ghost use Rattle.turn_client_proto_timers.specs.Polling.{ready_after, wait_of};
 ghost use Rattle.turn_client_proto_timers.specs.Polling.{wait_to_send, waits_until};
-ghost use Rattle.turn_client_proto_timers.specs.Telling.{all_failures};
+ghost use Rattle.turn_client_proto_timers.specs.Reporting.{all_failures};
 
 use crate::answers::has_answer;
-use crate::telling;
+use crate::reporting;
 use std::time::Duration;
 use stun_proto_agent::agent::StunAgentPollRet;
 use stun_types_base::instant::Instant;
@@ -23,34 +23,34 @@ use stun_types_wire::transaction::TransactionId;
 use turn_client_proto_allocation::allocation::Allocation;
 use turn_client_proto_allocation::numbers::is_among;
 use turn_client_proto_api::answer::{Socket5Tuple, TurnPollRet};
-use turn_client_proto_connection::lapse as joined;
+use turn_client_proto_connection::expire as joined;
 use turn_client_proto_connection::waiting::ask_first;
 use turn_client_proto_core::ending::end;
 use turn_client_proto_core::protocol::{Phase, Protocol};
-use turn_client_proto_peers::channel::lapse;
-use turn_client_proto_peers::permission::telling as permissions;
+use turn_client_proto_peers::channel::expire;
+use turn_client_proto_peers::permission::reporting as permissions;
 
-/// Messages are sent this far apart, in milliseconds.
+/// The least time between two sent messages, in milliseconds.
 const CADENCE: u64 = 50;
 
-/// The longest that a client tells to wait, in seconds.
+/// The longest wait that a client returns, in seconds.
 const LONGEST_PAUSE: u64 = 9999;
 
-/// The moment from which on another message may be sent than that of a moment.
+/// Returns the earliest time for the next message after one that was sent at `last`.
 pub(crate) fn next_send(last: Instant) -> Instant
-    ensures { result ≡ moment_after last cadence }
+    ensures { result ≡ time_after last cadence }
 {
     last.saturating_add(Duration::from_millis(CADENCE))
 }
 
-/// The end of the longest wait.
+/// Returns the end of the longest wait.
 fn longest_wait(now: Instant) -> Instant
-    ensures { result ≡ moment_after now longest_pause }
+    ensures { result ≡ time_after now longest_pause }
 {
     now.saturating_add(Duration::from_secs(LONGEST_PAUSE))
 }
 
-/// The number of the transaction that ended.
+/// Returns the transaction ID of the transaction that ended.
 fn ended_of(ticked: &StunAgentPollRet) -> Option<TransactionId>
     ensures { result ≡ ended_of ticked.now }
 {
@@ -61,19 +61,19 @@ fn ended_of(ticked: &StunAgentPollRet) -> Option<TransactionId>
     }
 }
 
-/// The earlier of a wait and of what the agent waits for.
+/// Returns the earlier of `wait` and the time until which the agent waits.
 fn wait_of(wait: Instant, ticked: &StunAgentPollRet) -> Instant
     ensures { result ≡ wait_of wait ticked.now }
 {
     match ticked {
-        StunAgentPollRet::WaitUntil(moment) => wait.min(*moment),
+        StunAgentPollRet::WaitUntil(time) => wait.min(*time),
         StunAgentPollRet::TransactionTimedOut(_) | StunAgentPollRet::TransactionCancelled(_) => {
             wait
         }
     }
 }
 
-/// A wait until a moment; but where a transaction has ended, no wait.
+/// Returns a wait until `wait`, or until `now` if a transaction has ended.
 fn waits_until(ended: &Option<TransactionId>, now: Instant, wait: Instant) -> TurnPollRet
     ensures { result ≡ waits_until ended.now now wait }
 {
@@ -83,7 +83,7 @@ fn waits_until(ended: &Option<TransactionId>, now: Instant, wait: Instant) -> Tu
     }
 }
 
-/// The answer of a client that has these allocations.
+/// Returns the result for a client with these allocations: `Closed` if there are none, else a wait.
 fn answer_of(
     allocations: &[Allocation],
     ended: &Option<TransactionId>,
@@ -99,23 +99,36 @@ fn answer_of(
     }
 }
 
-/// What is to be done at a moment. Where an event waits, the answer is to wait for that very
-/// moment: `poll_event` gives it; and so it is where an answer to a request of the server's waits, which
-/// `poll_transmit` gives. Else a request that has ended without a response is given up. Where
-/// then a connection waits for a socket that was not asked for, the answer is to open it, and nothing
-/// else is done; what the request that ended had asked for stays as it is. Else allocations,
-/// permissions and channels whose time is over go, and connections that were not bound in time; of the
-/// channels of one allocation, one at each call; and of those connections that a peer began by a request
-/// of the number that ended, one. The answer is `TcpClose` where then a socket is to be closed that the
-/// caller was not told of: the first, and each once. Else it is `Closed` where the client has ended or
-/// has no allocation left, and else the moment until which nothing is to be done, at most 9999 seconds
-/// from now; it is now where a request has ended. A client that has ended answers `Closed` alone,
-/// whatever sockets are to be closed.
+/// Does the timed work that is due at `now`, and returns what the caller has to do next.
 ///
-/// Memory is asked for where no event waits, no socket is asked for, and something is to be told: that
-/// an ALLOCATE ended without a response; or that a permission, a channel or a connection did; that a
-/// permission or a channel has lapsed; or that a connection goes. Where it is refused,
-/// `NoMemory`, and the client has failed.
+/// 1. If an event is queued (drain `poll_event`) or a reply to the server is queued (drain
+///    `poll_transmit`), returns `WaitUntil(now)` and does nothing else.
+/// 2. Drops at most one request that has ended without a response. A dropped ALLOCATE ends the
+///    client.
+/// 3. If a connection waits for a socket that has not been requested from the caller, returns
+///    `AllocateTcpSocket` for the first one and does nothing else. What the dropped request asked
+///    for stays as it is.
+/// 4. Removes the allocations, permissions and channels that have expired, the connections that
+///    were not bound in time, and the new permission, channel or connection that the dropped
+///    request asked for. In each allocation, one call expires at most one channel, and drops at
+///    most one connection that the server announced by the request that ended.
+///
+/// The result is then
+///
+/// - `TcpClose` if there is a socket to close that has not been reported: the first; each is
+///   reported once;
+/// - `Closed` if the client has ended or has no allocation left;
+/// - otherwise `WaitUntil`, with the time until which there is nothing to do, at most 9999 seconds
+///   from now. It is `now` if a request has ended.
+///
+/// A client that has ended returns `Closed` only, even if there are sockets to close.
+///
+/// # Errors
+///
+/// - `NoMemory`: a memory allocation failed, and the client has failed. Memory is needed only if no
+///   event and no reply is queued, no socket is requested, and there is something to report: an
+///   ALLOCATE ended without a response; the request for a permission, a channel or a connection
+///   did; a permission or a channel expired; or a connection is removed.
 pub fn poll(protocol: &mut Protocol, now: Instant) -> TurnPollRet
     ensures { IsPolled protocol.old now result protocol.new }
 {
@@ -126,7 +139,7 @@ pub fn poll(protocol: &mut Protocol, now: Instant) -> TurnPollRet
     if has_answer(&protocol.queue) {
         return TurnPollRet::WaitUntil(now);
     }
-    match tick(protocol, now) {
+    match poll_agent(protocol, now) {
         Ok(answer) => answer,
         Err(NoMemory) => {
             protocol.fail(events);
@@ -135,18 +148,18 @@ pub fn poll(protocol: &mut Protocol, now: Instant) -> TurnPollRet
     }
 }
 
-/// A wait that ends where the first message of the queue may be sent.
+/// Returns the earlier of `wait` and the time at which the first message of the queue may be sent.
 fn wait_to_send(protocol: &Protocol, now: Instant, wait: Instant) -> Instant
     ensures { result ≡ wait_to_send protocol.now.last_send protocol.now.queue now wait }
 {
-    match (protocol.queue.front(), protocol.last_send) {
+    match (protocol.queue.head(), protocol.last_send) {
         (None, _) => wait,
         (Some(_), None) => now,
         (Some(_), Some(last)) => wait.min(next_send(last)),
     }
 }
 
-/// The earliest moment at which another message may be sent.
+/// Returns the earliest time at which another message may be sent.
 fn ready_after(protocol: &Protocol, now: Instant) -> Instant
     ensures { result ≡ ready_after protocol.now.last_send now }
 {
@@ -156,21 +169,21 @@ fn ready_after(protocol: &Protocol, now: Instant) -> Instant
     }
 }
 
-/// Polls the agent, and does what follows, where no event waits.
-fn tick(protocol: &mut Protocol, now: Instant) -> Result<TurnPollRet, NoMemory>
-    ensures ok { IfOk result (λ answer. IsTicked protocol.old now answer protocol.new) }
+/// Polls the agent, then the client. No event and no reply is queued.
+fn poll_agent(protocol: &mut Protocol, now: Instant) -> Result<TurnPollRet, NoMemory>
+    ensures ok { IfOk result (λ answer. IsAgentPolled protocol.old now answer protocol.new) }
     ensures named { IfOk result (λ answer. answer ≢ TurnPollRet.NoMemory) }
     ensures err { OnErr result (IsUnderWay protocol.old protocol.new) }
-    ensures memory { OnErr result (HasToTell protocol.old now) }
+    ensures memory { OnErr result (HasToReport protocol.old now) }
 {
     let wait = wait_to_send(protocol, now, longest_wait(now));
     let ticked = protocol.agent.poll(now);
     let ended = ended_of(&ticked);
-    follow(protocol, &ended, wait_of(wait, &ticked), now)
+    poll_phase(protocol, &ended, wait_of(wait, &ticked), now)
 }
 
-/// Does what follows from what the agent told.
-fn follow(
+/// Polls the client after its agent. `ended` is the transaction that ended, `wait` the wait so far.
+fn poll_phase(
     protocol: &mut Protocol,
     ended: &Option<TransactionId>,
     wait: Instant,
@@ -181,7 +194,7 @@ fn follow(
     ensures named { IfOk result (λ answer. answer ≢ TurnPollRet.NoMemory) }
     ensures err { OnErr result (IsUnderWay protocol.old protocol.new) }
     ensures memory { OnErr result
-        (HasToTellIn protocol.old.phase ended.now protocol.old now) }
+        (HasToReportIn protocol.old.phase ended.now protocol.old now) }
 {
     match &protocol.phase {
         Phase::Initial => Ok(TurnPollRet::WaitUntil(now)),
@@ -197,15 +210,15 @@ fn follow(
     }
 }
 
-/// Asks for the socket of the first connection that waits for one and for which it was not asked (RFC
-/// 6062, section 4.3).
+/// Requests a socket from the caller for the first connection that waits for one and for which none
+/// was requested (RFC 6062, section 4.3).
 fn ask_socket(protocol: &mut Protocol) -> Option<TurnPollRet>
     ensures given { result
         ≡ option_map (socket_for protocol.old) (unasked protocol.old.allocations) }
     ensures after { IfSome result (λ _. protocol.new ≡ after_asking protocol.old) }
     ensures none { IfNone result (protocol.new ≡ protocol.old) }
 {
-    // It only helps the proof: the checker has to know where the type of the agent's numbers stands.
+    // Proof only: makes the type of the agent's transaction IDs known to the checker.
     let _none: Option<TransactionId> = None;
     let first = ask_first(protocol.allocations.as_mut_slice())?;
     Some(TurnPollRet::AllocateTcpSocket {
@@ -219,7 +232,8 @@ fn ask_socket(protocol: &mut Protocol) -> Option<TurnPollRet>
     })
 }
 
-/// Asks for a socket where one is to be asked for, and else lets time come to a moment.
+/// Requests a socket from the caller if one is to be requested, else does the timed work of the
+/// allocations.
 fn poll_standing(
     protocol: &mut Protocol,
     ended: &Option<TransactionId>,
@@ -236,10 +250,10 @@ fn poll_standing(
     if let Some(answer) = ask_socket(protocol) {
         return Ok(answer);
     }
-    walk(protocol, ended, wait, now)
+    poll_allocations(protocol, ended, wait, now)
 }
 
-/// An answer; but where a socket is to be closed, to close the first.
+/// Returns `TcpClose` for the first socket that is to be closed, or `answer` if there is none.
 fn close_first(protocol: &mut Protocol, answer: TurnPollRet) -> TurnPollRet
     ensures { IsClosing protocol.old.closing answer protocol.old result protocol.new }
 {
@@ -252,15 +266,16 @@ fn close_first(protocol: &mut Protocol, answer: TurnPollRet) -> TurnPollRet
     }
 }
 
-/// Lets time come to a moment for the allocations, their permissions, channels and connections.
-fn walk(
+/// Expires what is due at `now` in every allocation and its permissions, channels and connections,
+/// queues the events for it, and returns the result of `poll`.
+fn poll_allocations(
     protocol: &mut Protocol,
     ended: &Option<TransactionId>,
     wait: Instant,
     now: Instant,
 ) -> Result<TurnPollRet, NoMemory>
     ensures ok { IfOk result (λ answer.
-        IsWalked ended.now wait protocol.old now answer protocol.new) }
+        AreAllocationsPolled ended.now wait protocol.old now answer protocol.new) }
     ensures named { IfOk result (λ answer. answer ≢ TurnPollRet.NoMemory) }
     ensures err { OnErr result (IsUnderWay protocol.old protocol.new) }
     ensures memory { OnErr result
@@ -270,11 +285,11 @@ fn walk(
     let next = protocol.allocations.poll(ended, ready, now, wait);
     let allocations = protocol.allocations.as_slice();
     let sooner = permissions::earliest(allocations, ended, ready, now, next);
-    let earliest = lapse::earliest(allocations, ended, ready, now, sooner);
+    let earliest = expire::earliest(allocations, ended, ready, now, sooner);
     let first = joined::earliest(allocations, earliest);
     let answer = answer_of(allocations, ended, now, first);
-    telling::tell_failures(&mut protocol.events, allocations, ended, now)?;
+    reporting::report_failures(&mut protocol.events, allocations, ended, now)?;
     joined::close_all_gone(&mut protocol.closing, allocations, ended, now)?;
-    telling::poll(protocol.allocations.as_mut_slice(), ended, now)?;
+    reporting::poll(protocol.allocations.as_mut_slice(), ended, now)?;
     Ok(close_first(protocol, answer))
 }

@@ -1,5 +1,5 @@
-//! What allocations are to be renewed, and which of their channels and permissions (RFC 8656,
-//! sections 8.1, 10.1 and 12.1).
+//! Which allocations, channels and permissions are to be renewed (RFC 8656, sections 8.1, 10.1 and
+//! 12.1).
 
 ghost use Rattle.std.specs.Prelude.{◌≡◌, OnOk, OnErr, position};
 ghost use Rattle.turn_client_proto_timers.specs.Wanting.{channel_renewal_first, refreshed_first, renewal_first, want, wanted, wants};
@@ -15,18 +15,18 @@ use turn_client_proto_allocation::refresh::PendingRefresh;
 use turn_client_proto_peers::channel::wanting as channels;
 use turn_client_proto_peers::permission::wanting::renewal_wanted;
 
-/// What is to be sent for an allocation.
+/// A request that is to be sent to renew something of an allocation.
 #[derive(Clone, Copy, Debug, PartialEq, Eq)]
 pub enum Want {
     /// A REFRESH.
     Refresh,
-    /// A CHANNEL_BIND of this number to this peer, by which the channel is renewed.
+    /// A CHANNEL_BIND with this channel number and this peer, which renews the channel.
     Channel(ChannelId, SocketAddr),
-    /// A CREATE_PERMISSION for this address, by which its permission is renewed.
+    /// A CREATE_PERMISSION for this address, which renews its permission.
     Permission(IpAddr),
 }
 
-/// What is to be sent for an allocation at a moment: a REFRESH comes first, then a CHANNEL_BIND,
+/// Returns what is to be sent for an allocation at `now`: first a REFRESH, then a CHANNEL_BIND,
 /// then a CREATE_PERMISSION.
 #[tactic(auto, unfolding(crate::specs::Wanting::want))]
 fn want_of(a: &Allocation, now: Instant) -> Option<Want>
@@ -42,32 +42,32 @@ fn want_of(a: &Allocation, now: Instant) -> Option<Want>
     Some(Want::Permission(ip))
 }
 
-/// Whether something is to be sent for an allocation at a moment.
+/// Returns whether something is to be sent for an allocation at `now`.
 fn wants(a: &Allocation, now: Instant) -> bool
     ensures { result ≡ wants now a.now }
 {
     want_of(a, now).is_some()
 }
 
-/// The place of the first allocation for which something is to be sent at a moment.
-fn place_wanting(allocations: &[Allocation], now: Instant) -> Option<usize>
+/// Returns the index of the first allocation for which something is to be sent at `now`.
+fn index_wanting(allocations: &[Allocation], now: Instant) -> Option<usize>
     ensures { result ≡ position (wants now) allocations.now }
 {
     allocations.iter().position(|a| wants(a, now))
 }
 
-/// What is to be sent at a moment, for the first allocation for which something is.
-#[tactic(auto, using(crate::proofs::Usual::by_place))]
+/// Returns what is to be sent at `now` for the first allocation for which something is.
+#[tactic(auto, using(crate::proofs::Usual::by_index))]
 pub fn wanted(allocations: &[Allocation], now: Instant) -> Option<Want>
     ensures { result ≡ wanted now allocations.now }
 {
-    let place = place_wanting(allocations, now)?;
-    want_of(&allocations[place], now)
+    let index = index_wanting(allocations, now)?;
+    want_of(&allocations[index], now)
 }
 
-/// The first allocation for which something is to be sent at a moment awaits a REFRESH. Where
-/// memory is refused, nothing changes.
-#[tactic(auto, using(crate::proofs::Usual::by_place))]
+/// Records that the first allocation for which something is to be sent at `now` awaits the response
+/// to a REFRESH. With `NoMemory`, nothing has changed.
+#[tactic(auto, using(crate::proofs::Usual::by_index))]
 pub fn refresh_first(
     allocations: &mut [Allocation],
     now: Instant,
@@ -77,45 +77,51 @@ pub fn refresh_first(
         ≡ refreshed_first now refresh.now allocations.old) }
     ensures err { OnErr result (allocations.new ≡ allocations.old) }
 {
-    let Some(place) = place_wanting(allocations, now) else {
+    let Some(index) = index_wanting(allocations, now) else {
         return Ok(());
     };
-    allocations[place].await_refresh(refresh.number, refresh.lifetime)
+    allocations[index].await_refresh(refresh.number, refresh.lifetime)
 }
 
-/// The first permission that is to be renewed at a moment, of the first allocation for which
-/// something is to be sent, is to be so by the request of this number. Where memory is refused,
-/// nothing changes.
-#[tactic(auto, using(crate::proofs::Usual::by_place))]
+/// Records that the request `number` renews the first permission that is due, in the first
+/// allocation for which something is to be sent at `now`. With `NoMemory`, nothing has changed.
+#[tactic(auto, using(crate::proofs::Usual::by_index))]
 pub fn renew_first(
     allocations: &mut [Allocation],
     now: Instant,
-    number: TransactionId,
+    transaction_id: TransactionId,
 ) -> Result<(), NoMemory>
-    ensures ok { OnOk result (allocations.new ≡ renewal_first now number allocations.old) }
+    ensures ok { OnOk result (allocations.new ≡ renewal_first now transaction_id allocations.old) }
     ensures err { OnErr result (allocations.new ≡ allocations.old) }
 {
-    let Some(place) = place_wanting(allocations, now) else {
+    let Some(index) = index_wanting(allocations, now) else {
         return Ok(());
     };
-    permissions::renew_first(allocations[place].permissions.as_mut_slice(), now, number)
+    permissions::renew_first(
+        allocations[index].permissions.as_mut_slice(),
+        now,
+        transaction_id,
+    )
 }
 
-/// The first channel that is to be renewed at a moment, of the first allocation for which something
-/// is to be sent, is to be so by the request of this number. Where memory is refused, nothing
-/// changes.
-#[tactic(auto, using(crate::proofs::Usual::by_place))]
+/// Records that the request `number` renews the first channel that is due, in the first allocation
+/// for which something is to be sent at `now`. With `NoMemory`, nothing has changed.
+#[tactic(auto, using(crate::proofs::Usual::by_index))]
 pub fn renew_channel_first(
     allocations: &mut [Allocation],
     now: Instant,
-    number: TransactionId,
+    transaction_id: TransactionId,
 ) -> Result<(), NoMemory>
     ensures ok { OnOk result (allocations.new
-        ≡ channel_renewal_first now number allocations.old) }
+        ≡ channel_renewal_first now transaction_id allocations.old) }
     ensures err { OnErr result (allocations.new ≡ allocations.old) }
 {
-    let Some(place) = place_wanting(allocations, now) else {
+    let Some(index) = index_wanting(allocations, now) else {
         return Ok(());
     };
-    channels::renew_first(allocations[place].channels.as_mut_slice(), now, number)
+    channels::renew_first(
+        allocations[index].channels.as_mut_slice(),
+        now,
+        transaction_id,
+    )
 }

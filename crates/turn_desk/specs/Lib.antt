@@ -1,6 +1,6 @@
--- The definitions that the contracts below this face cite, each file under its own name.
+-- The definitions that the contracts of this facade's items use, each file under its own name.
 pub mod Decisions
-pub use Rattle.turn_desk_core.specs.AskedFor
+pub use Rattle.turn_desk_core.specs.RequestedFor
 pub use Rattle.turn_desk_core.specs.AuthLending
 pub use Rattle.turn_desk_core.specs.DeskCalls
 pub use Rattle.turn_desk_core.specs.DeskIsolation

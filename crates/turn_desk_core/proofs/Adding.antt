@@ -17,7 +17,7 @@ use Rattle.turn_desk_core.specs.Replies.{allocated_attributes, relayed_attribute
 use Rattle.turn_types_attributes.specs.TurnRegistry.{lifetime_kind}
 use Rattle.stun_types_wire.specs.Registry.{xor_mapped_address_kind}
 
--- at most two addresses are the first and the second, where they are there
+-- At most two addresses are the first and the second, if those exist.
 pub first_and_second : (number : ℕ) (relayed : List SocketAddr) → length relayed ≤ 2
     → relayed_attributes number (option_to_list (slice_get relayed 0)) ++ relayed_attributes number (option_to_list (slice_get relayed 1)) ≡ relayed_attributes number relayed
 first_and_second number [] few = refl
@@ -25,14 +25,14 @@ first_and_second number (a ∷ []) few = refl
 first_and_second number (a ∷ b ∷ []) few = refl
 first_and_second number (a ∷ b ∷ c ∷ rest) few = absurd (omega (arith, few))
 
--- the addresses under the number of the request
+-- The relayed addresses, under the transaction ID of the request.
 pub relayed-parts : (kind m n : ℕ) (relayed : List SocketAddr) (first second : Option SocketAddr) (old reply : Draft) → m ≡ n → length relayed ≤ 2 → first ≡ slice_get relayed 0 → second ≡ slice_get relayed 1
     → IsComposed kind m (relayed_attributes m (option_to_list first) ++ relayed_attributes m (option_to_list second)) old reply → IsComposed kind n (relayed_attributes n relayed) old reply
 relayed-parts kind m n relayed first second old reply number few one two is =
     let same : relayed_attributes m (option_to_list first) ++ relayed_attributes m (option_to_list second) ≡ relayed_attributes n relayed = rw (number, one, two) (first_and_second n relayed few) in
     subst (λ (i : ℕ). IsComposed kind i (relayed_attributes n relayed) old reply) number (subst (λ (all : List Attr). IsComposed kind m all old reply) same is)
 
--- the addresses, LIFETIME and XOR-MAPPED-ADDRESS make a success response
+-- The relayed addresses, LIFETIME and XOR-MAPPED-ADDRESS make up a success response.
 pub allocated_composed : (kind m n : ℕ) (relayed : List SocketAddr) (lifetime : ℕ) (from : SocketAddr) (first second : Option SocketAddr) (old two three four : Draft) (seconds : ℕ) (mapped : List ℕ)
     → m ≡ n → length relayed ≤ 2 → first ≡ slice_get relayed 0 → second ≡ slice_get relayed 1
     → IsComposed kind m (relayed_attributes m (option_to_list first) ++ relayed_attributes m (option_to_list second)) old two
@@ -40,7 +40,7 @@ pub allocated_composed : (kind m n : ℕ) (relayed : List SocketAddr) (lifetime 
     → IsAdded (attr_of xor_mapped_address_kind mapped) three four → add_refusal three (attr_size (attr_of xor_mapped_address_kind mapped)) ≡ None
     → seconds ≡ lifetime → mapped ≡ xored m (address_value from)
     → IsComposed kind n (allocated_attributes n relayed lifetime from) old four
-allocated_composed kind m n relayed lifetime from first second old two three four seconds mapped number few one other r2 added3 accepted3 added4 accepted4 told seen =
+allocated_composed kind m n relayed lifetime from first second old two three four seconds mapped number few one other r2 added3 accepted3 added4 accepted4 reported seen =
     let all = relayed_attributes n relayed in
     let a = attr_of lifetime_kind (big_bytes 4 seconds) in
     let b = attr_of xor_mapped_address_kind mapped in
@@ -48,10 +48,10 @@ allocated_composed kind m n relayed lifetime from first second old two three fou
     let r4 = composed_more kind n (all ++ a ∷ []) b old three four r3 added4 refl accepted4 in
     let value : mapped ≡ xored n (address_value from) = seen ∙ ap (λ (i : ℕ). xored i (address_value from)) number in
     let same : (all ++ a ∷ []) ++ b ∷ [] ≡ allocated_attributes n relayed lifetime from =
-    append_assoc all (a ∷ []) (b ∷ []) ∙ ap (λ (l : List Attr). all ++ l) (ap (λ (s : ℕ). attr_of lifetime_kind (big_bytes 4 s) ∷ b ∷ []) told ∙ ap (λ (v : List ℕ). attr_of lifetime_kind (big_bytes 4 lifetime) ∷ attr_of xor_mapped_address_kind v ∷ []) value) in
+    append_assoc all (a ∷ []) (b ∷ []) ∙ ap (λ (l : List Attr). all ++ l) (ap (λ (s : ℕ). attr_of lifetime_kind (big_bytes 4 s) ∷ b ∷ []) reported ∙ ap (λ (v : List ℕ). attr_of lifetime_kind (big_bytes 4 lifetime) ∷ attr_of xor_mapped_address_kind v ∷ []) value) in
     subst (λ (l : List Attr). IsComposed kind n l old four) same r4
 
--- the second of some addresses, as a look-up by index answers it
+-- The second of the addresses, as a look-up by index returns it.
 pub second_of : (found : Option (Bor SocketAddr)) (relayed : List SocketAddr) → MatchOption found (length relayed ≤ 1) (λ x. (1 < length relayed) × HoldsAt (λ y. x.now ≡ y) relayed 1) → option_copied found ≡ slice_get relayed 1
 second_of None [] h = refl
 second_of None (a ∷ []) h = refl

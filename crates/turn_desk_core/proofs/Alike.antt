@@ -1,4 +1,4 @@
--- Two desks that an address can't tell apart answer it alike.
+-- Two server cores that an address can't distinguish reply to it alike.
 use Rattle.std.proofs.Common.{◌≡◌, ℕ, List, [], ◌++◌, Option, None, Some, refl, sym, ap, ◌∙◌, subst, inl, inr}
 use Rattle.std.proofs.lemmas.List.{append-nil}
 use Rattle.std.specs.FinMap as map
@@ -25,11 +25,11 @@ use Rattle.turn_desk_core.specs.Steps.{FitsChallenge, IsAnswer, IsChallenge, IsV
 
 -- ---- the authenticators
 
--- with a nonce that stands for the address
+-- If the address can't distinguish two servers, it can't after both have refreshed its nonce either.
 refreshes : (from : SocketAddr) (a b : Server) (now : ℕ) (stream : Stream) → SameFor from a b → SameFor from (refreshed a from now stream) (refreshed b from now stream)
 refreshes from a b now stream same = (leaves_alike from a b same).refreshes now stream
 
--- with an outcome behind it
+-- Nor can it after both have also stored the same outcome of a validation.
 judges : (from : SocketAddr) (a b : Server) (now : ℕ) (stream : Stream) (outcome : Option Outcome) → SameFor from a b
     → SameFor from (with_outcome (refreshed a from now stream) from outcome) (with_outcome (refreshed b from now stream) from outcome)
 judges from a b now stream outcome same =
@@ -58,7 +58,7 @@ challenged_alike a b from bytes now stream decision reply new same is =
           after = refl;
         };
         nonce = is.nonce;
-        kept = (answers_alike from new.auth after alike).nonce ∙ is.kept;
+        stored = (answers_alike from new.auth after alike).nonce ∙ is.stored;
         fits = subst FitsChallenge party is.fits;
         text = is.text ∙ ap (λ (p : Party). message_text (error_type bytes) (number_at bytes) (refusal_attributes is.error p)) party;
         read = subst (λ (p : Party). IsReadAs (error_type bytes) (number_at bytes) (refusal_attributes is.error p) reply) party is.read;

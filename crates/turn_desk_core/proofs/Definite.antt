@@ -1,4 +1,4 @@
--- What a desk answers to a request, and what it is then, are one, where the request names no two of its users.
+-- The reply to a request and the state after it are unique, if the request does not name two users.
 use Rattle.std.proofs.Common.{◌≡◌, ℕ, List, Option, Some, sym, ap, ◌∙◌, inl, inr}
 use Rattle.std.specs.FinMap as map
 use Rattle.std.specs.declared.net.socket_addr.SocketAddr.{SocketAddr}
@@ -22,14 +22,14 @@ use Rattle.turn_desk_core.specs.State.{State}
 use Rattle.turn_desk_core.specs.Steps.{IsAnswer, IsChallenge, IsVerdict, refusal_attributes, unvalidated_party}
 
 module _ (old : State) (from : SocketAddr) (bytes : List ℕ) (now : ℕ) (stream : Stream) (one : NamesOne old.auth (claimed bytes)) where
-  -- the authenticator that judges
+  -- The authenticator that validates the request.
   abbrev ready : Server
   ready = refreshed old.auth from now stream
 
   still_one : NamesOne ready (claimed bytes)
   still_one = names_one_still old.auth from now stream (claimed bytes) one
 
-  -- two things that one place holds are one
+  -- Two values of one `Some` are equal.
   abbrev held_same : (x y : List ℕ) (o : Option (List ℕ)) → o ≡ Some x → o ≡ Some y → x ≡ y
   held_same x y o first second = inside (sym first ∙ second)
 
@@ -42,7 +42,7 @@ module _ (old : State) (from : SocketAddr) (bytes : List ℕ) (now : ℕ) (strea
   both_challenged reply again left other a b =
       let error : a.error ≡ b.error = refused_same ready from bytes a.error b.error still_one a.judged.refused b.judged.refused in
       let auth : left.auth ≡ other.auth = a.judged.after ∙ sym b.judged.after in
-      let nonce : a.nonce ≡ b.nonce = held_same a.nonce b.nonce (nonce_at other.auth from) (ap (λ (s : Server). nonce_at s from) (sym auth) ∙ a.kept) b.kept in
+      let nonce : a.nonce ≡ b.nonce = held_same a.nonce b.nonce (nonce_at other.auth from) (ap (λ (s : Server). nonce_at s from) (sym auth) ∙ a.stored) b.stored in
       let grants : left.grants ≡ other.grants = a.granted ∙ sym b.granted in (
         a.text ∙ ap (λ (e : LongTermServerAuthError). challenge_text e a.nonce) error ∙ ap (challenge_text b.error) nonce ∙ sym b.text,
         λ i. record { auth = auth i; grants = grants i },
@@ -55,8 +55,8 @@ module _ (old : State) (from : SocketAddr) (bytes : List ℕ) (now : ℕ) (strea
     verdict_text name password algorithm =
         signed_text (reply_type bytes (verdict_on bytes decision)) (number_at bytes) (reply_attributes bytes from (verdict_on bytes decision)) (user_key old.auth.realm name password algorithm) algorithm
 
-    abbrev kept_as : List ℕ → IntegrityAlgorithm → Server
-    kept_as name algorithm = with_outcome ready from (Some (record { name = name; algorithm = algorithm }))
+    abbrev stored_as : List ℕ → IntegrityAlgorithm → Server
+    stored_as name algorithm = with_outcome ready from (Some (record { name = name; algorithm = algorithm }))
 
     both_decided : (reply again : List ℕ) (left other : State) → IsVerdict old from bytes now stream (verdict_on bytes decision) reply left → IsVerdict old from bytes now stream (verdict_on bytes decision) again other → (reply ≡ again) × (left ≡ other)
     both_decided reply again left other a b =
@@ -65,7 +65,7 @@ module _ (old : State) (from : SocketAddr) (bytes : List ℕ) (now : ℕ) (strea
         let algorithms : a.algorithm ≡ b.algorithm = whose.1 in
         let passwords : a.password ≡ b.password = held_same a.password b.password (map.get old.auth.users b.name) (ap (map.get old.auth.users) (sym names) ∙ a.present) b.present in
         let text : verdict_text a.name a.password a.algorithm ≡ verdict_text b.name b.password b.algorithm = λ i. verdict_text (names i) (passwords i) (algorithms i) in
-        let server : kept_as a.name a.algorithm ≡ kept_as b.name b.algorithm = λ i. kept_as (names i) (algorithms i) in
+        let server : stored_as a.name a.algorithm ≡ stored_as b.name b.algorithm = λ i. stored_as (names i) (algorithms i) in
         let auth : left.auth ≡ other.auth = a.judged.after ∙ server ∙ sym b.judged.after in
         let grants : left.grants ≡ other.grants = a.granted ∙ sym b.granted in
         (a.text ∙ text ∙ sym b.text, λ i. record { auth = auth i; grants = grants i })
@@ -73,7 +73,7 @@ module _ (old : State) (from : SocketAddr) (bytes : List ℕ) (now : ℕ) (strea
     never_two : {A : Type 0} (reply again : List ℕ) (left other : State) → IsChallenge old from bytes now stream reply left → IsVerdict old from bytes now stream (verdict_on bytes decision) again other → A
     never_two reply again left other a b = absurd (never_both ready from bytes b.algorithm b.name a.error still_one b.judged.accepts a.judged.refused)
 
-  -- one answer to one request
+  -- Two replies to one request are equal, and so are the states that they leave.
   pub answer_same : (decision : Decision) (reply again : List ℕ) (left other : State) → IsAnswer old from bytes now stream decision reply left → IsAnswer old from bytes now stream decision again other
       → (reply ≡ again) × (left ≡ other)
   answer_same decision reply again left other (inl a) (inl b) = both_challenged reply again left other a b

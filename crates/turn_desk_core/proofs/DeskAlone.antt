@@ -1,4 +1,4 @@
--- Addresses are apart over whole runs of a desk's calls.
+-- Non-interference of addresses over whole runs of a server core's calls.
 use Rattle.std.proofs.Common.{◌≡◌, ◌≢◌, ℕ, Bool, true, false, List, [], ◌∷◌, ◌++◌, Option, None, Some, filter, refl, sym, ap, ◌∙◌, subst, inl, inr}
 use Rattle.std.proofs.lemmas.List.{append-nil}
 use Rattle.std.specs.declared.net.socket_addr.SocketAddr.{SocketAddr}
@@ -16,7 +16,7 @@ use Rattle.turn_desk_core.specs.declared.decision.Decision.{Decision}
 use Rattle.turn_desk_core.specs.declared.grant.Grant as granted
 use Rattle.turn_desk_core.specs.declared.verdict.Verdict.{Verdict}
 use Rattle.turn_desk_core.specs.declared.verdict.Verdict.TheVariants.{Fails, Allocates, Refreshes, Permits, Binds, Connects, Joins}
-use Rattle.turn_desk_core.specs.DeskCalls.{AreAlike, IsAuthCalled, IsHandled, IsHandledBy, IsServerCalled, IsServerRun, ServerAnswer, ServerCall, StandsAlone, concerning, concerns, grants_to}
+use Rattle.turn_desk_core.specs.DeskCalls.{AreAlike, IsAuthCalled, IsHandled, IsHandledBy, IsServerCalled, IsServerRun, ServerAnswer, ServerCall, IsIsolated, concerning, concerns, grants_to}
 use Rattle.turn_desk_core.specs.DeskCalls as call
 use Rattle.turn_desk_core.specs.State.{State}
 use Rattle.turn_desk_core.specs.Steps.{IsAnswer}
@@ -35,7 +35,7 @@ filter_joined test (x ∷ xs) ys = elim (bool_is (test x)) [
 abbrev is_to : SocketAddr → granted.Grant → Bool
 is_to address = λ (g : granted.Grant). is_same_address address g.from
 
--- what one request is granted, no other address is
+-- What one address's request is granted is not granted to any other address.
 none_granted : (address from : SocketAddr) (bytes : List ℕ) (what : Verdict) → is_same_address address from ≡ false → grants_to address (grants_of bytes from what) ≡ []
 none_granted address from bytes (Fails code) is = refl
 none_granted address from bytes (Allocates transport relayed lifetime) is = filter_no (is_to address) (record (bare_grant bytes from) { transport = Some transport; relayed = relayed; lifetime = Some lifetime }) [] is
@@ -45,7 +45,7 @@ none_granted address from bytes (Binds channel peer) is = filter_no (is_to addre
 none_granted address from bytes (Connects peer connection) is = filter_no (is_to address) (record (bare_grant bytes from) { peers = peer ∷ []; connection = Some connection }) [] is
 none_granted address from bytes (Joins connection) is = filter_no (is_to address) (record (bare_grant bytes from) { connection = Some connection }) [] is
 
--- so another address has the same grants behind a request
+-- So another address has the same grants after the request as before.
 same_grants : (address from : SocketAddr) (bytes : List ℕ) (what : Verdict) (old new : List granted.Grant) → is_same_address address from ≡ false
     → new ≡ old ++ grants_of bytes from what → grants_to address new ≡ grants_to address old
 same_grants address from bytes what old new is more =
@@ -57,7 +57,7 @@ answer_grants : (address : SocketAddr) (old new : State) (from : SocketAddr) (by
 answer_grants address old new from bytes now stream decision reply is (inl away) = ap (grants_to address) away.granted
 answer_grants address old new from bytes now stream decision reply is (inr v) = same_grants address from bytes (verdict_on bytes decision) old.grants new.grants is v.granted
 
--- the same was added to what is the same
+-- Adding equal grants to lists with equal grants for an address leaves lists with equal grants for it.
 more_alike : (address : SocketAddr) (a b more new left : List granted.Grant) → grants_to address b ≡ grants_to address a → new ≡ a ++ more → left ≡ b ++ more → grants_to address left ≡ grants_to address new
 more_alike address a b more new left same here there =
     ap (grants_to address) there ∙ (filter_joined (is_to address) b more ∙ (ap (λ (l : List granted.Grant). l ++ grants_to address more) same
@@ -72,7 +72,7 @@ outcome_unseen other from old new now stream outcome different is =
     (same_for-then other old (refreshed old from now stream) (with_outcome (refreshed old from now stream) from outcome)
     ((leaves_alone other from old different).refreshes now stream) ((leaves_alone other from (refreshed old from now stream) different).keeps outcome))
 
--- an answer is unseen by other addresses
+-- A reply to one address changes nothing that other addresses can observe of the authenticator.
 answer_unseen : (old new : State) (from : SocketAddr) (bytes : List ℕ) (now : ℕ) (stream : Stream) (decision : Decision) (reply : List ℕ) → IsAnswer old from bytes now stream decision reply new
     → (other : SocketAddr) → other ≢ from → SameFor other old.auth new.auth
 answer_unseen old new from bytes now stream decision reply (inl away) other different =
@@ -82,7 +82,7 @@ answer_unseen old new from bytes now stream decision reply (inr v) other differe
 
 -- ---- one call
 
--- no address tells a desk from itself, nor that from the one, nor the first from the last of three
+-- `AreAlike` is reflexive, symmetric and transitive.
 pub alike-refl : (address : SocketAddr) (d : State) → AreAlike address d d
 alike-refl address d = record { auth = same_for-refl address d.auth d.auth refl; grants = refl }
 
@@ -95,13 +95,13 @@ alike_then address a b c first second = record {
   grants = second.grants ∙ first.grants;
 }
 
--- another desk answers the same, and the address can't tell apart what is left
+-- The server core `b` can return this result too, and the address can't distinguish the states that are left.
 record IsServedAlike (address : SocketAddr) (one : ServerCall) (answer : ServerAnswer) (b new : State) : Type 0 where
   left : State
   called : IsServerCalled one answer b left
   alike : AreAlike address new left
 
--- a request of the address
+-- A request of the address is served alike.
 handled_alike : (from : SocketAddr) (a b new : State) (bytes : List ℕ) (now : ℕ) (decision : Decision) (stream : Stream) (answer : ServerAnswer) → AreAlike from a b
     → IsHandledBy answer a bytes from now decision stream new → IsServedAlike from (call.Handle bytes from now decision stream) answer b new
 handled_alike from a b new bytes now decision stream (call.Reply reply) same is =
@@ -121,12 +121,12 @@ handled_alike from a b new bytes now decision stream call.NoReply same is = reco
   called = (is.0, refl);
   alike = subst (λ (d : State). AreAlike from d b) (sym is.1) same;
 }
-handled_alike from a b new bytes now decision stream (call.Told answer) same is = absurd is
+handled_alike from a b new bytes now decision stream (call.Reported answer) same is = absurd is
 
--- a call of the authenticator that concerns the address
+-- A call of the authenticator that concerns the address is served alike.
 auth_alike : (address : SocketAddr) (a b new : State) (one : AuthCall) (answer : ServerAnswer) → AreAlike address a b → concerns_auth address one ≡ true
     → IsAuthCalled answer one a new → IsServedAlike address (call.Auth one) answer b new
-auth_alike address a b new one (call.Told answer) same own is =
+auth_alike address a b new one (call.Reported answer) same own is =
     let l = called_alike address a.auth b.auth new.auth one answer same.auth own is.0 in
     record {
       left = record { auth = l.left; grants = b.grants };
@@ -135,7 +135,7 @@ auth_alike address a b new one (call.Told answer) same own is =
     }
 auth_alike address a b new one _ same own is = absurd is
 
--- a call that concerns an address is answered the same, and leaves the same for it
+-- A call that concerns the address is served alike.
 served_alike : (address : SocketAddr) (a b new : State) (one : ServerCall) (answer : ServerAnswer) → AreAlike address a b → concerns address one ≡ true
     → IsServerCalled one answer a new → IsServedAlike address one answer b new
 served_alike address a b new (call.Handle bytes from now decision stream) answer same own is =
@@ -144,7 +144,7 @@ served_alike address a b new (call.Handle bytes from now decision stream) answer
     (handled_alike from a b new bytes now decision stream answer (subst (λ (x : SocketAddr). AreAlike x a b) e same) is)
 served_alike address a b new (call.Auth one) answer same own is = auth_alike address a b new one answer same own is
 
--- an address doesn't see another's request
+-- Another address's request changes nothing that the address can observe.
 handled_unseen : (address from : SocketAddr) (a new : State) (bytes : List ℕ) (now : ℕ) (decision : Decision) (stream : Stream) (answer : ServerAnswer) → is_same_address address from ≡ false
     → IsHandledBy answer a bytes from now decision stream new → AreAlike address a new
 handled_unseen address from a new bytes now decision stream (call.Reply reply) isnt is = record {
@@ -152,16 +152,16 @@ handled_unseen address from a new bytes now decision stream (call.Reply reply) i
   grants = answer_grants address a new from bytes now stream decision reply isnt is.answer;
 }
 handled_unseen address from a new bytes now decision stream call.NoReply isnt is = subst (λ (d : State). AreAlike address a d) (sym is.1) (alike-refl address a)
-handled_unseen address from a new bytes now decision stream (call.Told answer) isnt is = absurd is
+handled_unseen address from a new bytes now decision stream (call.Reported answer) isnt is = absurd is
 
 auth_unseen : (address : SocketAddr) (a new : State) (one : AuthCall) (answer : ServerAnswer) → concerns_auth address one ≡ false → IsAuthCalled answer one a new → AreAlike address a new
-auth_unseen address a new one (call.Told answer) isnt is = record {
+auth_unseen address a new one (call.Reported answer) isnt is = record {
   auth = called_unseen address a.auth new.auth one answer isnt is.0;
   grants = ap (grants_to address) is.1;
 }
 auth_unseen address a new one _ isnt is = absurd is
 
--- an address doesn't see a call that doesn't concern it
+-- A call that does not concern the address changes nothing that it can observe.
 served_unseen : (address : SocketAddr) (a new : State) (one : ServerCall) (answer : ServerAnswer) → concerns address one ≡ false → IsServerCalled one answer a new → AreAlike address a new
 served_unseen address a new (call.Handle bytes from now decision stream) answer isnt is = handled_unseen address from a new bytes now decision stream answer isnt is
 served_unseen address a new (call.Auth one) answer isnt is = auth_unseen address a new one answer isnt is
@@ -171,15 +171,16 @@ served_unseen address a new (call.Auth one) answer isnt is = auth_unseen address
 abbrev test : SocketAddr → ServerCall × ServerAnswer → Bool
 test address = λ pair. concerns address pair.0
 
--- from a desk that an address can't tell from the one of a run, the calls that concern it are answered so, too
-pub stands_alone : (address : SocketAddr) (pairs : List (ServerCall × ServerAnswer)) (a b new : State) → AreAlike address a b → IsServerRun a pairs new → StandsAlone address b pairs new
+-- Premises: `pairs` is a run from `a`, and the address can't distinguish `a` from `b`. Conclusion: the calls
+-- that concern the address can have these results from `b` too.
+pub is_isolated : (address : SocketAddr) (pairs : List (ServerCall × ServerAnswer)) (a b new : State) → AreAlike address a b → IsServerRun a pairs new → IsIsolated address b pairs new
 unfolding IsServerRun
-stands_alone address [] a b new same run = record { left = b; run = refl; alike = subst (λ (d : State). AreAlike address d b) (sym run) same }
-stands_alone address (pair ∷ pairs) a b new same run =
+is_isolated address [] a b new same run = record { left = b; run = refl; alike = subst (λ (d : State). AreAlike address d b) (sym run) same }
+is_isolated address (pair ∷ pairs) a b new same run =
     elim (bool_is (concerns address pair.0)) [
       | inl t ↦ (
           let step = served_alike address a b run.0 pair.0 pair.1 same t run.1 in
-          let rest = stands_alone address pairs run.0 step.left new step.alike run.2 in
+          let rest = is_isolated address pairs run.0 step.left new step.alike run.2 in
           record {
             left = rest.left;
             run = subst (λ (list : List (ServerCall × ServerAnswer)). IsServerRun b list rest.left) (sym (filter_yes (test address) pair pairs t)) (step.left, step.called, rest.run);
@@ -187,7 +188,7 @@ stands_alone address (pair ∷ pairs) a b new same run =
           })
       | inr f ↦ (
           let unseen = served_unseen address a run.0 pair.0 pair.1 f run.1 in
-          let rest = stands_alone address pairs run.0 b new (alike_then address run.0 a b (alike_turned address a run.0 unseen) same) run.2 in
+          let rest = is_isolated address pairs run.0 b new (alike_then address run.0 a b (alike_turned address a run.0 unseen) same) run.2 in
           record {
             left = rest.left;
             run = subst (λ (list : List (ServerCall × ServerAnswer)). IsServerRun b list rest.left) (sym (filter_no (test address) pair pairs f)) rest.run;

@@ -1,4 +1,4 @@
--- What an address is answered by a desk is fixed by the calls that concern it.
+-- The calls that concern an address fix the results that a server core gives it.
 use Rattle.std.proofs.Common.{◌≡◌, ℕ, List, [], ◌∷◌, Bool, true, false, if◌then◌else◌, Option, Some, None, map, refl, sym, ap, ◌∙◌, subst, inl, inr}
 use Rattle.std.specs.FinMap as finite
 use Rattle.std.specs.declared.net.socket_addr.SocketAddr.{SocketAddr}
@@ -20,11 +20,11 @@ use Rattle.turn_desk_core.specs.DeskCalls as call
 use Rattle.turn_desk_core.specs.State.{State}
 use Rattle.turn_desk_core.specs.Steps.{IsAnswer}
 use Rattle.turn_desk_core.proofs.Definite.{answer_same}
-use Rattle.turn_desk_core.proofs.DeskAlone.{alike-refl, alike_then, alike_turned, stands_alone}
+use Rattle.turn_desk_core.proofs.DeskAlone.{alike-refl, alike_then, alike_turned, is_isolated}
 
 -- ---- users
 
--- two servers have the same users, in the same realm
+-- Two servers have the same users in the same realm.
 record HaveSameUsers (old new : Server) : Type 0 where
   users : new.users ≡ old.users
   realm : new.realm ≡ old.realm
@@ -35,7 +35,7 @@ same_users_by old middle new is same = subst (λ (s : Server). HaveSameUsers old
 unchanged : (old new : Server) → new ≡ old → HaveSameUsers old new
 unchanged old new is = same_users_by old old new is (record { users = refl; realm = refl })
 
--- a nonce that is drawn, and an outcome that is kept, change no user
+-- Generating a nonce and storing an outcome change no user.
 refreshed_users : (old : Server) (from : SocketAddr) (now : ℕ) (stream : Stream) → HaveSameUsers old (refreshed old from now stream)
 refreshed_users old from now stream =
     elim (has_standing_nonce old from now) as (λ (b : Bool). HaveSameUsers old (if b then old else with_new_nonce old from now stream)) [
@@ -56,29 +56,29 @@ refusal_users old from bytes now stream =
 
 judged_users : (old : Server) (bytes : List ℕ) (from : SocketAddr) (now : ℕ) (stream : Stream) (answer : AuthAnswer) (new : Server) → IsJudged answer old bytes from now stream new → HaveSameUsers old new
 judged_users old bytes from now stream (auth.Valid (Validated algorithm) left) new is =
-    same_users_by old (with_outcome (refreshed old from now stream) from (Some (record { name = is.0.name; algorithm = algorithm }))) new is.0.kept
+    same_users_by old (with_outcome (refreshed old from now stream) from (Some (record { name = is.0.name; algorithm = algorithm }))) new is.0.stored
     (outcome_users old from now stream (Some (record { name = is.0.name; algorithm = algorithm })))
 judged_users old bytes from now stream (auth.Refused error left) new is =
     same_users_by old (after_refusal old from bytes now stream) new is.2 (refusal_users old from bytes now stream)
 judged_users old bytes from now stream _ new is = absurd is
 
--- the users that a call of the authenticator leaves
+-- The users that a call of the authenticator leaves.
 auth_users : (one : AuthCall) (answer : AuthAnswer) (old new : Server) → IsCalled one answer old new → HaveSameUsers (with_users_of one old) new
 auth_users (auth.Validate bytes from now stream) answer old new is = judged_users old bytes from now stream answer new is
 auth_users (auth.Sign draft to) answer old new is = unchanged old new is.2
-auth_users (auth.SizeAsked to is_request) answer old new is = unchanged old new is.1
-auth_users (auth.NonceAsked client) answer old new is = unchanged old new is.1
-auth_users (auth.UserAsked client) answer old new is = unchanged old new is.1
+auth_users (auth.SizeRequested to is_request) answer old new is = unchanged old new is.1
+auth_users (auth.NonceRequested client) answer old new is = unchanged old new is.1
+auth_users (auth.UserRequested client) answer old new is = unchanged old new is.1
 auth_users (auth.Refresh from now stream) answer old new is = same_users_by old (refreshed old from now stream) new is.1 (refreshed_users old from now stream)
 auth_users (auth.RemoveClient client) answer old new is =
     same_users_by old (record old { clients = finite.remove old.clients client }) new is.1 (record { users = refl; realm = refl })
-auth_users auth.RealmAsked answer old new is = unchanged old new is.1
+auth_users auth.RealmRequested answer old new is = unchanged old new is.1
 auth_users (auth.AddUser name password) answer old new is = unchanged (record old { users = finite.insert old.users name password }) new is.1
 auth_users (auth.RemoveUser name) answer old new is = unchanged (record old { users = finite.remove old.users name }) new is.1
-auth_users auth.AlgorithmsAsked answer old new is = unchanged old new is.1
+auth_users auth.AlgorithmsRequested answer old new is = unchanged old new is.1
 auth_users (auth.AddAlgorithm algorithm) answer old new is = record { users = ap (λ (s : Server). s.users) is.1; realm = ap (λ (s : Server). s.realm) is.1 }
 auth_users (auth.SetAlgorithm algorithm) answer old new is = record { users = ap (λ (s : Server). s.users) is.1; realm = ap (λ (s : Server). s.realm) is.1 }
-auth_users auth.AnonymityAsked answer old new is = unchanged old new is.1
+auth_users auth.AnonymityRequested answer old new is = unchanged old new is.1
 auth_users (auth.SetAnonymity feature) answer old new is = record { users = ap (λ (s : Server). s.users) is.1; realm = ap (λ (s : Server). s.realm) is.1 }
 auth_users (auth.SetExpiry expiry) answer old new is = record { users = ap (λ (s : Server). s.users) is.2; realm = ap (λ (s : Server). s.realm) is.2 }
 
@@ -89,15 +89,15 @@ handled_users old new bytes from now decision stream reply (inr v) =
     let outcome : Option Outcome = Some (record { name = v.name; algorithm = v.algorithm }) in
     same_users_by old.auth (with_outcome (refreshed old.auth from now stream) from outcome) new.auth v.judged.after (outcome_users old.auth from now stream outcome)
 
--- the users that a call leaves
+-- The users that a call leaves.
 served_users : (one : ServerCall) (answer : ServerAnswer) (old new : State) → IsServerCalled one answer old new → HaveSameUsers (with_users_of (auth_call one) old.auth) new.auth
 served_users (call.Handle bytes from now decision stream) (call.Reply reply) old new is = handled_users old new bytes from now decision stream reply is.answer
 served_users (call.Handle bytes from now decision stream) call.NoReply old new is = unchanged old.auth new.auth (ap (λ (d : State). d.auth) is.1)
-served_users (call.Handle bytes from now decision stream) (call.Told answer) old new is = absurd is
-served_users (call.Auth one) (call.Told answer) old new is = auth_users one answer old.auth new.auth is.0
+served_users (call.Handle bytes from now decision stream) (call.Reported answer) old new is = absurd is
+served_users (call.Auth one) (call.Reported answer) old new is = auth_users one answer old.auth new.auth is.0
 served_users (call.Auth one) _ old new is = absurd is
 
--- a claim names no two of the same users
+-- A claim that does not name two users of one server does not name two users of another with the same users.
 claim_moved : (s t : Server) (claim : Claimed) → HaveSameUsers s t → NamesOne s claim → NamesOne t claim
 claim_moved s t claim same one =
     let users : NamesOne (record s { users = t.users }) claim = subst (λ u. NamesOne (record s { users = u }) claim) (sym same.users) one in
@@ -112,7 +112,7 @@ users_moved s t (auth.AddUser name password) same = record { users = ap (λ u. f
 users_moved s t (auth.RemoveUser name) same = record { users = ap (λ u. finite.remove u name) same.users; realm = same.realm }
 users_moved s t _ same = same
 
--- so it is of each call
+-- This holds for the claims of a list of calls.
 each_moved : (calls : List AuthCall) (s t : Server) → HaveSameUsers s t → EachNamesOne s calls → EachNamesOne t calls
 unfolding EachNamesOne
 each_moved [] s t same each = tt
@@ -121,7 +121,7 @@ each_moved (one ∷ calls) s t same each =
 
 -- ---- one call
 
--- two answers, and what each leaves, are one
+-- Two results are equal, and so are the states that they leave.
 abbrev AreOne : ServerAnswer → ServerAnswer → State → State → Type 0
 AreOne answer again new other = (answer ≡ again) × (new ≡ other)
 
@@ -133,20 +133,20 @@ handled_same old new other bytes from now decision stream (call.Reply reply) (ca
 handled_same old new other bytes from now decision stream (call.Reply reply) call.NoReply names a b = absurd (b.0 a.served)
 handled_same old new other bytes from now decision stream call.NoReply (call.Reply again) names a b = absurd (a.0 b.served)
 handled_same old new other bytes from now decision stream call.NoReply call.NoReply names a b = (refl, a.1 ∙ sym b.1)
-handled_same old new other bytes from now decision stream (call.Reply reply) (call.Told again) names a b = absurd b
-handled_same old new other bytes from now decision stream call.NoReply (call.Told again) names a b = absurd b
-handled_same old new other bytes from now decision stream (call.Told answer) again names a b = absurd a
+handled_same old new other bytes from now decision stream (call.Reply reply) (call.Reported again) names a b = absurd b
+handled_same old new other bytes from now decision stream call.NoReply (call.Reported again) names a b = absurd b
+handled_same old new other bytes from now decision stream (call.Reported answer) again names a b = absurd a
 
 auth_same : (old new other : State) (one : AuthCall) (answer again : ServerAnswer) → CallNamesOne old.auth one → IsAuthCalled answer one old new → IsAuthCalled again one old other → AreOne answer again new other
-auth_same old new other one (call.Told answer) (call.Told again) names a b =
+auth_same old new other one (call.Reported answer) (call.Reported again) names a b =
     let same = called_same old.auth one answer again new.auth other.auth names a.0 b.0 in
     let auths : new.auth ≡ other.auth = same.1 in
     let grants : new.grants ≡ other.grants = a.1 ∙ sym b.1 in
-    (ap (λ (t : AuthAnswer). call.Told t) same.0, λ i. record { auth = auths i; grants = grants i })
-auth_same old new other one (call.Told answer) _ names a b = absurd b
+    (ap (λ (t : AuthAnswer). call.Reported t) same.0, λ i. record { auth = auths i; grants = grants i })
+auth_same old new other one (call.Reported answer) _ names a b = absurd b
 auth_same old new other one _ again names a b = absurd a
 
--- a call is answered in one way, and leaves one desk
+-- The result of a call and the state that it leaves are unique.
 served_same : (old new other : State) (one : ServerCall) (answer again : ServerAnswer) → CallNamesOne old.auth (auth_call one) → IsServerCalled one answer old new → IsServerCalled one again old other
     → AreOne answer again new other
 served_same old new other (call.Handle bytes from now decision stream) answer again names a b = handled_same old new other bytes from now decision stream answer again names a b
@@ -157,7 +157,7 @@ served_same old new other (call.Auth one) answer again names a b = auth_same old
 abbrev calls_of : List (ServerCall × ServerAnswer) → List ServerCall
 calls_of pairs = map (λ pair. pair.0) pairs
 
--- the same calls of one desk are answered in one way, and leave one desk
+-- The results of a list of calls from one state, and the state that they leave, are unique.
 only_run : (pairs others : List (ServerCall × ServerAnswer)) (old new left : State) → IsServerRun old pairs new → IsServerRun old others left
     → calls_of pairs ≡ calls_of others → NameOneUser old.auth (calls_of pairs) → (pairs ≡ others) × (new ≡ left)
 unfolding IsServerRun EachNamesOne
@@ -175,12 +175,13 @@ only_run (pair ∷ pairs) (other ∷ others) old new left a b same each =
     let answers : pair.1 ≡ other.1 = step.0 in
     ((λ i. (heads i, answers i) ∷ rest.0 i), rest.1)
 
--- two runs from desks that an address can't tell apart give it the same answers to the same calls
+-- Two runs from server cores that an address can't distinguish, with equal calls that concern it, give it
+-- equal results.
 pub answers_are_fixed : (address : SocketAddr) (old other new left : State) (pairs others : List (ServerCall × ServerAnswer)) → AreAlike address old other → IsServerRun old pairs new → IsServerRun other others left
     → calls_concerning address pairs ≡ calls_concerning address others → NameOneUser old.auth (calls_concerning address pairs) → AreAnsweredAlike address pairs others new left
 answers_are_fixed address old other new left pairs others same run again calls each =
-    let one = stands_alone address pairs old old new (alike-refl address old) run in
-    let two = stands_alone address others other old left (alike_turned address old other same) again in
+    let one = is_isolated address pairs old old new (alike-refl address old) run in
+    let two = is_isolated address others other old left (alike_turned address old other same) again in
     let both = only_run (concerning address pairs) (concerning address others) old one.left two.left one.run two.run calls each in
     record {
       answers = both.0;

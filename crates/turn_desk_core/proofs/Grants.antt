@@ -1,4 +1,4 @@
--- A grant is kept exactly where one is granted.
+-- A grant is stored exactly if it is granted.
 use Rattle.std.specs.Prelude.{◌≡◌, ℕ, ◌↔◌, List, [], ◌∷◌, ◌++◌, length}
 use Rattle.std.proofs.Common.{sym, ap, ◌∙◌, subst, arith, inl, inr}
 use Rattle.std.proofs.lemmas.List.{length-append}
@@ -17,27 +17,27 @@ use Rattle.turn_desk_core.specs.declared.decision.Decision.{Decision}
 use Rattle.turn_desk_core.specs.declared.grant.Grant as granted
 use Rattle.turn_desk_core.specs.Requests.{IsServed}
 use Rattle.turn_desk_core.specs.Verdicts.{grants_of, reply_attributes, verdict_on}
-use Rattle.turn_desk_core.proofs.Granting.{granted_kept, verdict_kept}
+use Rattle.turn_desk_core.proofs.Granting.{granted_stored, verdict_stored}
 use Rattle.turn_desk_core.specs.State.{State}
 use Rattle.turn_desk_core.specs.Steps.{IsAnswer, IsGranted, IsVerdict}
 
--- a list is not itself and one more
+-- A list differs from itself with one more element.
 not_one_more : (all : List granted.Grant) (g : granted.Grant) → all ≡ all ++ g ∷ [] → ⊥
 not_one_more all g same = let longer = ap length same in let both = length-append all (g ∷ []) in omega (arith, longer, both)
 
--- what is put behind the same is the same
-same_behind : (all one other : List granted.Grant) → all ++ one ≡ all ++ other → one ≡ other
-same_behind [] one other same = same
-same_behind (a ∷ all) one other same = same_behind all one other (Prim.cc same)
+-- Appending to a list is injective.
+same_after : (all one other : List granted.Grant) → all ++ one ≡ all ++ other → one ≡ other
+same_after [] one other same = same
+same_after (a ∷ all) one other same = same_after all one other (Prim.cc same)
 
 abbrev KeepsMore : State → State → granted.Grant → Type 0
 KeepsMore old new g = new.grants ≡ old.grants ++ g ∷ []
 
--- what a verdict keeps is granted
-kept_is_granted : (old new : State) (from : SocketAddr) (bytes : List ℕ) (now : ℕ) (stream : Stream) (decision : Decision) (reply : List ℕ) (g : granted.Grant) → IsServed bytes
+-- What a verdict stores is granted.
+stored_is_granted : (old new : State) (from : SocketAddr) (bytes : List ℕ) (now : ℕ) (stream : Stream) (decision : Decision) (reply : List ℕ) (g : granted.Grant) → IsServed bytes
     → IsVerdict old from bytes now stream (verdict_on bytes decision) reply new → KeepsMore old new g → IsGranted old from bytes now stream decision reply g
-kept_is_granted old new from bytes now stream decision reply g served v more =
-    let kept = verdict_kept bytes from decision g served (same_behind old.grants (grants_of bytes from (verdict_on bytes decision)) (g ∷ []) (sym v.granted ∙ more)) in
+stored_is_granted old new from bytes now stream decision reply g served v more =
+    let stored = verdict_stored bytes from decision g served (same_after old.grants (grants_of bytes from (verdict_on bytes decision)) (g ∷ []) (sym v.granted ∙ more)) in
     let shows = reply_attributes bytes from (verdict_on bytes decision) in
     record {
       name = v.name;
@@ -46,11 +46,11 @@ kept_is_granted old new from bytes now stream decision reply g served v more =
       password = v.password;
       present = v.present;
       shows = shows;
-      granted_by = kept.grant;
-      read = subst (λ (kind : ℕ). IsReadAs kind (number_at bytes) (signed_attributes kind (number_at bytes) shows (user_key old.auth.realm v.name v.password v.algorithm) v.algorithm) reply) kept.success v.read;
+      granted_by = stored.grant;
+      read = subst (λ (kind : ℕ). IsReadAs kind (number_at bytes) (signed_attributes kind (number_at bytes) shows (user_key old.auth.realm v.name v.password v.algorithm) v.algorithm) reply) stored.success v.read;
     }
 
--- no error response is a success response
+-- No error response is a success response.
 no_success : (bytes : List ℕ) → IsServed bytes → success_type bytes ≡ error_type bytes → ⊥
 no_success bytes served = by_method (λ (m : ℕ). type_of Success m ≡ type_of Error m → ⊥)
     (record {
@@ -69,6 +69,6 @@ exactly_granted old new from bytes now stream decision reply g served (inl away)
   λ is. absurd (no_success bytes served (sym is.read.kind ∙ away.read.kind)),
 )
 exactly_granted old new from bytes now stream decision reply g served (inr v) = (
-  λ more. kept_is_granted old new from bytes now stream decision reply g served v more,
-  λ is. v.granted ∙ ap (λ (one : List granted.Grant). old.grants ++ one) (granted_kept bytes from decision is.shows g is.granted_by),
+  λ more. stored_is_granted old new from bytes now stream decision reply g served v more,
+  λ is. v.granted ∙ ap (λ (one : List granted.Grant). old.grants ++ one) (granted_stored bytes from decision is.shows g is.granted_by),
 )

@@ -1,4 +1,4 @@
--- What a validation keeps for its address, and the key that a reply to it is signed under.
+-- What a validation stores for its address, and the key that replies to it are signed with.
 use Rattle.std.specs.Prelude.{◌≡◌, ℕ, ◌<◌, slice_index, Bool, true, false, cond, List, [], ◌∷◌, ◌++◌, Option, Some, None, IsSome, IsSomeAnd, if◌then◌else◌, map as map_list}
 use Rattle.std.proofs.Common.{refl, sym, ap, ◌∙◌, subst, inl, inr}
 use Rattle.std.proofs.lemmas.Bool.{cases_Bool}
@@ -43,19 +43,19 @@ use Rattle.turn_desk_core.proofs.Numbers.{number_fits, reply_type_fits}
 use Rattle.turn_desk_core.proofs.Nonces.{refreshed_nonce, refreshed_realm}
 use Rattle.turn_desk_core.proofs.Ordinary.{signed_valid}
 
--- ---- what is kept
+-- ---- what is stored
 
--- what is kept with an outcome for an address whose nonce is known
-pub record Kept (clients : map.FinMap socket_addr_cmp Client) (from : SocketAddr) (nonce : List ℕ) (outcome : Option Outcome) : Type 0 where
+-- An outcome is stored for an address, together with its known nonce.
+pub record Stored (clients : map.FinMap socket_addr_cmp Client) (from : SocketAddr) (nonce : List ℕ) (outcome : Option Outcome) : Type 0 where
   pub client : Client
   pub found : map.get clients from ≡ Some client
   pub same_nonce : client.nonce ≡ nonce
   pub same_outcome : client.outcome ≡ outcome
 
-kept_by : (clients : map.FinMap socket_addr_cmp Client) (from : SocketAddr) (nonce : List ℕ) (outcome : Option Outcome) (found : Option Client) → map.get clients from ≡ found
-    → option_map (λ (c : Client). c.nonce) found ≡ Some nonce → Kept (set_outcome clients from outcome found) from nonce outcome
-kept_by clients from nonce outcome None is has = absurd (Prim.cc has)
-kept_by clients from nonce outcome (Some old) is has =
+stored_by : (clients : map.FinMap socket_addr_cmp Client) (from : SocketAddr) (nonce : List ℕ) (outcome : Option Outcome) (found : Option Client) → map.get clients from ≡ found
+    → option_map (λ (c : Client). c.nonce) found ≡ Some nonce → Stored (set_outcome clients from outcome found) from nonce outcome
+stored_by clients from nonce outcome None is has = absurd (Prim.cc has)
+stored_by clients from nonce outcome (Some old) is has =
     let new : Client = record old { outcome = outcome } in
     let same : is_eq (socket_addr_cmp from from) ≡ true = (eq_by_cmp_equiv socket_addr_cmp_total).refl from in
     record {
@@ -68,35 +68,35 @@ kept_by clients from nonce outcome (Some old) is has =
     some_injective : {a b : List ℕ} → Some a ≡ Some b → a ≡ b
     some_injective p = Prim.cc p
 
-pub kept_outcome : (server : Server) (from : SocketAddr) (nonce : List ℕ) (outcome : Option Outcome) → nonce_at server from ≡ Some nonce → Kept (with_outcome server from outcome).clients from nonce outcome
-kept_outcome server from nonce outcome has = kept_by server.clients from nonce outcome (map.get server.clients from) refl has
+pub stored_outcome : (server : Server) (from : SocketAddr) (nonce : List ℕ) (outcome : Option Outcome) → nonce_at server from ≡ Some nonce → Stored (with_outcome server from outcome).clients from nonce outcome
+stored_outcome server from nonce outcome has = stored_by server.clients from nonce outcome (map.get server.clients from) refl has
 
--- an outcome leaves the nonce
+-- Storing an outcome leaves the nonce unchanged.
 pub outcome_nonce : (server : Server) (from : SocketAddr) (nonce : List ℕ) (outcome : Option Outcome) → nonce_at server from ≡ Some nonce → nonce_at (with_outcome server from outcome) from ≡ Some nonce
 outcome_nonce server from nonce outcome has =
-    let kept = kept_outcome server from nonce outcome has in
-    ap (option_map (λ (c : Client). c.nonce)) kept.found ∙ ap Some kept.same_nonce
+    let stored = stored_outcome server from nonce outcome has in
+    ap (option_map (λ (c : Client). c.nonce)) stored.found ∙ ap Some stored.same_nonce
 
 -- ---- what a refresh leaves
 
 pub refreshed_users : (server : Server) (from : SocketAddr) (now : ℕ) (stream : Stream) → (refreshed server from now stream).users ≡ server.users
 refreshed_users server from now stream =
     elim (cases_Bool (has_standing_nonce server from now)) [
-      | inl stands ↦ rw stands refl
-      | inr stands ↦ rw stands refl
+      | inl occurs ↦ rw occurs refl
+      | inr occurs ↦ rw occurs refl
     ]
 
 -- ---- the key
 
-party_kept : (server : Server) (from : SocketAddr) (nonce name password : List ℕ) (algorithm : IntegrityAlgorithm) → Kept server.clients from nonce (Some (record { name = name; algorithm = algorithm })) → map.get server.users name ≡ Some password
+party_stored : (server : Server) (from : SocketAddr) (nonce name password : List ℕ) (algorithm : IntegrityAlgorithm) → Stored server.clients from nonce (Some (record { name = name; algorithm = algorithm })) → map.get server.users name ≡ Some password
     → party_at server from ≡ Some (record { realm = server.realm; nonce = nonce; algorithms = server.algorithms; user = Some (record { name = name; password = password; algorithm = algorithm }) })
-party_kept server from nonce name password algorithm kept present =
-    ap (party_by_client server) kept.found
-    ∙ ap (λ (n : List ℕ). party_by_outcome server n kept.client.outcome) kept.same_nonce
-    ∙ ap (party_by_outcome server nonce) kept.same_outcome
+party_stored server from nonce name password algorithm stored present =
+    ap (party_by_client server) stored.found
+    ∙ ap (λ (n : List ℕ). party_by_outcome server n stored.client.outcome) stored.same_nonce
+    ∙ ap (party_by_outcome server nonce) stored.same_outcome
     ∙ ap (party_by_password server nonce (record { name = name; algorithm = algorithm })) present
 
--- a request that is taken for a user's: the user is there, and its key is the one that replies are signed under
+-- The user whose request was accepted exists, and replies are signed with that user's key.
 pub record IsKeyOf (old new : Server) (from : SocketAddr) (name : List ℕ) (algorithm : IntegrityAlgorithm) : Type 0 where
   pub password : List ℕ
   pub present : map.get old.users name ≡ Some password
@@ -108,8 +108,8 @@ taken_key old from bytes now stream name algorithm new realm taken =
     let r = refreshed old from now stream in
     let users = refreshed_users old from now stream in
     let present : map.get r.users name ≡ Some taken.accepts.password = taken.accepts.named.present in
-    let kept = kept_outcome r from taken.accepts.judged.nonce (Some (record { name = name; algorithm = algorithm })) taken.accepts.judged.stands in
-    let party = party_kept (with_outcome r from (Some (record { name = name; algorithm = algorithm }))) from taken.accepts.judged.nonce name taken.accepts.password algorithm kept present in
+    let stored = stored_outcome r from taken.accepts.judged.nonce (Some (record { name = name; algorithm = algorithm })) taken.accepts.judged.occurs in
+    let party = party_stored (with_outcome r from (Some (record { name = name; algorithm = algorithm }))) from taken.accepts.judged.nonce name taken.accepts.password algorithm stored present in
     record {
       password = taken.accepts.password;
       present = ap (λ u. map.get u name) (sym users) ∙ present;
@@ -119,7 +119,7 @@ taken_key old from bytes now stream name algorithm new realm taken =
 
 -- ---- what is added to a reply
 
--- what is added under a key alone
+-- What is added to a message that is only signed.
 abbrev sealed : Option Key → Addition
 sealed key = record { parts = []; signer = key }
 
@@ -138,7 +138,7 @@ added : (party : Option Party) (class : MessageClass) → is_response_class clas
 added None class response has = absurd (Prim.cc has)
 added (Some party) class response has = added_user party party.user class response has
 
--- a response to an address that was validated gets the integrity attribute alone
+-- A response to an address with a validated user gets the integrity attribute alone.
 pub added_for : (server : Server) (from : SocketAddr) (class : MessageClass) → is_response_class class ≡ true → IsSome (key_at server from) → addition_for server from class ≡ Some (sealed (key_at server from))
 added_for server from class response has = added (party_at server from) class response has
 
@@ -168,13 +168,13 @@ signed_by server from (Some key) old new kind number attributes is has made repl
 
 pub signed_for : (server : Server) (from : SocketAddr) (class : MessageClass) (old new : Draft) (text : List ℕ) → is_response_class class ≡ true → IsSome (key_at server from) → text ≡ new.bytes
     → IsSomeAnd (addition_for server from class) (λ made. IsMade made old new) → (kind number : ℕ) (attributes : List Attr) → IsReply kind number attributes old → IsSignedFor server from kind number attributes text
-signed_for server from class old new text response has told made kind number attributes reply =
+signed_for server from class old new text response has reported made kind number attributes reply =
     let own = subst (λ (a : Option Addition). IsSomeAnd a (λ made. IsMade made old new)) (added_for server from class response has) made in
-    rw told (signed_by server from (key_at server from) old new kind number attributes refl has own reply)
+    rw reported (signed_by server from (key_at server from) old new kind number attributes refl has own reply)
 
 -- ---- a validation
 
--- what a validation that is a yes says and leaves
+-- What a successful validation says, and the state that it leaves.
 pub record Takes (old : Server) (from : SocketAddr) (bytes : List ℕ) (now : ℕ) (stream : Stream) (new : Server) : Type 0 where
   pub name : List ℕ
   pub algorithm : IntegrityAlgorithm
@@ -184,16 +184,16 @@ pub takes : (old : Server) (from : SocketAddr) (bytes : List ℕ) (now : ℕ) (s
 takes old from bytes now stream (Validated algorithm) new valid = record {
   name = valid.name;
   algorithm = algorithm;
-  taken = record { accepts = valid.accepts; after = valid.kept };
+  taken = record { accepts = valid.accepts; after = valid.stored };
 }
 
--- after it there is a key for its address
+-- After it there is a key for its address.
 pub takes_key : (old : Server) (from : SocketAddr) (bytes : List ℕ) (now : ℕ) (stream : Stream) (new : Server) → Takes old from bytes now stream new → IsSome (key_at new from)
 takes_key old from bytes now stream new t =
     let key = (taken_key old from bytes now stream t.name t.algorithm new (refreshed_realm old from now stream) t.taken).key in
     rw key refl
 
--- the reply that is signed for its address is that of the verdict
+-- The reply that is signed for its address is that of the verdict.
 pub answered : (old new : State) (from : SocketAddr) (bytes : List ℕ) (now : ℕ) (stream : Stream) (what : Verdict) (after : Server) (reply : List ℕ) → ((i : ℕ) → slice_index bytes i < 256) → IsServed bytes
     → Takes old.auth from bytes now stream after
     → IsSignedFor after from (reply_type bytes what) (number_at bytes) (reply_attributes bytes from what) reply → new ≡ record { auth = after; grants = old.grants ++ grants_of bytes from what } → IsVerdict old from bytes now stream what reply new
@@ -222,7 +222,7 @@ answered old new from bytes now stream what after reply are served t signed is =
 
 -- ---- a refusal
 
--- a request is no response
+-- A request is not a response.
 pub request_class : (bytes : List ℕ) → IsServed bytes → is_response bytes ≡ false
 request_class bytes served = ap is_response_class served.request
 
@@ -230,7 +230,7 @@ pub refusal_after : (old : Server) (from : SocketAddr) (bytes : List ℕ) (now :
 refusal_after old from bytes now stream new served is =
     is ∙ ap (λ (b : Bool). if b then old else with_outcome (refreshed old from now stream) from None) (request_class bytes served)
 
--- the nonce that stands for its address is kept after it
+-- After a rejection the nonce that is valid for the address is still stored.
 pub refused_nonce : (old : Server) (from : SocketAddr) (now : ℕ) (stream : Stream) (new : Server) → new ≡ with_outcome (refreshed old from now stream) from None → IsSome (nonce_at new from)
 refused_nonce old from now stream new is =
     elim_nonce (nonce_at (refreshed old from now stream) from) refl (refreshed_nonce old from now stream)

@@ -1,10 +1,10 @@
--- A verdict has a code that an error response can carry, or few addresses.
+-- A verdict has a code that an error response can carry, or at most two addresses.
 use Rattle.std.specs.Prelude.{◌≡◌, ◌≤◌, ℕ, Bool, true, false, nat_lt, ◌||◌, List, [], ◌∷◌, length, Option, Some, None}
 use Rattle.std.proofs.Common.{refl, arith, inl, inr}
 use Rattle.std.proofs.lemmas.Bool.{cases_Bool, ltb-false}
 use Rattle.std.specs.declared.net.socket_addr.SocketAddr.{SocketAddr}
-use Rattle.turn_desk_core.specs.declared.asked.Asked.{Asked}
-use Rattle.turn_desk_core.specs.declared.asked.Asked.TheVariants.{Allocation, Refreshment, Permissions, Channel, Connection, Binding}
+use Rattle.turn_desk_core.specs.declared.requested.Requested.{Requested}
+use Rattle.turn_desk_core.specs.declared.requested.Requested.TheVariants.{Allocation, Refreshment, Permissions, Channel, Connection, Binding}
 use Rattle.turn_desk_core.specs.declared.decision.Decision.{Decision}
 use Rattle.turn_desk_core.specs.declared.decision.Decision.TheVariants.{Refuse, Allocate, Refresh, Connect, Grant}
 use Rattle.turn_desk_core.specs.Verdicts.{IsLawful, IsLawfulCode, are_relayable, decided, fitted, misfit, refused_code, verdict}
@@ -31,7 +31,7 @@ code_lawful code =
           rw inside (record { least = ltb-false code 300 both.0; most = ltb-false 699 code both.1 })
     ]
 
-fitted_lawful : (told : Asked) (decision : Decision) → IsLawful (fitted told decision)
+fitted_lawful : (reported : Requested) (decision : Decision) → IsLawful (fitted reported decision)
 fitted_lawful (Allocation t) (Refuse code) = misfit_lawful
 fitted_lawful (Allocation t) (Allocate addresses lifetime) =
     elim (cases_Bool (are_relayable addresses)) [
@@ -67,13 +67,13 @@ fitted_lawful (Binding cn) (Refresh lifetime) = misfit_lawful
 fitted_lawful (Binding cn) (Connect number) = misfit_lawful
 fitted_lawful (Binding cn) Grant = tt
 
-pub decided_lawful : (told : Asked) (decision : Decision) → IsLawful (decided told decision)
-decided_lawful told (Refuse code) = code_lawful code
-decided_lawful told (Allocate addresses lifetime) = fitted_lawful told (Allocate addresses lifetime)
-decided_lawful told (Refresh lifetime) = fitted_lawful told (Refresh lifetime)
-decided_lawful told (Connect number) = fitted_lawful told (Connect number)
-decided_lawful told Grant = fitted_lawful told Grant
+pub decided_lawful : (reported : Requested) (decision : Decision) → IsLawful (decided reported decision)
+decided_lawful reported (Refuse code) = code_lawful code
+decided_lawful reported (Allocate addresses lifetime) = fitted_lawful reported (Allocate addresses lifetime)
+decided_lawful reported (Refresh lifetime) = fitted_lawful reported (Refresh lifetime)
+decided_lawful reported (Connect number) = fitted_lawful reported (Connect number)
+decided_lawful reported Grant = fitted_lawful reported Grant
 
-pub verdict_lawful : (found : Option Asked) (decision : Decision) → IsLawful (verdict found decision)
+pub verdict_lawful : (found : Option Requested) (decision : Decision) → IsLawful (verdict found decision)
 verdict_lawful None decision = record { least = omega arith; most = omega arith }
-verdict_lawful (Some told) decision = decided_lawful told decision
+verdict_lawful (Some reported) decision = decided_lawful reported decision

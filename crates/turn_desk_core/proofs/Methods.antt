@@ -1,10 +1,10 @@
--- Cases of the methods that are served.
+-- Case analysis over the methods that are served.
 use Rattle.std.specs.Prelude.{ℕ}
 use Rattle.std.proofs.Common.{sym, subst, inl, inr}
 use Rattle.turn_types_attributes.specs.TurnRegistry.{allocate_method, channel_bind_method, connect_method, connection_bind_method, create_permission_method, refresh_method}
 use Rattle.turn_desk_core.specs.Requests.{IsServedMethod}
 
--- what holds of each method that is served
+-- `P` holds for each method that is served.
 pub record OfEach (P : ℕ → Type 0) : Type 0 where
   pub allocate : P allocate_method
   pub refresh : P refresh_method

@@ -1,4 +1,4 @@
--- The type and the number of a reply fit into their fields.
+-- The message type and the transaction ID of a reply fit into their fields.
 use Rattle.std.specs.Prelude.{ℕ, suc, ◌^◌, ◌<◌, slice_index, List, [], ◌∷◌}
 use Rattle.std.proofs.Common.{refl, arith, ltb}
 use Rattle.std.proofs.lemmas.Bool.{lt-ltb, and_from}

@@ -1,4 +1,4 @@
--- What a writer holds that took ordinary attributes, and then perhaps an integrity attribute.
+-- The state of a writer to which ordinary attributes were added, and then perhaps an integrity attribute.
 use Rattle.std.specs.Prelude.{◌≡◌, ℕ, ◌<◌, ◌^◌, List, [], ◌∷◌, ◌++◌, map}
 use Rattle.std.proofs.Common.{sym, ◌∙◌, subst, append_assoc}
 use Rattle.std.proofs.lemmas.List.{append-nil}
@@ -12,7 +12,7 @@ use Rattle.stun_types_add.specs.Integrity.Integrity.{Validates}
 use Rattle.stun_types_add.specs.Integrity.Signing.{text_to_sign}
 use Rattle.stun_types_message.proofs.Composed.{calls_validate}
 
--- the attributes of ordinary calls are those that they add
+-- The attributes after ordinary calls are those that the calls add.
 pub ordinary_after : (mtype number : ℕ) (all before : List Attr) → attributes_after mtype number (map Ordinary all) before ≡ before ++ all
 unfolding attributes_after
 ordinary_after mtype number [] before = sym (append-nil before)
@@ -22,7 +22,7 @@ both_lawful : (all : List Attr) (algorithm : IntegrityAlgorithm) (key : List ℕ
 both_lawful [] algorithm key lawful = (tt, tt)
 both_lawful (a ∷ all) algorithm key lawful = (lawful.0, both_lawful all algorithm key lawful.1)
 
--- it validates under the key of the integrity attribute
+-- The message validates under the key of its integrity attribute.
 pub signed_valid : (mtype number : ℕ) (all : List Attr) (algorithm : IntegrityAlgorithm) (key : List ℕ) (draft : Draft) → mtype < 2 ^ 14 → number < 2 ^ 96 → AllByRecursion IsOrdinary all
     → IsWritten mtype number (map Ordinary all ++ Integrity algorithm key ∷ []) draft → Validates draft.bytes key algorithm (text_to_sign algorithm (message_text mtype number all))
 signed_valid mtype number all algorithm key draft k n lawful written =

@@ -1,4 +1,5 @@
--- Nothing but want of memory refuses a reply: its code and its texts are lawful, and it has room for its attributes.
+-- Writing a reply can fail only if an allocation fails: its code and its texts are valid, and it has room for
+-- its attributes.
 use Rattle.std.specs.Prelude.{option_to_list, slice_get}
 use Rattle.std.proofs.Common.{◌≡◌, ℕ, ◌+◌, ◌≤◌, List, [], ◌∷◌, ◌++◌, length, Option, None, Some, refl, sym, ap, subst, ◌∙◌, append_assoc, arith}
 use Rattle.std.specs.declared.net.socket_addr.SocketAddr.{SocketAddr}
@@ -25,7 +26,7 @@ use Rattle.turn_desk_core.proofs.Adding.{relayed-parts}
 use Rattle.turn_desk_core.proofs.Sizes.{allocated-length, body-length, lifetime_of, mapped_of, no_body, reason-short, relayed-length, text-length, xored_short}
 use Rattle.turn_types_attributes.specs.TurnRegistry.{lifetime_kind}
 
--- where there is no cause, an error is want of memory
+-- If there is no other cause, an error is `NoMemory`.
 pub only_memory : (refusal : Option StunWriteError) (error : StunWriteError) → IsCause NoMemory refusal error → refusal ≡ None → error ≡ NoMemory
 only_memory refusal NoMemory cause none = refl
 only_memory refusal (AttributeExists kind) cause none = absurd (let named = cause.named (λ same. Prim.cc same) in Prim.cc (named, none))
@@ -38,19 +39,19 @@ only_memory refusal (OutOfRange value least most) cause none = absurd (let named
 
 -- ---- texts
 
--- a short text is not refused
+-- A short text is accepted.
 pub text_accepted : (most : ℕ) (text : List ℕ) → length text ≤ most → text_refusal most text ≡ None
 text_accepted most text short = rw (le-ltb most (length text) short) refl
 
--- nor is a lawful code with the reason that goes with it
-pub code_accepted : (told : CodeAndOther) (code : ℕ) → told.code ≡ code → told.reason ≡ None → 300 ≤ code → code ≤ 699 → error_refusal told.code (reason_of told) ≡ None
+-- A code from 300 to 699 with its standard reason is accepted.
+pub code_accepted : (reported : CodeAndOther) (code : ℕ) → reported.code ≡ code → reported.reason ≡ None → 300 ≤ code → code ≤ 699 → error_refusal reported.code (reason_of reported) ≡ None
 unfolding error_refusal
-code_accepted told code is default least most =
+code_accepted reported code is default least most =
     rw (is, default, le-ltb code 300 least, le-ltb 699 code most) (text_accepted longest_text _ (reason-short code))
 
 -- ---- room
 
--- the first attributes of a message are no longer than all of them
+-- The first attributes of a message are no longer than all of them.
 body-prefix : (before after : List Attr) → length (body_text before) ≤ length (body_text (before ++ after))
 unfolding body_text
 body-prefix [] after = omega arith
@@ -63,7 +64,7 @@ prefix-length kind number before after short =
     let less = body-prefix before after in
     omega (arith, part, all, less, short)
 
--- a short message has room for a short attribute
+-- A short message has room for a short attribute.
 pub room_left : (kind number : ℕ) (attributes : List Attr) (old reply : Draft) (size : ℕ) → old ≡ empty [] None → IsComposed kind number attributes old reply → length (message_text kind number attributes) ≤ 4096 → size ≤ 4096 → add_refusal reply size ≡ None
 unfolding add_refusal
 room_left kind number attributes old reply size new composed short small =
@@ -71,25 +72,25 @@ room_left kind number attributes old reply size new composed short small =
     let held : length reply.bytes ≤ 4096 = subst (λ (n : ℕ). n ≤ 4096) (sym (ap length composed.text)) short in
     rw (composed.ended, free, le-ltb (20 + 65_535) (length reply.bytes + size) (omega (arith, held, small))) refl
 
--- a message that was begun has room
+-- A message that was just started is short.
 pub none-length : (kind number : ℕ) → length (message_text kind number []) ≤ 4096
 none-length kind number = let text = text-length kind number [] in let none = no_body in omega (arith, text, none)
 
--- for ERROR-CODE
+-- There is room for ERROR-CODE.
 pub error_room : (kind number code : ℕ) (a : Attr) (old reply : Draft) → old ≡ empty [] None → IsComposed kind number [] old reply → a ≡ error_attribute code → add_refusal reply (attr_size a) ≡ None
-error_room kind number code a old reply new begun is =
+error_room kind number code a old reply new started is =
     let reason = reason-short code in
     let size : attr_size (error_attribute code) ≤ 4096 = omega (arith, reason) in
-    room_left kind number [] old reply (attr_size a) new begun (none-length kind number) (rw is size)
+    room_left kind number [] old reply (attr_size a) new started (none-length kind number) (rw is size)
 
--- for XOR-RELAYED-ADDRESS, of the same number
+-- There is room for XOR-RELAYED-ADDRESS.
 pub relayed_room : (kind number own : ℕ) (before : List Attr) (old reply : Draft) → old ≡ empty [] None → IsComposed kind number before old reply → length (message_text kind number before) ≤ 4096 → (addr : SocketAddr)
     → add_refusal reply (attr_size (relayed_attribute own addr)) ≡ None
 relayed_room kind number own before old reply new composed short addr =
     let fits = xored_short own (address_value addr) in
     room_left kind number before old reply (attr_size (relayed_attribute own addr)) new composed short (omega (arith, fits))
 
--- a message that shows the first address alone is short
+-- A message with only the first relayed address is short.
 pub first-length : (kind number own : ℕ) (first : Option SocketAddr) → length (message_text kind number (relayed_attributes own (option_to_list first))) ≤ 4096
 first-length kind number own None = none-length kind number
 first-length kind number own (Some addr) =
@@ -98,7 +99,7 @@ first-length kind number own (Some addr) =
     let none = no_body in
     omega (arith, text, one, none)
 
--- for LIFETIME, behind the relayed addresses
+-- There is room for LIFETIME after the relayed addresses.
 pub lifetime_room : (kind m n : ℕ) (relayed : List SocketAddr) (from : SocketAddr) (first second : Option SocketAddr) (old two : Draft) (seconds : ℕ)
     → m ≡ n → length relayed ≤ 2 → first ≡ slice_get relayed 0 → second ≡ slice_get relayed 1 → old ≡ empty [] None
     → IsComposed kind m (relayed_attributes m (option_to_list first) ++ relayed_attributes m (option_to_list second)) old two
@@ -109,7 +110,7 @@ lifetime_room kind m n relayed from first second old two seconds number few one 
     let short = prefix-length kind n all (lifetime_of seconds ∷ mapped_of n from ∷ []) (allocated-length kind n seconds from relayed few) in
     room_left kind n all old two (attr_size (attr_of lifetime_kind (big_bytes 4 seconds))) new r2 short (omega arith)
 
--- for XOR-MAPPED-ADDRESS, behind LIFETIME
+-- There is room for XOR-MAPPED-ADDRESS after LIFETIME.
 pub mapped_room : (kind m n : ℕ) (relayed : List SocketAddr) (from : SocketAddr) (first second : Option SocketAddr) (old two three : Draft) (seconds : ℕ) (mapped : List ℕ)
     → m ≡ n → length relayed ≤ 2 → first ≡ slice_get relayed 0 → second ≡ slice_get relayed 1 → old ≡ empty [] None
     → IsComposed kind m (relayed_attributes m (option_to_list first) ++ relayed_attributes m (option_to_list second)) old two

@@ -1,4 +1,4 @@
--- How long a reply is: it can always be signed.
+-- The length of a reply: it can always be signed.
 use Rattle.std.specs.Prelude.{◌≡◌, ℕ, ◌+◌, ◌≤◌, ◌==◌, Bool, true, false, if◌then◌else◌, List, [], ◌∷◌, length, None}
 use Rattle.std.specs.declared.net.socket_addr.SocketAddr.{SocketAddr}
 use Rattle.std.proofs.Common.{refl, sym, ap, subst, ◌∙◌, arith}
@@ -22,13 +22,13 @@ use Rattle.stun_types_message.specs.Objections.{error_attribute}
 use Rattle.turn_desk_core.specs.Replies.{IsReply, allocated_attributes, failure_attributes, relayed_attribute}
 use Rattle.turn_types_attributes.specs.TurnRegistry.{lifetime_kind}
 
--- an xor is no longer than what it is made with
+-- The result of an XOR is no longer than its mask.
 xor_short : (bytes mask : List ℕ) → length (xor_bytes bytes mask) ≤ length mask
 xor_short [] mask = omega arith
 xor_short (b ∷ bytes) [] = omega arith
 xor_short (b ∷ bytes) (m ∷ mask) = let shorter = xor_short bytes mask in omega (arith, shorter)
 
--- an xored address has at most twenty bytes
+-- An XORed address has at most twenty bytes.
 pub xored_short : (number : ℕ) (value : List ℕ) → length (xored number value) ≤ 20
 unfolding octets_mask
 xored_short number value = let short = xor_short value (0 ∷ 0 ∷ 0x21 ∷ 0x12 ∷ octets_mask number) in omega (arith, short)
@@ -39,7 +39,7 @@ either-short : (choice : Bool) (one other : List ℕ) → length one ≤ longest
 either-short true one other h k = h
 either-short false one other h k = k
 
--- the reason that goes with a code is short
+-- The standard reason of a code is short.
 pub reason-short : (code : ℕ) → length (reason_for code) ≤ longest_text
 reason-short code =
     either-short (code == 300) _ _ (omega arith) (
@@ -77,14 +77,14 @@ no_body = refl
 
 -- ---- what can be signed
 
--- a short message to which no attribute was added that ends one
+-- A short message to which no final attribute was added can be signed.
 signable : (reply : Draft) → reply.ended ≡ none_ended → reply.limit ≡ None → length reply.bytes ≤ 4096 → (algorithm : IntegrityAlgorithm) → signing_refusal reply algorithm algorithm ≡ None
 unfolding signing_refusal order_refusal
 signable reply none free short Sha1 = rw (none, free, le-ltb (20 + 65_535) (length reply.bytes + 24) (omega (arith, short))) refl
 signable reply none free short Sha256 = rw (none, free, le-ltb (20 + 65_535) (length reply.bytes + 36) (omega (arith, short))) refl
 signable reply none free short Sha512 = rw (none, free, le-ltb (20 + 65_535) (length reply.bytes + 68) (omega (arith, short))) refl
 
--- the attributes of a success but for the relayed addresses
+-- The attributes of an ALLOCATE success response, except the relayed addresses.
 abbrev pub lifetime_of : ℕ → Attr
 lifetime_of lifetime = record { kind = lifetime_kind; value = big_bytes 4 lifetime }
 
@@ -166,6 +166,6 @@ failure_reply kind number code old reply new composed = reply_of kind number (fa
 pub allocated_reply : (kind number lifetime : ℕ) (from : SocketAddr) (relayed : List SocketAddr) (old reply : Draft) → old ≡ empty [] None → length relayed ≤ 2 → IsComposed kind number (allocated_attributes number relayed lifetime from) old reply → IsReply kind number (allocated_attributes number relayed lifetime from) reply
 allocated_reply kind number lifetime from relayed old reply new few composed = reply_of kind number (allocated_attributes number relayed lifetime from) old reply new composed (allocated_ordinary number lifetime from relayed few) (allocated-length kind number lifetime from relayed few)
 
--- the reason of a code that is built without another
-pub default_reason : (told : CodeAndOther) (code : ℕ) → told.code ≡ code → told.reason ≡ None → reason_of told ≡ reason_for code
-default_reason told code is reason = rw (reason, is) refl
+-- A code that is built without a reason gets its standard reason.
+pub default_reason : (reported : CodeAndOther) (code : ℕ) → reported.code ≡ code → reported.reason ≡ None → reason_of reported ≡ reason_for code
+default_reason reported code is reason = rw (reason, is) refl

@@ -1,4 +1,4 @@
--- What an answered request is for a layer above.
+-- What a reply means for a layer above.
 use Rattle.std.specs.Prelude.{◌≡◌, ◌⊎◌, ℕ, ◌+◌, Bool, true, false, List, [], ◌∷◌, ◌++◌, Some}
 use Rattle.std.proofs.Common.{refl, sym, ap, ◌∙◌, subst, inl, inr}
 use Rattle.std.proofs.lemmas.List.{append-nil}
@@ -14,13 +14,13 @@ use Rattle.stun_types_wire.specs.Attributes.{Attr, attr_size, kind_at, numbered}
 use Rattle.stun_types_wire.specs.Types.{class_of, is_response_class, method_of, type_of}
 use Rattle.stun_types_write.specs.Adding.{has_kind}
 use Rattle.stun_types_wire.specs.Shape.{kinds_of, rank}
-use Rattle.stun_types_wire.specs.Grammar.{number_at, shown}
+use Rattle.stun_types_wire.specs.Grammar.{number_at, visible}
 use Rattle.stun_types_wire.specs.Text.{message_text}
 use Rattle.stun_types_add.specs.Integrity.Integrity.{Validates, attribute_kind}
 use Rattle.stun_types_add.specs.Integrity.Signing.{signature, text_to_sign}
 use Rattle.stun_types_message.specs.Objections.{error_type}
 use Rattle.stun_proto_verify.specs.Knowledge.{Named}
-use Rattle.stun_proto_verify.specs.Auth.Nonce.{features_told}
+use Rattle.stun_proto_verify.specs.Auth.Nonce.{features_in}
 use Rattle.stun_proto_verify.specs.Auth.Addition.{attrs}
 use Rattle.stun_proto_verify.specs.Judgement.{user_key}
 use Rattle.stun_proto_server.specs.Server.{Server, refreshed}
@@ -37,7 +37,7 @@ use Rattle.turn_desk_core.specs.declared.verdict.Verdict.TheVariants.{Fails, All
 use Rattle.turn_desk_core.specs.Grants.{IsGrant, Allocated, Refreshed, Permitted, Bound, Connected, Joined}
 use Rattle.turn_desk_core.specs.Requests.{IsServed}
 use Rattle.turn_desk_core.specs.Verdicts.{grants_of, reply_attributes, reply_type, verdict_on}
-use Rattle.turn_desk_core.proofs.Granting.{verdict_kept}
+use Rattle.turn_desk_core.proofs.Granting.{verdict_stored}
 use Rattle.turn_desk_core.proofs.Methods.{by_method}
 use Rattle.turn_desk_core.specs.State.{State}
 use Rattle.turn_desk_core.specs.Steps.{IsAnswer, IsChallenge, IsVerdict, refusal_attributes, unvalidated_party}
@@ -63,39 +63,39 @@ success_has bytes served = by_method (λ (m : ℕ). HasType Success (type_of Suc
 abbrev ArePlain : List Attr → Type 0
 ArePlain all = AllByRecursion (λ (a : Attr). rank a.kind ≡ 0) all
 
--- among plain attributes each is one
-plain_there : (all : List Attr) (offset : ℕ) (before : List (ℕ × Attr)) (e : ℕ × Attr) (behind : List (ℕ × Attr)) → ArePlain all → numbered offset all ≡ before ++ e ∷ behind → rank e.1.kind ≡ 0
-plain_there [] offset [] e behind plain is = absurd (Prim.cc is)
-plain_there [] offset (b ∷ before) e behind plain is = absurd (Prim.cc is)
-plain_there (a ∷ all) offset [] e behind plain is =
+-- Each element of a list of plain attributes is plain.
+plain_there : (all : List Attr) (offset : ℕ) (before : List (ℕ × Attr)) (e : ℕ × Attr) (following : List (ℕ × Attr)) → ArePlain all → numbered offset all ≡ before ++ e ∷ following → rank e.1.kind ≡ 0
+plain_there [] offset [] e following plain is = absurd (Prim.cc is)
+plain_there [] offset (b ∷ before) e following plain is = absurd (Prim.cc is)
+plain_there (a ∷ all) offset [] e following plain is =
     let same : (offset, a) ≡ e = Prim.cc is in
     subst (λ (x : ℕ × Attr). rank x.1.kind ≡ 0) same plain.0
-plain_there (a ∷ all) offset (b ∷ before) e behind plain is =
-    plain_there all (offset + attr_size a) before e behind plain.1 (Prim.cc is)
+plain_there (a ∷ all) offset (b ∷ before) e following plain is =
+    plain_there all (offset + attr_size a) before e following plain.1 (Prim.cc is)
 
 no_plain : (algorithm : IntegrityAlgorithm) → rank (attribute_kind algorithm) ≡ 0 → ⊥
 no_plain Sha1 h = Prim.cc h
 no_plain Sha256 h = Prim.cc h
 no_plain Sha512 h = Prim.cc h
 
--- a message of plain attributes validates under no key
-plain_unsigned : (reply : List ℕ) (all : List Attr) → shown reply ≡ all → ArePlain all → IsUnsigned reply
+-- A message with only plain attributes validates under no key.
+plain_unsigned : (reply : List ℕ) (all : List Attr) → visible reply ≡ all → ArePlain all → IsUnsigned reply
 plain_unsigned reply all shows plain key text algorithm valid =
     let signed = valid.signed in
-    let there : numbered 20 all ≡ signed.before ++ (signed.offset, signed.attribute) ∷ signed.behind = ap (λ (l : List Attr). numbered 20 l) (sym shows) ∙ signed.shows in
-    no_plain algorithm (ap rank (sym signed.kind) ∙ plain_there all 20 signed.before (signed.offset, signed.attribute) signed.behind plain there)
+    let there : numbered 20 all ≡ signed.before ++ (signed.offset, signed.attribute) ∷ signed.following = ap (λ (l : List Attr). numbered 20 l) (sym shows) ∙ signed.shows in
+    no_plain algorithm (ap rank (sym signed.kind) ∙ plain_there all 20 signed.before (signed.offset, signed.attribute) signed.following plain there)
 
 list_plain : (lists : Bool) (algorithms : List IntegrityAlgorithm) → ArePlain (attrs (list_for lists algorithms))
 list_plain false algorithms = tt
 list_plain true algorithms = (refl, tt)
 
--- what a refused request is shown is plain
+-- The attributes of the reply to a request that failed validation are plain.
 refusal_plain : (error : LongTermServerAuthError) (party : Party) → ArePlain (refusal_attributes error party)
 refusal_plain BadRequest party = (refl, tt)
-refusal_plain StaleNonce party = (refl, (refl, (refl, list_plain (features_told party.nonce).password_algorithms party.algorithms)))
-refusal_plain Unauthorized party = (refl, (refl, (refl, list_plain (features_told party.nonce).password_algorithms party.algorithms)))
-refusal_plain (IntegrityFailed algorithm) party = (refl, (refl, (refl, list_plain (features_told party.nonce).password_algorithms party.algorithms)))
-refusal_plain NoMemory party = (refl, (refl, (refl, list_plain (features_told party.nonce).password_algorithms party.algorithms)))
+refusal_plain StaleNonce party = (refl, (refl, (refl, list_plain (features_in party.nonce).password_algorithms party.algorithms)))
+refusal_plain Unauthorized party = (refl, (refl, (refl, list_plain (features_in party.nonce).password_algorithms party.algorithms)))
+refusal_plain (IntegrityFailed algorithm) party = (refl, (refl, (refl, list_plain (features_in party.nonce).password_algorithms party.algorithms)))
+refusal_plain NoMemory party = (refl, (refl, (refl, list_plain (features_in party.nonce).password_algorithms party.algorithms)))
 
 -- ---- what an error shows
 
@@ -108,10 +108,10 @@ list_without true algorithms = refl
 
 refusal_without : (error : LongTermServerAuthError) (party : Party) → ShowsNoConnection (refusal_attributes error party)
 refusal_without BadRequest party = refl
-refusal_without StaleNonce party = list_without (features_told party.nonce).password_algorithms party.algorithms
-refusal_without Unauthorized party = list_without (features_told party.nonce).password_algorithms party.algorithms
-refusal_without (IntegrityFailed algorithm) party = list_without (features_told party.nonce).password_algorithms party.algorithms
-refusal_without NoMemory party = list_without (features_told party.nonce).password_algorithms party.algorithms
+refusal_without StaleNonce party = list_without (features_in party.nonce).password_algorithms party.algorithms
+refusal_without Unauthorized party = list_without (features_in party.nonce).password_algorithms party.algorithms
+refusal_without (IntegrityFailed algorithm) party = list_without (features_in party.nonce).password_algorithms party.algorithms
+refusal_without NoMemory party = list_without (features_in party.nonce).password_algorithms party.algorithms
 
 failure_without : (code : ℕ) (algorithm : IntegrityAlgorithm) (key bytes : List ℕ) → ShowsNoConnection (failure_attributes code ++ signature algorithm key bytes ∷ [])
 unfolding signature
@@ -121,7 +121,7 @@ failure_without code Sha512 key bytes = refl
 
 -- ---- what is granted
 
--- an error response grants nothing, and a success one thing
+-- An error response grants nothing, and a success response grants one thing.
 record IsFailure (bytes : List ℕ) (from : SocketAddr) (what : Verdict) : Type 0 where
   kind : reply_type bytes what ≡ error_type bytes
   none : grants_of bytes from what ≡ []
@@ -142,22 +142,22 @@ either bytes from (Binds channel peer) = inr (record { kind = refl; grant = _; o
 either bytes from (Connects peer connection) = inr (record { kind = refl; grant = _; one = refl })
 either bytes from (Joins connection) = inr (record { kind = refl; grant = _; one = refl })
 
--- a grant has the number, the source and the method of its request
+-- A grant has the transaction ID, the source and the method of its request.
 record IsOfRequest (bytes : List ℕ) (from : SocketAddr) (g : granted.Grant) : Type 0 where
   number : g.number ≡ number_at bytes
   source : g.from ≡ from
   method : g.method.0 ≡ method_of (kind_at bytes)
 
-of_kept : (bytes : List ℕ) (from : SocketAddr) (g h : granted.Grant) → IsOfRequest bytes from h → g ≡ h → IsOfRequest bytes from g
-of_kept bytes from g h of is = subst (λ (x : granted.Grant). IsOfRequest bytes from x) (sym is) of
+of_stored : (bytes : List ℕ) (from : SocketAddr) (g h : granted.Grant) → IsOfRequest bytes from h → g ≡ h → IsOfRequest bytes from g
+of_stored bytes from g h of is = subst (λ (x : granted.Grant). IsOfRequest bytes from x) (sym is) of
 
 of_request : (bytes : List ℕ) (from : SocketAddr) (decision : Decision) (shows : List Attr) (g : granted.Grant) → IsGrant bytes from decision shows g → IsOfRequest bytes from g
-of_request bytes from decision shows g (Allocated is) = of_kept bytes from g _ (record { number = refl; source = refl; method = refl }) is.kept
-of_request bytes from decision shows g (Refreshed is) = of_kept bytes from g _ (record { number = refl; source = refl; method = refl }) is.kept
-of_request bytes from decision shows g (Permitted is) = of_kept bytes from g _ (record { number = refl; source = refl; method = refl }) is.kept
-of_request bytes from decision shows g (Bound is) = of_kept bytes from g _ (record { number = refl; source = refl; method = refl }) is.kept
-of_request bytes from decision shows g (Connected is) = of_kept bytes from g _ (record { number = refl; source = refl; method = refl }) is.kept
-of_request bytes from decision shows g (Joined is) = of_kept bytes from g _ (record { number = refl; source = refl; method = refl }) is.kept
+of_request bytes from decision shows g (Allocated is) = of_stored bytes from g _ (record { number = refl; source = refl; method = refl }) is.stored
+of_request bytes from decision shows g (Refreshed is) = of_stored bytes from g _ (record { number = refl; source = refl; method = refl }) is.stored
+of_request bytes from decision shows g (Permitted is) = of_stored bytes from g _ (record { number = refl; source = refl; method = refl }) is.stored
+of_request bytes from decision shows g (Bound is) = of_stored bytes from g _ (record { number = refl; source = refl; method = refl }) is.stored
+of_request bytes from decision shows g (Connected is) = of_stored bytes from g _ (record { number = refl; source = refl; method = refl }) is.stored
+of_request bytes from decision shows g (Joined is) = of_stored bytes from g _ (record { number = refl; source = refl; method = refl }) is.stored
 
 -- ---- the step
 
@@ -182,7 +182,7 @@ challenge_step old new from bytes reply now stream decision served away =
       signs = inl (plain_unsigned reply (refusal_attributes away.error (unvalidated_party old.auth away.nonce)) away.read.shows (refusal_plain away.error (unvalidated_party old.auth away.nonce)));
     }
 
--- a request that is accepted validates under the key of its user
+-- A request that is accepted validates under its user's key.
 pub record IsValidUnder (bytes key : List ℕ) (algorithm : IntegrityAlgorithm) : Type 0 where
   pub text : List ℕ
   pub valid : Validates bytes key algorithm text
@@ -215,7 +215,7 @@ alike old new from bytes reply now stream what v =
       password = v.password;
       present = v.present;
       algorithm = v.algorithm;
-      asked = valid.text;
+      requested = valid.text;
       validated = valid.valid;
       answered = text_to_sign v.algorithm (message_text (reply_type bytes what) (number_at bytes) (reply_attributes bytes from what));
       signed = v.valid;
@@ -226,18 +226,18 @@ recorded : (old new : State) (from : SocketAddr) (bytes reply : List ℕ) (now :
 recorded old new from bytes reply now stream decision served v success =
     let what = verdict_on bytes decision in
     let shows = reply_attributes bytes from what in
-    let kept = verdict_kept bytes from decision success.grant served success.one in
-    let of = of_request bytes from decision shows success.grant kept.grant in
+    let stored = verdict_stored bytes from decision success.grant served success.one in
+    let of = of_request bytes from decision shows success.grant stored.grant in
     record {
       grant = success.grant;
-      kept = v.granted ∙ ap (λ (l : List granted.Grant). old.grants ++ l) success.one;
+      stored = v.granted ∙ ap (λ (l : List granted.Grant). old.grants ++ l) success.one;
       number = of.number;
       source = of.source;
       method = of.method;
       shows = shows;
-      granted_by = kept.grant;
+      granted_by = stored.grant;
       integrity = signature v.algorithm (user_key old.auth.realm v.name v.password v.algorithm) (message_text (reply_type bytes what) (number_at bytes) shows);
-      told = v.read.shows;
+      reported = v.read.shows;
     }
 
 verdict_step : (old new : State) (from : SocketAddr) (bytes reply : List ℕ) (now : ℕ) (stream : Stream) (decision : Decision) → IsServed bytes → IsVerdict old from bytes now stream (verdict_on bytes decision) reply new
@@ -275,7 +275,7 @@ verdict_step old new from bytes reply now stream decision served v (inr success)
       signs = inr (alike old new from bytes reply now stream (verdict_on bytes decision) v);
     }
 
--- an answer to a request that is served is such a step
+-- A reply to a request that is served satisfies `DeskStep`.
 pub answer_step : (old new : State) (from : SocketAddr) (bytes reply : List ℕ) (now : ℕ) (stream : Stream) (decision : Decision) → IsServed bytes → IsAnswer old from bytes now stream decision reply new → DeskStep old from bytes decision reply new
 answer_step old new from bytes reply now stream decision served (inl away) = challenge_step old new from bytes reply now stream decision served away
 answer_step old new from bytes reply now stream decision served (inr v) = verdict_step old new from bytes reply now stream decision served v (either bytes from (verdict_on bytes decision))

@@ -1,4 +1,4 @@
--- Runs of a desk's calls, what they answer and leave where memory is not refused, and what of them
+-- Runs of a server core's calls that don't run out of memory, with their results, and the part of a run that
 -- concerns one address (RFC 8489, section 9.2; RFC 8656, section 5).
 use Rattle.std.specs.Prelude.{◌≡◌, ◌≢◌, ◌↔◌, ℕ, Bool, List, [], ◌∷◌, ◌++◌, filter, map}
 use Rattle.std.specs.declared.net.socket_addr.SocketAddr.{SocketAddr}
@@ -12,22 +12,22 @@ use Rattle.turn_desk_core.specs.declared.grant.Grant as granted
 use Rattle.turn_desk_core.specs.State.{State}
 use Rattle.turn_desk_core.specs.Steps.{IsAnswer, IsGranted}
 
--- ---- calls and answers
+-- ---- calls and results
 
--- a call of `Desk::handle`, with all that the driver hands in, of a generator the stream of its words;
--- or a call of the authenticator, through `Desk::auth_mut`
+-- A call of `Desk::handle` with all its arguments, where the stream of its words stands for the generator; or
+-- a call of the authenticator through `Desk::auth_mut`.
 pub data ServerCall : Type 0 where
   Handle : (bytes : List ℕ) (from : SocketAddr) (now : ℕ) (decision : Decision) (stream : Stream) → ServerCall
   Auth : (one : AuthCall) → ServerCall
 
--- a reply, or none; or the authenticator's answer
+-- The result of a call: a reply, no reply, or the authenticator's result.
 pub data ServerAnswer : Type 0 where
   Reply : (reply : List ℕ) → ServerAnswer
   NoReply : ServerAnswer
-  Told : (answer : AuthAnswer) → ServerAnswer
+  Reported : (answer : AuthAnswer) → ServerAnswer
 
--- a desk replied to bytes: the clauses `none`, `answer`, `grants` and `others` of `handle`, where there
--- is a reply
+-- The server core replied to the bytes. These are the clauses `none`, `answer`, `grants` and `others` of
+-- `handle` for a call that returns a reply.
 pub record IsHandled (old : State) (bytes : List ℕ) (from : SocketAddr) (now : ℕ) (decision : Decision)
     (stream : Stream) (reply : List ℕ) (new : State) : Type 0 where
   pub served : IsServed bytes
@@ -36,75 +36,76 @@ pub record IsHandled (old : State) (bytes : List ℕ) (from : SocketAddr) (now :
       → (new.grants ≡ old.grants ++ g ∷ []) ↔ IsGranted old from bytes now stream decision reply g
   pub others : (other : SocketAddr) → other ≢ from → SameFor other old.auth new.auth
 
--- it replied; or the bytes are nothing that it serves, and nothing changed: `none` and `answer` of
--- `handle`, where there is no reply
+-- The server core replied; or the bytes are not a request that it serves, and nothing changed, as the clauses
+-- `none` and `answer` of `handle` say for a call that returns no reply.
 abbrev pub IsHandledBy : ServerAnswer → State → List ℕ → SocketAddr → ℕ → Decision → Stream → State → Type 0
 IsHandledBy (Reply reply) old bytes from now decision stream new = IsHandled old bytes from now decision stream reply new
 IsHandledBy NoReply old bytes from now decision stream new = ¬ IsServed bytes × (new ≡ old)
-IsHandledBy (Told answer) old bytes from now decision stream new = ⊥
+IsHandledBy (Reported answer) old bytes from now decision stream new = ⊥
 
--- the authenticator was called, and the grants are the same: `LendsAuth`
+-- The authenticator was called, and the grants are unchanged (see `LendsAuth`).
 abbrev pub IsAuthCalled : ServerAnswer → AuthCall → State → State → Type 0
-IsAuthCalled (Told answer) one old new = IsCalled one answer old.auth new.auth × (new.grants ≡ old.grants)
+IsAuthCalled (Reported answer) one old new = IsCalled one answer old.auth new.auth × (new.grants ≡ old.grants)
 IsAuthCalled _ one old new = ⊥
 
--- a call was made, was answered so, and left this desk
+-- The call, made in the state `old`, may return this result and leave the state `new`.
 abbrev pub IsServerCalled : ServerCall → ServerAnswer → State → State → Type 0
 IsServerCalled (Handle bytes from now decision stream) answer old new =
     IsHandledBy answer old bytes from now decision stream new
 IsServerCalled (Auth one) answer old new = IsAuthCalled answer one old new
 
--- pairs of a call and its answer: each call was answered where the one before it had left the desk,
--- none was refused memory
+-- The pairs of a call and its result are a run from `old` to `new`: each call starts in the state that the
+-- one before it left. No call ran out of memory.
 unfoldable pub IsServerRun : State → List (ServerCall × ServerAnswer) → State → Type 0
 IsServerRun old [] new = new ≡ old
 IsServerRun old (pair ∷ pairs) new = (next : State) × IsServerCalled pair.0 pair.1 old next × IsServerRun next pairs new
 
 -- ---- what concerns an address
 
--- whether a call concerns an address: bytes that came from it do, and a call of the authenticator for
--- itself or on users and settings; bytes from another address, and calls for another, don't
+-- Whether a call concerns an address. Bytes that came from it do, and so do calls of the authenticator for
+-- this address or on users and settings. Bytes from another address and calls for another address don't.
 abbrev pub concerns : SocketAddr → ServerCall → Bool
 concerns address (Handle bytes from now decision stream) = is_same_address address from
 concerns address (Auth one) = concerns_auth address one
 
--- the calls that concern an address, in their order, each with its answer
+-- The calls that concern an address, in order, each with its result.
 abbrev pub concerning : SocketAddr → List (ServerCall × ServerAnswer) → List (ServerCall × ServerAnswer)
 concerning address pairs = filter (λ pair. concerns address pair.0) pairs
 
--- these calls without their answers
+-- The calls that concern an address, in order, without their results.
 abbrev pub calls_concerning : SocketAddr → List (ServerCall × ServerAnswer) → List ServerCall
 calls_concerning address pairs = map (λ pair. pair.0) (concerning address pairs)
 
--- what was granted to an address, in order
+-- What was granted to an address, in order.
 abbrev pub grants_to : SocketAddr → List granted.Grant → List granted.Grant
 grants_to address grants = filter (λ (g : granted.Grant). is_same_address address g.from) grants
 
--- an address can't tell two desks apart: neither their authenticators, nor what they granted to it
+-- The address can't distinguish the two server cores: neither by their authenticators, nor by what they
+-- granted to it.
 pub record AreAlike (address : SocketAddr) (a b : State) : Type 0 where
   pub auth : SameFor address a.auth b.auth
   pub grants : grants_to address b.grants ≡ grants_to address a.grants
 
--- the calls that concern an address alone are answered so by a desk, too, and leave one that the
--- address can't tell from the one that all calls left
-pub record StandsAlone (address : SocketAddr) (old : State) (pairs : List (ServerCall × ServerAnswer)) (new : State)
+-- The calls that concern the address, made alone from the state `old`, can return the results that they have
+-- in `pairs`. The address can't distinguish the state that they leave from `new`.
+pub record IsIsolated (address : SocketAddr) (old : State) (pairs : List (ServerCall × ServerAnswer)) (new : State)
     : Type 0 where
   pub left : State
   pub run : IsServerRun old (concerning address pairs) left
   pub alike : AreAlike address new left
 
--- ---- where answers are fixed
+-- ---- where results are determined
 
--- the authenticator's call that is made: of bytes, their validation
+-- The authenticator call that a call makes. For bytes it is their validation.
 abbrev pub auth_call : ServerCall → AuthCall
 auth_call (Handle bytes from now decision stream) = Validate bytes from now stream
 auth_call (Auth one) = one
 
--- no bytes that are to be handled name two of the users of their time, by a hash that both have
+-- None of the bytes that are handled name two of the users known at that time, by a hash that both have.
 abbrev pub NameOneUser : Server → List ServerCall → Type 0
 NameOneUser server calls = EachNamesOne server (map auth_call calls)
 
--- two runs gave the address the same answers, and left desks that it can't tell apart
+-- The two runs gave the address equal results, and it can't distinguish the states that they left.
 pub record AreAnsweredAlike (address : SocketAddr) (pairs others : List (ServerCall × ServerAnswer)) (new left : State)
     : Type 0 where
   pub answers : concerning address pairs ≡ concerning address others

@@ -1,4 +1,4 @@
--- What an address is answered by two desks that it can't tell apart.
+-- The replies of two server cores that an address can't distinguish.
 use Rattle.std.specs.Prelude.{◌≡◌, ℕ, List, ◌++◌}
 use Rattle.std.specs.declared.net.socket_addr.SocketAddr.{SocketAddr}
 use Rattle.rand_core.specs.Stream.{Stream}
@@ -8,8 +8,8 @@ use Rattle.turn_desk_core.specs.declared.grant.Grant as granted
 use Rattle.turn_desk_core.specs.State.{State}
 use Rattle.turn_desk_core.specs.Steps.{IsAnswer}
 
--- an answer that one desk gives, another gives too; the address can't tell the two apart afterwards;
--- and both grant the same
+-- The reply that `a` gives, `b` may give too; the address can't distinguish them afterwards; and both add
+-- equal grants.
 pub record IsAnsweredAlike (a b : State) (from : SocketAddr) (bytes : List ℕ) (now : ℕ) (stream : Stream)
     (decision : Decision) (reply : List ℕ) (new : State) : Type 0 where
   pub left : State

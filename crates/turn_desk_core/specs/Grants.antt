@@ -1,5 +1,5 @@
--- What is granted in answer to a request, by the case of its method (RFC 8656, sections 7.2, 8.2, 10.2
--- and 12.2; RFC 6062, sections 5.2 and 5.4).
+-- What the reply to a request grants, for each method (RFC 8656, sections 7.2, 8.2, 10.2 and 12.2; RFC 6062,
+-- sections 5.2 and 5.4).
 use Rattle.std.specs.Prelude.{◌≡◌, ℕ, true, List, [], ◌∷◌, Some}
 use Rattle.std.specs.declared.net.socket_addr.SocketAddr.{SocketAddr}
 use Rattle.stun_types_base.specs.declared.transport.TransportType.{TransportType}
@@ -12,81 +12,83 @@ use Rattle.turn_types_attributes.specs.TurnRegistry.{allocate_method, channel_bi
 use Rattle.turn_desk_core.specs.declared.decision.Decision.{Decision}
 use Rattle.turn_desk_core.specs.declared.decision.Decision.TheVariants as by
 use Rattle.turn_desk_core.specs.declared.grant.Grant as granted
-use Rattle.turn_desk_core.specs.AskedFor.{channel_asked, connection_asked, peer_asked, peers_asked, transport_asked}
+use Rattle.turn_desk_core.specs.RequestedFor.{channel_requested, connection_requested, peer_requested, peers_requested, transport_requested}
 use Rattle.turn_desk_core.specs.Verdicts.{are_relayable, bare_grant}
 
--- an ALLOCATE is granted the addresses that were decided, one or two of distinct families, for the
--- transport that it asks for, and the lifetime that was decided; the success shows them
+-- An ALLOCATE gets the addresses that the decision gives, one or two of different families, for the requested
+-- transport, with the lifetime that the decision gives. The success response has them as attributes.
 pub record IsAllocated (bytes : List ℕ) (from : SocketAddr) (decision : Decision) (shows : List Attr)
     (grant : granted.Grant) : Type 0 where
   pub method : method_of (kind_at bytes) ≡ allocate_method
   pub transport : TransportType
-  pub asked : transport_asked bytes ≡ Some transport
+  pub requested : transport_requested bytes ≡ Some transport
   pub relayed : List SocketAddr
   pub lifetime : ℕ
   pub decided : decision ≡ by.Allocate relayed lifetime
   pub fits : are_relayable relayed ≡ true
-  pub shown : shows ≡ allocated_attributes (number_at bytes) relayed lifetime from
-  pub kept : grant ≡ record (bare_grant bytes from) {
+  pub visible : shows ≡ allocated_attributes (number_at bytes) relayed lifetime from
+  pub stored : grant ≡ record (bare_grant bytes from) {
     transport = Some transport;
     relayed = relayed;
     lifetime = Some lifetime;
   }
 
--- a REFRESH is granted the lifetime that was decided, whatever it asks for; the success shows it
+-- A REFRESH gets the lifetime that the decision gives, whatever it requested. The success response has it as
+-- an attribute.
 pub record IsRefreshed (bytes : List ℕ) (from : SocketAddr) (decision : Decision) (shows : List Attr)
     (grant : granted.Grant) : Type 0 where
   pub method : method_of (kind_at bytes) ≡ refresh_method
   pub lifetime : ℕ
   pub decided : decision ≡ by.Refresh lifetime
-  pub shown : shows ≡ refreshed_attributes lifetime
-  pub kept : grant ≡ record (bare_grant bytes from) { lifetime = Some lifetime }
+  pub visible : shows ≡ refreshed_attributes lifetime
+  pub stored : grant ≡ record (bare_grant bytes from) { lifetime = Some lifetime }
 
--- a CREATE_PERMISSION is granted all the peers that it names
+-- A CREATE_PERMISSION gets permissions for all the peers that it names.
 pub record IsPermitted (bytes : List ℕ) (from : SocketAddr) (decision : Decision) (shows : List Attr)
     (grant : granted.Grant) : Type 0 where
   pub method : method_of (kind_at bytes) ≡ create_permission_method
   pub peers : List SocketAddr
-  pub asked : peers_asked bytes ≡ Some peers
+  pub requested : peers_requested bytes ≡ Some peers
   pub decided : decision ≡ by.Grant
-  pub shown : shows ≡ granted_attributes
-  pub kept : grant ≡ record (bare_grant bytes from) { peers = peers }
+  pub visible : shows ≡ granted_attributes
+  pub stored : grant ≡ record (bare_grant bytes from) { peers = peers }
 
--- a CHANNEL_BIND is granted the channel that it names, to the peer that it names
+-- A CHANNEL_BIND gets the channel that it names, to the peer that it names.
 pub record IsBound (bytes : List ℕ) (from : SocketAddr) (decision : Decision) (shows : List Attr)
     (grant : granted.Grant) : Type 0 where
   pub method : method_of (kind_at bytes) ≡ channel_bind_method
   pub channel : ℕ
-  pub asked : channel_asked bytes ≡ Some channel
+  pub requested : channel_requested bytes ≡ Some channel
   pub peer : SocketAddr
-  pub peer_is : peer_asked bytes ≡ Some peer
+  pub peer_is : peer_requested bytes ≡ Some peer
   pub decided : decision ≡ by.Grant
-  pub shown : shows ≡ granted_attributes
-  pub kept : grant ≡ record (bare_grant bytes from) { peers = peer ∷ []; channel = Some channel }
+  pub visible : shows ≡ granted_attributes
+  pub stored : grant ≡ record (bare_grant bytes from) { peers = peer ∷ []; channel = Some channel }
 
--- a CONNECT is granted a connection to the peer that it names, with the number that was decided; the
--- success shows the number
+-- A CONNECT gets a connection to the peer that it names, with the ID that the decision gives. The success
+-- response has the ID as an attribute.
 pub record IsConnected (bytes : List ℕ) (from : SocketAddr) (decision : Decision) (shows : List Attr)
     (grant : granted.Grant) : Type 0 where
   pub method : method_of (kind_at bytes) ≡ connect_method
   pub peer : SocketAddr
-  pub asked : peer_asked bytes ≡ Some peer
+  pub requested : peer_requested bytes ≡ Some peer
   pub connection : ℕ
   pub decided : decision ≡ by.Connect connection
-  pub shown : shows ≡ connected_attributes connection
-  pub kept : grant ≡ record (bare_grant bytes from) { peers = peer ∷ []; connection = Some connection }
+  pub visible : shows ≡ connected_attributes connection
+  pub stored : grant ≡ record (bare_grant bytes from) { peers = peer ∷ []; connection = Some connection }
 
--- a CONNECTION_BIND is granted the connection whose number it names
+-- A CONNECTION_BIND gets the connection with the ID that it names.
 pub record IsJoined (bytes : List ℕ) (from : SocketAddr) (decision : Decision) (shows : List Attr)
     (grant : granted.Grant) : Type 0 where
   pub method : method_of (kind_at bytes) ≡ connection_bind_method
   pub connection : ℕ
-  pub asked : connection_asked bytes ≡ Some connection
+  pub requested : connection_requested bytes ≡ Some connection
   pub decided : decision ≡ by.Grant
-  pub shown : shows ≡ granted_attributes
-  pub kept : grant ≡ record (bare_grant bytes from) { connection = Some connection }
+  pub visible : shows ≡ granted_attributes
+  pub stored : grant ≡ record (bare_grant bytes from) { connection = Some connection }
 
--- what is granted to a request from an address by a decision, with a success that shows attributes
+-- The decision grants this to the request from the address; `shows` are the attributes of the success
+-- response.
 pub data IsGrant (bytes : List ℕ) (from : SocketAddr) (decision : Decision) (shows : List Attr)
     (grant : granted.Grant) : Type 0 where
   Allocated : IsAllocated bytes from decision shows grant → IsGrant bytes from decision shows grant

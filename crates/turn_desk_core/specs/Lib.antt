@@ -1,6 +1,6 @@
 pub mod Granted
 pub mod Replies
-pub mod AskedFor
+pub mod RequestedFor
 pub mod Grants
 pub mod Requests
 pub mod Verdicts
@@ -10,7 +10,7 @@ pub mod DeskIsolation
 pub mod DeskSteps
 pub mod State
 pub mod Steps
--- What stands above this crate has these through it.
+-- Crates that depend on this one reach these definitions through it.
 pub use Rattle.stun_types_base.specs as StunTypesBase
 pub use Rattle.stun_types_wire.specs as StunTypesWire
 pub use Rattle.stun_types_write.specs as StunTypesWrite

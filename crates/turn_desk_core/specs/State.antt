@@ -1,11 +1,11 @@
--- What contracts see of a desk.
+-- What contracts see of a server core.
 use Rattle.std.specs.Prelude.{List, refl}
 use Rattle.std.specs.Coded.{Coded, code_by, coded×, coded_list}
 use Rattle.stun_proto_server.specs.Server.{Server, server_code}
 use Rattle.turn_desk_core.specs.contracts.grant.Grant as grant
 use Rattle.turn_desk_core.specs.declared.grant.Grant.{Grant}
 
--- the server's side of authentication, and what was granted, in order
+-- The authenticator, and all grants in order.
 pub record State : Type 0 where
   pub auth : Server
   pub grants : List Grant

@@ -1,5 +1,5 @@
--- What a desk answers a request, and what that leaves (RFC 8489, section 9.2.4; RFC 8656, sections
--- 7.2 to 12.2).
+-- The reply to a request, and the state that it leaves (RFC 8489, section 9.2.4; RFC 8656, sections 7.2 to
+-- 12.2).
 use Rattle.std.specs.Prelude.{◌≡◌, ◌≢◌, ◌⊎◌, ◌<◌, ◌≤◌, ◌^◌, ℕ, List, [], ◌++◌, length, Option, Some, None}
 use Rattle.std.specs.FinMap as map
 use Rattle.std.specs.List.{IsDistinct}
@@ -36,47 +36,47 @@ use Rattle.stun_types_wire.specs.Registry.{bad_request_code, stale_nonce_code, u
 
 -- ---- the key of a party
 
--- the key of a party, where it was validated as a user
+-- The key of a party, if it was validated as a user.
 abbrev pub key_of_party : Option Party → Option Key
 key_of_party party = option_and_then (λ (p : Party). option_map (key_in p.realm) p.user) party
 
--- the key of the user as whom the last message from an address was validated
+-- The key of the user who validated the last message from an address.
 abbrev pub key_at : Server → SocketAddr → Option Key
 key_at server from = key_of_party (party_at server from)
 
--- the text is that of a reply to an address, signed under the key of the user as whom its last
--- message was validated; it is read as that, and validates under that key
-pub record IsSignedFor (server : Server) (from : SocketAddr) (kind number : ℕ) (attributes : List Attr)
+-- The bytes are a reply to the address, signed under the key of the user who validated the last message from
+-- there. They can be read back as that reply, and validate under that key.
+pub record IsSignedFor (server : Server) (from : SocketAddr) (kind transaction_id : ℕ) (attributes : List Attr)
     (reply : List ℕ) : Type 0 where
   pub key : Key
   pub own : key_at server from ≡ Some key
-  pub text : reply ≡ signed_text kind number attributes key.bytes key.algorithm
-  pub read : kind < 2 ^ 14 → number < 2 ^ 96
-      → IsReadAs kind number (signed_attributes kind number attributes key.bytes key.algorithm) reply
-  pub valid : kind < 2 ^ 14 → number < 2 ^ 96
-      → Validates reply key.bytes key.algorithm (text_to_sign key.algorithm (message_text kind number attributes))
+  pub text : reply ≡ signed_text kind transaction_id attributes key.bytes key.algorithm
+  pub read : kind < 2 ^ 14 → transaction_id < 2 ^ 96
+      → IsReadAs kind transaction_id (signed_attributes kind transaction_id attributes key.bytes key.algorithm) reply
+  pub valid : kind < 2 ^ 14 → transaction_id < 2 ^ 96
+      → Validates reply key.bytes key.algorithm (text_to_sign key.algorithm (message_text kind transaction_id attributes))
 
--- ---- what is shown to a party that was not validated
+-- ---- what is visible to a party that was not validated
 
--- such a party as a server knows it, by the nonce that is kept for it
+-- The party that a server has stored this nonce for, and that was not validated as a user.
 abbrev pub unvalidated_party : Server → List ℕ → Party
 unvalidated_party server nonce =
     record { realm = server.realm; nonce = nonce; algorithms = server.algorithms; user = None }
 
--- what a challenge shows: ERROR-CODE, and what a server adds: REALM, NONCE, and where the nonce
--- says so PASSWORD-ALGORITHMS
+-- The attributes of a challenge: ERROR-CODE, and those that the server adds: REALM, NONCE, and
+-- PASSWORD-ALGORITHMS if the nonce says so.
 abbrev pub challenge_attributes : ℕ → Party → List Attr
 challenge_attributes code party = failure_attributes code ++ attrs (challenge_parts party)
 
--- what the answer to a refused request shows: ERROR-CODE alone where it is malformed, else what a
--- challenge shows
+-- The attributes of the reply to a request that failed validation: ERROR-CODE alone if it is malformed,
+-- otherwise those of a challenge.
 abbrev pub refusal_attributes : LongTermServerAuthError → Party → List Attr
 refusal_attributes BadRequest party = failure_attributes bad_request_code
 refusal_attributes StaleNonce party = challenge_attributes stale_nonce_code party
 refusal_attributes _ party = challenge_attributes unauthorized_code party
 
--- what a server adds for a party has room in its attributes, and can be read there: the realm and the
--- nonce are UTF-8, and there are algorithms, none of them twice (RFC 8489, sections 14.9 to 14.11)
+-- What a server adds for a party fits into its attributes and can be read back: the realm and the nonce are
+-- UTF-8, there is at least one algorithm, and none is listed twice (RFC 8489, sections 14.9 to 14.11).
 pub record FitsChallenge (party : Party) : Type 0 where
   pub realm : length party.realm ≤ longest_text
   pub nonce : length party.nonce ≤ longest_text
@@ -86,12 +86,12 @@ pub record FitsChallenge (party : Party) : Type 0 where
   pub never_empty : party.algorithms ≢ []
   pub distinct : IsDistinct is_same_algorithm party.algorithms
 
--- a reply to a request that was turned away, which shows this of the party at the address, by the
--- nonce that is kept for it
+-- A reply to a request that failed validation. Its attributes are those that `shows` gives for the party at
+-- the address, with the nonce that is stored for it.
 pub record IsTurnedReply (server : Server) (from : SocketAddr) (bytes : List ℕ) (shows : Party → List Attr)
     (reply : List ℕ) : Type 0 where
   pub nonce : List ℕ
-  pub kept : nonce_at server from ≡ Some nonce
+  pub stored : nonce_at server from ≡ Some nonce
   pub fits : FitsChallenge (unvalidated_party server nonce)
   pub text : reply ≡ message_text (error_type bytes) (number_at bytes) (shows (unvalidated_party server nonce))
   pub read : error_type bytes < 2 ^ 14 → number_at bytes < 2 ^ 96
@@ -99,33 +99,33 @@ pub record IsTurnedReply (server : Server) (from : SocketAddr) (bytes : List ℕ
 
 -- ---- validation
 
--- the authenticator refuses the request for a cause, and forgets who its address was
-pub record IsTurnedAway (old : Server) (from : SocketAddr) (bytes : List ℕ) (now : ℕ) (stream : Stream)
+-- The authenticator rejects the request with this error, and forgets the user at its address.
+pub record IsUnauthenticated (old : Server) (from : SocketAddr) (bytes : List ℕ) (now : ℕ) (stream : Stream)
     (error : LongTermServerAuthError) (new : Server) : Type 0 where
   pub ample : error ≢ NoMemory
   pub refused : Refuses (refreshed old from now stream) from bytes error
   pub after : new ≡ with_outcome (refreshed old from now stream) from None
 
--- the authenticator accepts the request as that of a user, by an algorithm, and keeps that for its
--- address
+-- The authenticator accepts the request as that of a user, validated with an algorithm, and stores both for
+-- its address.
 pub record IsTaken (old : Server) (from : SocketAddr) (bytes : List ℕ) (now : ℕ) (stream : Stream) (name : List ℕ)
     (algorithm : IntegrityAlgorithm) (new : Server) : Type 0 where
   pub accepts : Accepts (refreshed old from now stream) from bytes algorithm name
   pub after : new ≡ with_outcome (refreshed old from now stream) from
       (Some (record { name = name; algorithm = algorithm }))
 
--- ---- answers
+-- ---- results
 
--- a request that is refused is answered with an error response: to one that is malformed with 400
--- alone, else with 401 or 438, the realm, the nonce which now stands for its address, and the list
--- of the algorithms that are supported, where that nonce says that there is one; nothing is granted.
--- What the server says of itself can be read
+-- The reply is an error response to a request that failed validation. A malformed request gets 400 alone.
+-- Others get 401 or 438, with the realm, the nonce that is now valid for their address, and the supported
+-- algorithms if that nonce says that there is a list. Nothing is granted. The attributes that the server adds
+-- can be read back.
 pub record IsChallenge (old : State) (from : SocketAddr) (bytes : List ℕ) (now : ℕ) (stream : Stream) (reply : List ℕ)
     (new : State) : Type 0 where
   pub error : LongTermServerAuthError
-  pub judged : IsTurnedAway old.auth from bytes now stream error new.auth
+  pub judged : IsUnauthenticated old.auth from bytes now stream error new.auth
   pub nonce : List ℕ
-  pub kept : nonce_at new.auth from ≡ Some nonce
+  pub stored : nonce_at new.auth from ≡ Some nonce
   pub fits : FitsChallenge (unvalidated_party old.auth nonce)
   pub text : reply ≡ message_text (error_type bytes) (number_at bytes)
       (refusal_attributes error (unvalidated_party old.auth nonce))
@@ -133,8 +133,8 @@ pub record IsChallenge (old : State) (from : SocketAddr) (bytes : List ℕ) (now
       (refusal_attributes error (unvalidated_party old.auth nonce)) reply
   pub granted : new.grants ≡ old.grants
 
--- a request of a user is answered by the verdict, under the key that validated it, and what the
--- verdict grants is kept
+-- The reply to a user's request is the one for the verdict, signed under the key that validated the request,
+-- and what the verdict grants is stored.
 pub record IsVerdict (old : State) (from : SocketAddr) (bytes : List ℕ) (now : ℕ) (stream : Stream) (what : Verdict)
     (reply : List ℕ) (new : State) : Type 0 where
   pub name : List ℕ
@@ -152,15 +152,15 @@ pub record IsVerdict (old : State) (from : SocketAddr) (bytes : List ℕ) (now :
       (reply_attributes bytes from what)))
   pub granted : new.grants ≡ old.grants ++ grants_of bytes from what
 
--- a request that is served is answered, by what the driver decided
+-- The reply to a request that is served, under the application's decision.
 abbrev pub IsAnswer : State → SocketAddr → List ℕ → ℕ → Stream → Decision → List ℕ → State → Type 0
 IsAnswer old from bytes now stream decision reply new =
     IsChallenge old from bytes now stream reply new ⊎ IsVerdict old from bytes now stream
     (verdict_on bytes decision) reply new
 
--- a grant in answer to a request: the request is a user's; what is kept of it, and what the reply
--- shows, are by the case of its method; the reply is a success of its method and number, signed
--- under the key that validated the request
+-- The reply grants this. The request is a user's. The grant and the attributes of the reply depend on the
+-- method. The reply is a success response with the request's method and transaction ID, signed under the key
+-- that validated the request.
 pub record IsGranted (old : State) (from : SocketAddr) (bytes : List ℕ) (now : ℕ) (stream : Stream)
     (decision : Decision) (reply : List ℕ) (grant : granted.Grant) : Type 0 where
   pub name : List ℕ
@@ -174,11 +174,11 @@ pub record IsGranted (old : State) (from : SocketAddr) (bytes : List ℕ) (now :
       (signed_attributes (success_type bytes) (number_at bytes) shows
       (user_key old.auth.realm name password algorithm) algorithm) reply
 
--- ---- want of memory
+-- ---- out of memory
 
--- the authenticator is as before, or as validation left it
+-- The authenticator after an allocation failed: it is unchanged, or as validation left it.
 abbrev pub IsAuthAfter : Server → SocketAddr → List ℕ → ℕ → Stream → Server → Type 0
 IsAuthAfter old from bytes now stream new =
     IsAfterNoMemory old from now stream new
-    ⊎ (((error : LongTermServerAuthError) × IsTurnedAway old from bytes now stream error new)
+    ⊎ (((error : LongTermServerAuthError) × IsUnauthenticated old from bytes now stream error new)
     ⊎ ((name : List ℕ) × (algorithm : IntegrityAlgorithm) × IsTaken old from bytes now stream name algorithm new))

@@ -1,5 +1,5 @@
--- What becomes of a request of one of the desk's users, by what the driver decides (RFC 8656, sections
--- 7.2, 8.2, 10.2 and 12.2; RFC 6062, sections 5.2 and 5.4).
+-- The outcome of a user's request under the application's decision (RFC 8656, sections 7.2, 8.2, 10.2 and
+-- 12.2; RFC 6062, sections 5.2 and 5.4).
 use Rattle.std.specs.Prelude.{◌≤◌, ℕ, Bool, true, false, not, nat_lt, ◌||◌, List, [], ◌∷◌, length, Option, Some, None, if◌then◌else◌}
 use Rattle.std.specs.Net.Addr.{is_ipv4}
 use Rattle.std.specs.Net.Socket.{socket_ip}
@@ -12,58 +12,58 @@ use Rattle.stun_types_message.specs.Objections.{error_type}
 use Rattle.stun_types_wire.specs.Registry.{bad_request_code, greatest_code, least_code, server_error_code}
 use Rattle.turn_desk_core.specs.Replies.{allocated_attributes, failure_attributes, success_type}
 use Rattle.turn_desk_core.specs.Granted.{connected_attributes, granted_attributes, refreshed_attributes}
-use Rattle.turn_desk_core.specs.declared.asked.Asked.{Asked}
-use Rattle.turn_desk_core.specs.declared.asked.Asked.TheVariants.{Allocation, Refreshment, Permissions, Channel, Connection, Binding}
+use Rattle.turn_desk_core.specs.declared.requested.Requested.{Requested}
+use Rattle.turn_desk_core.specs.declared.requested.Requested.TheVariants.{Allocation, Refreshment, Permissions, Channel, Connection, Binding}
 use Rattle.turn_desk_core.specs.declared.decision.Decision.{Decision}
 use Rattle.turn_desk_core.specs.declared.decision.Decision.TheVariants.{Refuse, Allocate, Refresh, Connect, Grant}
 use Rattle.turn_desk_core.specs.declared.grant.Grant as granted
 use Rattle.turn_desk_core.specs.declared.verdict.Verdict.{Verdict}
 use Rattle.turn_desk_core.specs.declared.verdict.Verdict.TheVariants.{Fails, Allocates, Refreshes, Permits, Binds, Connects, Joins}
-use Rattle.turn_desk_core.specs.AskedFor.{asked}
+use Rattle.turn_desk_core.specs.RequestedFor.{requested}
 
--- whether two addresses are of distinct families
+-- Whether two addresses are of different families.
 abbrev pub are_distinct : Bool → Bool → Bool
 are_distinct true b = not b
 are_distinct false b = b
 
--- whether there is one address, or there are two of distinct families
+-- Whether there is one address, or two of different families.
 abbrev pub are_relayable : List SocketAddr → Bool
 are_relayable [] = false
 are_relayable (a ∷ []) = true
 are_relayable (a ∷ b ∷ []) = are_distinct (is_ipv4 (socket_ip a)) (is_ipv4 (socket_ip b))
 are_relayable (a ∷ b ∷ c ∷ rest) = false
 
--- the code of a refusal, where it is one from 300 to 699: else the refusal doesn't fit
+-- The code of a refusal if it is from 300 to 699, and 500 otherwise.
 abbrev pub refused_code : ℕ → ℕ
 refused_code code = if nat_lt code least_code || nat_lt greatest_code code then server_error_code else code
 
--- a decision that doesn't fit
+-- The outcome for a decision that does not fit: error code 500.
 abbrev pub misfit : Verdict
 misfit = Fails server_error_code
 
--- an ALLOCATE for a transport gets what was decided for an allocation
+-- The outcome of an ALLOCATE for a transport.
 abbrev pub on_allocation : TransportType → Decision → Verdict
 on_allocation transport (Allocate addresses lifetime) = if are_relayable addresses
     then Allocates transport addresses lifetime else misfit
 on_allocation transport _ = misfit
 
--- a REFRESH gets the lifetime that was decided
+-- The outcome of a REFRESH: the decided lifetime.
 abbrev pub on_refreshment : Decision → Verdict
 on_refreshment (Refresh lifetime) = Refreshes lifetime
 on_refreshment _ = misfit
 
--- a CONNECT to a peer gets the number that was decided
+-- The outcome of a CONNECT to a peer: a connection with the decided ID.
 abbrev pub on_connection : SocketAddr → Decision → Verdict
 on_connection peer (Connect connection) = Connects peer connection
 on_connection peer _ = misfit
 
--- what needs nothing but a grant
+-- The outcome of a request for which `Grant` is the decision that fits.
 abbrev pub on_grant : Verdict → Decision → Verdict
 on_grant what Grant = what
 on_grant what _ = misfit
 
--- what becomes of what was asked, by a decision that is no refusal
-abbrev pub fitted : Asked → Decision → Verdict
+-- The outcome for what was requested, under a decision that is not a refusal.
+abbrev pub fitted : Requested → Decision → Verdict
 fitted (Allocation transport) decision = on_allocation transport decision
 fitted Refreshment decision = on_refreshment decision
 fitted (Permissions peers) decision = on_grant (Permits peers) decision
@@ -71,23 +71,23 @@ fitted (Channel channel peer) decision = on_grant (Binds channel peer) decision
 fitted (Connection peer) decision = on_connection peer decision
 fitted (Binding connection) decision = on_grant (Joins connection) decision
 
--- what becomes of what was asked
-abbrev pub decided : Asked → Decision → Verdict
-decided told (Refuse code) = Fails (refused_code code)
-decided told (Allocate addresses lifetime) = fitted told (Allocate addresses lifetime)
-decided told (Refresh lifetime) = fitted told (Refresh lifetime)
-decided told (Connect number) = fitted told (Connect number)
-decided told Grant = fitted told Grant
+-- The outcome for what was requested, under any decision.
+abbrev pub decided : Requested → Decision → Verdict
+decided reported (Refuse code) = Fails (refused_code code)
+decided reported (Allocate addresses lifetime) = fitted reported (Allocate addresses lifetime)
+decided reported (Refresh lifetime) = fitted reported (Refresh lifetime)
+decided reported (Connect number) = fitted reported (Connect number)
+decided reported Grant = fitted reported Grant
 
--- what becomes of a request: it fails with 400 where what its method needs is missing
-abbrev pub verdict : Option Asked → Decision → Verdict
+-- The outcome of a request. It fails with 400 if an attribute that its method needs is missing or malformed.
+abbrev pub verdict : Option Requested → Decision → Verdict
 verdict None decision = Fails bad_request_code
-verdict (Some told) decision = decided told decision
+verdict (Some reported) decision = decided reported decision
 
 abbrev pub verdict_on : List ℕ → Decision → Verdict
-verdict_on request decision = verdict (asked request) decision
+verdict_on request decision = verdict (requested request) decision
 
--- a code that an error response can carry, and addresses that a success can
+-- An error response can carry the code, and a success response can carry the addresses.
 pub record IsLawfulCode (code : ℕ) : Type 0 where
   pub least : least_code ≤ code
   pub most : code ≤ greatest_code
@@ -97,14 +97,14 @@ IsLawful (Fails code) = IsLawfulCode code
 IsLawful (Allocates transport relayed lifetime) = length relayed ≤ 2
 IsLawful _ = Unit {0}
 
--- ---- what is answered and granted
+-- ---- the result and granted
 
--- the type of the reply to a request
+-- The message type of the reply to a request.
 abbrev pub reply_type : List ℕ → Verdict → ℕ
 reply_type request (Fails code) = error_type request
 reply_type request _ = success_type request
 
--- what the reply to a request from an address shows, before it is signed
+-- The attributes of the reply to a request from an address, before it is signed.
 abbrev pub reply_attributes : List ℕ → SocketAddr → Verdict → List Attr
 reply_attributes request from (Fails code) = failure_attributes code
 reply_attributes request from (Allocates transport relayed lifetime) = allocated_attributes
@@ -115,7 +115,7 @@ reply_attributes request from (Binds channel peer) = granted_attributes
 reply_attributes request from (Connects peer connection) = connected_attributes connection
 reply_attributes request from (Joins connection) = granted_attributes
 
--- a grant of a method to a request from an address, which gives nothing yet
+-- A grant with the request's method, transaction ID and source, and all other fields empty.
 abbrev pub bare_grant : List ℕ → SocketAddr → granted.Grant
 bare_grant request from = record {
   method = record { 0 = method_of (kind_at request) };
@@ -129,7 +129,7 @@ bare_grant request from = record {
   connection = None;
 }
 
--- what is kept of what is granted
+-- The grants that are stored for a verdict: none or one.
 abbrev pub grants_of : List ℕ → SocketAddr → Verdict → List granted.Grant
 grants_of request from (Fails code) = []
 grants_of request from (Allocates transport relayed lifetime) =

@@ -6,7 +6,7 @@ ghost use Rattle.stun_types_wire.specs.Attributes.{Attr, attr_size, kind_at};
 ghost use Rattle.stun_types_wire.specs.Types.{class_of};
 ghost use Rattle.stun_types_wire.specs.Grammar.{number_at};
 ghost use Rattle.stun_types_wire.specs.declared.class.MessageClass.TheVariants.{Request};
-ghost use Rattle.stun_types_write.specs.Adding.{IsBegun, add_refusal};
+ghost use Rattle.stun_types_write.specs.Adding.{IsStarted, add_refusal};
 ghost use Rattle.stun_types_write.specs.Drafts.{Draft};
 ghost use Rattle.stun_types_write.specs.Lent.{own_draft};
 ghost use Rattle.stun_types_add.specs.Calls.{IsComposed};
@@ -24,9 +24,13 @@ use stun_types_write::vec::MessageWriteVec;
 use turn_types_attributes::lifetime::Lifetime;
 use turn_types_attributes::xor_relayed_address::XorRelayedAddress;
 
-/// The success response to an ALLOCATE that came from an address: it shows XOR-RELAYED-ADDRESS for
-/// each relayed address, in order, LIFETIME in seconds, and XOR-MAPPED-ADDRESS of where the request
-/// came from. Where memory is refused, `NoMemory`.
+/// Returns the unsigned success response to an ALLOCATE. Its attributes are one XOR-RELAYED-ADDRESS
+/// per relayed address, in order; LIFETIME, in seconds; and XOR-MAPPED-ADDRESS with the request's
+/// source address.
+///
+/// # Errors
+///
+/// - `NoMemory`: an allocation failed.
 pub fn allocated(
     alloc: Global,
     request: &Message,
@@ -47,7 +51,8 @@ pub fn allocated(
     }
 }
 
-/// `allocated`, with the writer's error, which is want of memory alone.
+/// Does the work of `allocated` with the writer's error type. The only possible error is
+/// `StunWriteError::NoMemory`.
 fn write_allocated(
     alloc: Global,
     request: &Message,
@@ -74,26 +79,27 @@ fn write_allocated(
     Ok(reply)
 }
 
-/// Adds XOR-RELAYED-ADDRESS to a reply of this number, where there is an address. The reply has room
-/// for that of any address: want of memory alone is an error.
+/// Adds XOR-RELAYED-ADDRESS to a reply with this transaction ID, if there is an address. The reply
+/// has room for any address, so the only possible error is `StunWriteError::NoMemory`.
 fn add_relayed(
     reply: &mut MessageWriteVec,
     relayed: Option<&SocketAddr>,
-    number: TransactionId,
+    transaction_id: TransactionId,
 ) -> Result<(), StunWriteError>
-    requires begun { IsBegun (own_draft reply.old).bytes }
+    requires started { IsStarted (own_draft reply.old).bytes }
     requires room { (addr : SocketAddr) → add_refusal (own_draft reply.old)
-        (attr_size (relayed_attribute number addr)) ≡ None }
+        (attr_size (relayed_attribute transaction_id addr)) ≡ None }
     ensures composed { OnOk result ((kind : ℕ) (attributes : List Attr) (old : Draft)
-        → IsComposed kind number attributes old (own_draft reply.old)
-        → IsComposed kind number
-        (attributes ++ relayed_attributes number (option_to_list (option_copied relayed.entry)))
+        → IsComposed kind transaction_id attributes old (own_draft reply.old)
+        → IsComposed kind transaction_id
+        (attributes ++ relayed_attributes transaction_id (option_to_list
+        (option_copied relayed.entry)))
         old (own_draft reply.new)) }
-    ensures begun { IsBegun (own_draft reply.new).bytes }
+    ensures started { IsStarted (own_draft reply.new).bytes }
     ensures memory { IfErr result (λ error. error ≡ StunWriteError.NoMemory) }
 {
     if let Some(addr) = relayed {
-        let relayed = XorRelayedAddress::new(*addr, number);
+        let relayed = XorRelayedAddress::new(*addr, transaction_id);
         add_as(reply, &relayed, &relayed)?;
     }
     Ok(())

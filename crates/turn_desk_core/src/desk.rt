@@ -1,4 +1,4 @@
-//! The desk: requests in, replies out.
+//! The server core: takes requests, returns replies.
 
 ghost use Rattle.std.specs.Prelude.{◌≡◌, ◌≢◌, ◌↔◌, ◌≤◌, ◌++◌, ◌∷◌, IfOk, IfSome, OnErr, IsSome, None, Some, MatchOption, MatchResult, [], ℕ, List, true};
 ghost use Rattle.std.specs.Borrow.{sem};
@@ -7,13 +7,13 @@ ghost use Rattle.stun_types_base.specs.GeneratorWords.{stream_after};
 ghost use Rattle.stun_types_wire.specs.Attributes.{Attr};
 ghost use Rattle.stun_types_wire.specs.Grammar.{number_at};
 ghost use Rattle.stun_types_wire.specs.declared.algorithm.IntegrityAlgorithm.{IntegrityAlgorithm};
-ghost use Rattle.stun_types_write.specs.Adding.{IsBegun};
+ghost use Rattle.stun_types_write.specs.Adding.{IsStarted};
 ghost use Rattle.stun_types_write.specs.Lent.{own_draft};
 ghost use Rattle.stun_types_add.specs.Integrity.Signing.{signing_refusal};
 ghost use Rattle.stun_types_write.specs.ValueReading.{utf8_refusal};
 ghost use Rattle.stun_types_wire.specs.Registry.{greatest_code, least_code};
 ghost use Rattle.stun_proto_verify.specs.Judgement.{is_response};
-ghost use Rattle.stun_proto_server.specs.Server.{SameFor, nonce_at, outcome_at, words_drawn};
+ghost use Rattle.stun_proto_server.specs.Server.{SameFor, nonce_at, outcome_at, words_generated};
 ghost use Rattle.turn_desk_core.specs.Replies.{IsReply};
 ghost use Rattle.turn_desk_core.specs.declared.grant.Grant.{Grant as Granted};
 ghost use Rattle.turn_desk_core.specs.AuthLending.{LendsAuth};
@@ -38,21 +38,21 @@ use stun_types_base::instant::Instant;
 use stun_types_base::list::ListOf;
 use stun_types_base::memory::NoMemory;
 use stun_types_message::parsed::Message;
-use stun_types_write::reading::text_is_read;
+use stun_types_write::reading::proof_text_is_read;
 use stun_types_write::vec::MessageWriteVec;
 use stun_types_write::writer::MessageWrite;
 
-/// A text that is there is UTF-8. Nothing is done.
+/// Proof only: a text, if there is one, is UTF-8.
 fn found_is_read(found: Option<&str>)
     ensures { IfSome found.entry (λ text. utf8_refusal text.now ≡ None) }
 {
     match found {
-        Some(text) => text_is_read(text, text.len()),
+        Some(text) => proof_text_is_read(text, text.len()),
         None => {}
     }
 }
 
-/// A small server core. Contracts see its authenticator and what it granted.
+/// A small server core. Contracts see its authenticator and its grants.
 #[derive(Debug, Drop)]
 pub struct Desk {
     alloc: Global,
@@ -71,8 +71,8 @@ impl Model for Desk {
 }
 
 impl Desk {
-    /// A desk with this authenticator, which has granted nothing. It keeps the allocator, and holds
-    /// no memory of its own yet.
+    /// Returns a server core with this authenticator and no grants. It stores the allocator, and
+    /// has allocated nothing yet.
     pub fn new(alloc: Global, auth: LongTermServerAuth) -> Desk
         ensures auth { result.auth ≡ auth }
         ensures grants { result.grants ≡ [] }
@@ -84,7 +84,7 @@ impl Desk {
         }
     }
 
-    /// The authenticator, to be changed.
+    /// Returns the authenticator for modification.
     pub fn auth_mut(&mut self) -> &mut LongTermServerAuth
         ensures* writes_back { sem 𝓛 (LendsAuth self.entry result) }
         ensures value { result.now ≡ self.old.auth }
@@ -92,43 +92,71 @@ impl Desk {
         &mut self.auth
     }
 
-    /// What was granted, in order.
+    /// Returns all grants, in order.
     pub fn grants(&self) -> &[Grant]
         ensures { result.now ≡ self.now.grants }
     {
         self.grants.as_slice()
     }
 
-    /// The reply to bytes that came from an address at a moment, where there is one; what the driver
-    /// decides of the request; and the random words of which a nonce is drawn where one is due.
+    /// Handles bytes that came from an address at time `now`, and returns the reply, if there is
+    /// one.
     ///
-    /// Requests of six methods are answered: ALLOCATE, REFRESH, CREATE_PERMISSION, CHANNEL_BIND, CONNECT
-    /// and CONNECTION_BIND. To bytes that are no message, and to other classes and methods, the answer
-    /// is `None`, and nothing changes. A request is validated first (RFC 8489, section 9.2.4). Where it
-    /// shows no integrity attribute, names no user, or its digest is wrong, the reply is a challenge: an
-    /// error response with its number that shows ERROR-CODE 401, REALM and NONCE, and PASSWORD-ALGORITHMS
-    /// where the nonce says that there is a list. Where its nonce is not the one that stands for its
-    /// address, the challenge has 438. Where it lacks what validation needs, the reply is an error
-    /// response that shows ERROR-CODE 400 alone.
+    /// `decision` is the application's decision on the request. `rng` supplies the random words for
+    /// a new nonce, if one is due.
     ///
-    /// A request that is validated as a user's gets a signed reply, under the key that validated it. It
-    /// is an error response with 400 where what the method needs is missing: an ALLOCATE needs a
-    /// REQUESTED-TRANSPORT of UDP or TCP; a CREATE_PERMISSION one XOR-PEER-ADDRESS or more, all well
-    /// formed; a CHANNEL_BIND a CHANNEL-NUMBER, of whatever range, and a XOR-PEER-ADDRESS; a CONNECT a
-    /// XOR-PEER-ADDRESS; a CONNECTION_BIND a CONNECTION-ID; a REFRESH nothing. Of other types than a
-    /// CREATE_PERMISSION's peers the first shown decides. A decision that refuses gives its code, where
-    /// that is one from 300 to 699. A decision that doesn't fit gives 500. What fits is `Allocate` for an
-    /// ALLOCATE, with one address, or two of distinct families; `Refresh` for a REFRESH; `Connect` for a
-    /// CONNECT; `Grant` for the other three.
+    /// The call returns `None`, and changes nothing, if the bytes are not a message, or are not a
+    /// request with one of six methods: ALLOCATE, REFRESH, CREATE_PERMISSION, CHANNEL_BIND, CONNECT
+    /// and CONNECTION_BIND.
     ///
-    /// Else the request is granted: the reply is the success response, and `grants` has one more grant.
-    /// The success shows, to an ALLOCATE, XOR-RELAYED-ADDRESS of each address, LIFETIME and
-    /// XOR-MAPPED-ADDRESS (RFC 8656, section 7.2); to a REFRESH the LIFETIME that was decided (section
-    /// 8.2); to a CONNECT its CONNECTION-ID (RFC 6062, section 5.2); to others nothing. A signing is
-    /// refused for want of memory alone.
+    /// # Rejected requests
     ///
-    /// Where memory is refused, `NoMemory`: nothing was granted, and the authenticator is as it was,
-    /// or as validation left it.
+    /// The request is validated first (RFC 8489, section 9.2.4). If it is not valid, the reply is
+    /// an unsigned error response with the request's transaction ID. Checked in this order:
+    ///
+    /// 1. 401 with a challenge: the request has no visible integrity attribute.
+    /// 2. 400 with ERROR-CODE as the only attribute: it lacks something else that validation needs.
+    /// 3. 438 with a challenge: its nonce is not the one that is valid for its address.
+    /// 4. 400 with ERROR-CODE as the only attribute: its password algorithms are inconsistent.
+    /// 5. 401 with a challenge: it names no user of the server, or its integrity value is wrong.
+    ///
+    /// A challenge consists of REALM and NONCE, and PASSWORD-ALGORITHMS if the nonce says that
+    /// there is a list.
+    ///
+    /// # Validated requests
+    ///
+    /// A request that validates as a user's gets a reply that is signed under the key that
+    /// validated it. The reply is an error response in these cases, checked in this order:
+    ///
+    /// 1. 400: an attribute that the method needs is missing or malformed.
+    /// 2. The code of `Decision::Refuse`, if it is from 300 to 699; 500 if it is not.
+    /// 3. 500: the decision does not fit the method.
+    ///
+    /// Otherwise the request is granted: the reply is a success response, and `grants` gets one
+    /// more entry. Each method needs these attributes and this decision, and gets this success
+    /// response:
+    ///
+    /// - ALLOCATE needs REQUESTED-TRANSPORT of UDP or TCP, and `Allocate` with one address, or two
+    ///   of different families. The response has XOR-RELAYED-ADDRESS for each address, LIFETIME and
+    ///   XOR-MAPPED-ADDRESS (RFC 8656, section 7.2).
+    /// - REFRESH needs no attribute, and `Refresh`. The response has LIFETIME as decided (RFC 8656,
+    ///   section 8.2).
+    /// - CREATE_PERMISSION needs one or more XOR-PEER-ADDRESS, all well formed, and `Grant`. The
+    ///   response has no attributes.
+    /// - CHANNEL_BIND needs CHANNEL-NUMBER, with any value, and XOR-PEER-ADDRESS, and `Grant`. The
+    ///   response has no attributes.
+    /// - CONNECT needs XOR-PEER-ADDRESS, and `Connect`. The response has CONNECTION-ID (RFC 6062,
+    ///   section 5.2).
+    /// - CONNECTION_BIND needs CONNECTION-ID, and `Grant`. The response has no attributes.
+    ///
+    /// Attributes of a response are listed without its integrity attribute. Of the attributes that
+    /// a method needs, only the first visible one of each type is read, except for the peers of a
+    /// CREATE_PERMISSION.
+    ///
+    /// # Errors
+    ///
+    /// - `NoMemory`: an allocation failed; signing fails for no other reason. Nothing was granted.
+    ///   The authenticator is unchanged, or as validation left it.
     pub fn handle<R: Rng>(
         &mut self,
         bytes: &[u8],
@@ -137,30 +165,30 @@ impl Desk {
         decision: &Decision,
         rng: &mut R,
     ) -> Result<Option<Vec<u8>>, NoMemory>
-        // None exactly where the bytes are no request that is served.
+        // The result is `None` exactly if the bytes are not a request that is served.
         ensures none { IfOk result (λ answer.
             MatchOption answer (¬ IsServed bytes.now) (λ _. IsServed bytes.now)) }
-        // What is answered, what is granted, and what the authenticator keeps.
+        // Fixes the reply, the grants and the authenticator's new state.
         ensures answer { IfOk result (λ answer. MatchOption answer (self.new ≡ self.old)
             (λ reply. IsAnswer self.old from bytes.now now (R.stream rng.old) decision.now
             reply.items self.new)) }
-        // A grant is kept exactly where one is granted.
+        // A grant is added exactly if the reply grants it.
         ensures grants { IfOk result (λ answer. MatchOption answer
             (self.new.grants ≡ self.old.grants)
             (λ reply. (g : Granted) → (self.new.grants ≡ self.old.grants ++ g ∷ [])
             ↔ IsGranted self.old from bytes.now now (R.stream rng.old) decision.now
             reply.items g)) }
-        // Memory is wanted for a request that is served alone.
+        // Only a request that is served can run out of memory.
         ensures memory { OnErr result (IsServed bytes.now × (self.new.grants ≡ self.old.grants)
             × IsAuthAfter self.old.auth from bytes.now now (R.stream rng.old) self.new.auth) }
-        // The words of a nonce are drawn for a request that is served, where one is due.
+        // Random words are generated only for a request that is served, and only if a nonce is due.
         ensures stream { MatchResult result
             (λ answer. MatchOption answer (R.stream rng.new ≡ R.stream rng.old)
             (λ _. R.stream rng.new
-            ≡ stream_after (words_drawn self.old.auth from now) (R.stream rng.old)))
+            ≡ stream_after (words_generated self.old.auth from now) (R.stream rng.old)))
             (λ _. R.stream rng.new
-            ≡ stream_after (words_drawn self.old.auth from now) (R.stream rng.old)) }
-        // What the desk is to other addresses.
+            ≡ stream_after (words_generated self.old.auth from now) (R.stream rng.old)) }
+        // For other addresses the authenticator stays as it was.
         ensures others { (other : SocketAddr) → other ≢ from
             → SameFor other self.old.auth self.new.auth }
     {
@@ -180,15 +208,20 @@ impl Desk {
             }
             Err(LongTermServerAuthError::NoMemory) => Err(NoMemory),
             Err(error) => {
-                let reply = self.turn_away(&request, from, error)?;
+                let reply = self.refuse_unauthenticated(&request, from, error)?;
                 Ok(Some(reply))
             }
         }
     }
 
-    /// The reply to a request that was refused: an error response with 400 alone to a malformed one, else
-    /// a challenge. A nonce is kept for its address, and no user. Where memory is refused, `NoMemory`.
-    fn turn_away(
+    /// Returns the reply to a request that failed validation: an error response with ERROR-CODE 400
+    /// alone to a malformed request, otherwise a challenge. The authenticator stores a nonce for
+    /// the address, and no user.
+    ///
+    /// # Errors
+    ///
+    /// - `NoMemory`: an allocation failed.
+    fn refuse_unauthenticated(
         &self,
         request: &Message,
         from: SocketAddr,
@@ -213,9 +246,14 @@ impl Desk {
         }
     }
 
-    /// The error response with this code to a request, and what the authenticator adds to it for an
-    /// address for which a nonce is kept, and no user: REALM, NONCE, and PASSWORD-ALGORITHMS where that
-    /// nonce says that there is a list (RFC 8489, section 9.2.4). Where memory is refused, `NoMemory`.
+    /// Returns the error response with this code to a request, with the challenge that the
+    /// authenticator adds: REALM, NONCE, and PASSWORD-ALGORITHMS if the nonce says that there is a
+    /// list (RFC 8489, section 9.2.4). The authenticator stores a nonce for the address, and no
+    /// user.
+    ///
+    /// # Errors
+    ///
+    /// - `NoMemory`: an allocation failed.
     fn challenge(&self, request: &Message, from: SocketAddr, code: u16) -> Result<Vec<u8>, NoMemory>
         requires request { IsServed request.now }
         requires least { least_code ≤ code }
@@ -231,21 +269,25 @@ impl Desk {
         Ok(challenge.finish())
     }
 
-    /// What a challenge shows of the server fits into its attributes, and can be read there: the realm
-    /// and the nonce are short texts, and there are few algorithms, but some. Nothing is done.
+    /// Proof only: the attributes of a challenge fit into the message and can be read back. The
+    /// realm and the nonce are short UTF-8 texts, and the list of algorithms is short and not
+    /// empty.
     fn has_room(&self, from: SocketAddr)
         ensures { (nonce : List ℕ) → nonce_at self.now.auth from ≡ Some nonce
             → FitsChallenge (unvalidated_party self.now.auth nonce) }
     {
         let realm = self.auth.realm();
-        text_is_read(realm, realm.len());
+        proof_text_is_read(realm, realm.len());
         let nonce = self.auth.nonce_for_client(from);
         found_is_read(nonce);
         let _ = self.auth.supported_integrity();
     }
 
-    /// The signed reply to a request that was validated, and what is granted by it. Where memory is
-    /// refused, `NoMemory`, and nothing is granted.
+    /// Returns the signed reply to a validated request, and stores what it grants.
+    ///
+    /// # Errors
+    ///
+    /// - `NoMemory`: an allocation failed. Nothing was granted.
     fn answer(
         &mut self,
         request: &Message,
@@ -274,11 +316,15 @@ impl Desk {
         Ok(reply)
     }
 
-    /// A reply to an address, signed under the key of the user by whom its last message was
-    /// validated. Where memory is refused, `NoMemory`.
+    /// Signs a reply to an address under the key of the user who validated the last message from
+    /// there.
+    ///
+    /// # Errors
+    ///
+    /// - `NoMemory`: an allocation failed.
     fn sign(&self, reply: MessageWriteVec, from: SocketAddr) -> Result<Vec<u8>, NoMemory>
         requires response { is_response (own_draft reply).bytes ≡ true }
-        requires begun { IsBegun (own_draft reply).bytes }
+        requires started { IsStarted (own_draft reply).bytes }
         requires signable { (algorithm : IntegrityAlgorithm)
             → signing_refusal (own_draft reply) algorithm algorithm ≡ None }
         requires validated { IsSome (key_at self.now.auth from) }

@@ -18,9 +18,12 @@ use stun_types_message::parsed::Message;
 use stun_types_wire::error::StunWriteError;
 use stun_types_write::vec::MessageWriteVec;
 
-/// The error response to a request that shows the code, with the reason that goes with it, and
-/// nothing else. What makes a challenge of it is for the server's authenticator to add. Where memory
-/// is refused, `NoMemory`.
+/// Returns the unsigned error response to a request. Its only attribute is ERROR-CODE, with the
+/// code and its standard reason. The authenticator adds the attributes of a challenge.
+///
+/// # Errors
+///
+/// - `NoMemory`: an allocation failed.
 pub fn failure(alloc: Global, request: &Message, code: u16) -> Result<MessageWriteVec, NoMemory>
     requires request { class_of (kind_at request.now) ≡ Request }
     requires least { least_code ≤ code }
@@ -35,7 +38,8 @@ pub fn failure(alloc: Global, request: &Message, code: u16) -> Result<MessageWri
     }
 }
 
-/// `failure`, with the writer's error, which is want of memory alone.
+/// Does the work of `failure` with the writer's error type. The only possible error is
+/// `StunWriteError::NoMemory`.
 fn write_failure(
     alloc: Global,
     request: &Message,

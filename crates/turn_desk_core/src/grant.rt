@@ -1,4 +1,4 @@
-//! What a desk granted.
+//! What the server core granted.
 
 use std::net::SocketAddr;
 use stun_types_base::list::ListOf;
@@ -6,25 +6,25 @@ use stun_types_base::transport::TransportType;
 use stun_types_wire::class::Method;
 use stun_types_wire::transaction::TransactionId;
 
-/// What was granted in answer to one request. Fields that the method has no use for are empty.
+/// What was granted by the reply to one request. Fields that the method does not use are empty.
 #[derive(Debug, Drop)]
 pub struct Grant {
     /// The method of the request.
     pub method: Method,
-    /// The number of the request.
+    /// The transaction ID of the request.
     pub number: TransactionId,
     /// The address that the request came from.
     pub from: SocketAddr,
-    /// The transport that was asked for (RFC 8656, section 18.8).
+    /// The requested transport (RFC 8656, section 18.8).
     pub transport: Option<TransportType>,
-    /// The relayed transport addresses that were given.
+    /// The relayed transport addresses that the decision gave.
     pub relayed: ListOf<SocketAddr>,
-    /// How long what was granted lives, in seconds.
+    /// The granted lifetime, in seconds.
     pub lifetime: Option<u32>,
-    /// The peers that were asked for.
+    /// The requested peers.
     pub peers: ListOf<SocketAddr>,
-    /// The number of the channel that was asked for (RFC 8656, section 12).
+    /// The requested channel number (RFC 8656, section 12).
     pub channel: Option<u16>,
-    /// The number of the connection (RFC 6062, section 6.2.1).
+    /// The connection ID (RFC 6062, section 6.2.1).
     pub connection: Option<u32>,
 }

@@ -1,5 +1,5 @@
-//! The success responses to the methods that ask something of an allocation which stands (RFC 8656,
-//! sections 8.2, 10.2 and 12.2; RFC 6062, sections 5.2 and 5.4).
+//! The success responses to the methods other than ALLOCATE, which concern an existing allocation
+//! (RFC 8656, sections 8.2, 10.2 and 12.2; RFC 6062, sections 5.2 and 5.4).
 
 ghost use Rattle.std.specs.Prelude.{◌≡◌, IfOk, IfErr};
 ghost use Rattle.stun_types_wire.specs.Attributes.{kind_at};
@@ -19,8 +19,12 @@ use stun_types_write::vec::MessageWriteVec;
 use turn_types_attributes::lifetime::Lifetime;
 use turn_types_peer::connection_id::ConnectionId;
 
-/// The success response to a REFRESH: it shows LIFETIME, in seconds (RFC 8656, section 8.2). Where
-/// memory is refused, `NoMemory`.
+/// Returns the unsigned success response to a REFRESH, with LIFETIME in seconds (RFC 8656, section
+/// 8.2).
+///
+/// # Errors
+///
+/// - `NoMemory`: an allocation failed.
 pub fn refreshed(
     alloc: Global,
     request: &Message,
@@ -37,8 +41,12 @@ pub fn refreshed(
     }
 }
 
-/// The success response to a CONNECT: it shows CONNECTION-ID, the number of the connection to the
-/// peer (RFC 6062, section 5.2). Where memory is refused, `NoMemory`.
+/// Returns the unsigned success response to a CONNECT, with the CONNECTION-ID of the connection to
+/// the peer (RFC 6062, section 5.2).
+///
+/// # Errors
+///
+/// - `NoMemory`: an allocation failed.
 pub fn connected(
     alloc: Global,
     request: &Message,
@@ -55,9 +63,12 @@ pub fn connected(
     }
 }
 
-/// The success response that shows nothing: to a CREATE_PERMISSION, a CHANNEL_BIND or a
-/// CONNECTION_BIND (RFC 8656, sections 10.2 and 12.2; RFC 6062, section 5.4). Where memory is
-/// refused, `NoMemory`.
+/// Returns an unsigned success response without attributes: the one to a CREATE_PERMISSION, a
+/// CHANNEL_BIND or a CONNECTION_BIND (RFC 8656, sections 10.2 and 12.2; RFC 6062, section 5.4).
+///
+/// # Errors
+///
+/// - `NoMemory`: an allocation failed.
 pub fn granted(alloc: Global, request: &Message) -> Result<MessageWriteVec, NoMemory>
     requires request { class_of (kind_at request.now) ≡ Request }
     ensures { IfOk result (λ reply. IsReply (success_type request.now) (number_at request.now)
@@ -70,7 +81,8 @@ pub fn granted(alloc: Global, request: &Message) -> Result<MessageWriteVec, NoMe
     }
 }
 
-/// `refreshed`, with the writer's error, which is want of memory alone.
+/// Does the work of `refreshed` with the writer's error type. The only possible error is
+/// `StunWriteError::NoMemory`.
 fn write_refreshed(
     alloc: Global,
     request: &Message,
@@ -87,7 +99,8 @@ fn write_refreshed(
     Ok(reply)
 }
 
-/// `connected`, with the writer's error, which is want of memory alone.
+/// Does the work of `connected` with the writer's error type. The only possible error is
+/// `StunWriteError::NoMemory`.
 fn write_connected(
     alloc: Global,
     request: &Message,
@@ -104,7 +117,8 @@ fn write_connected(
     Ok(reply)
 }
 
-/// `granted`, with the writer's error, which is want of memory alone.
+/// Does the work of `granted` with the writer's error type. The only possible error is
+/// `StunWriteError::NoMemory`.
 fn write_granted(alloc: Global, request: &Message) -> Result<MessageWriteVec, StunWriteError>
     requires request { class_of (kind_at request.now) ≡ Request }
     ensures reply { IfOk result (λ reply. IsReply (success_type request.now)

@@ -1,4 +1,5 @@
-//! What the contracts of a desk mean for a layer above. The functions do nothing; each contract is a law.
+//! Theorems that a layer above can derive from the contracts of a `Desk`. The functions do nothing;
+//! each contract is a theorem.
 
 ghost use Rattle.std.specs.Prelude.{◌≡◌, List, ℕ};
 ghost use Rattle.std.specs.declared.net.socket_addr.SocketAddr.{SocketAddr};
@@ -7,15 +8,18 @@ ghost use Rattle.turn_desk_core.specs.declared.decision.Decision.{Decision};
 ghost use Rattle.turn_desk_core.specs.Requests.{IsServed};
 ghost use Rattle.turn_desk_core.specs.State.{State};
 ghost use Rattle.turn_desk_core.specs.Steps.{IsAnswer};
-ghost use Rattle.turn_desk_core.specs.DeskCalls.{AreAlike, AreAnsweredAlike, IsServerRun, NameOneUser, ServerAnswer, ServerCall, StandsAlone, calls_concerning};
+ghost use Rattle.turn_desk_core.specs.DeskCalls.{AreAlike, AreAnsweredAlike, IsServerRun, NameOneUser, ServerAnswer, ServerCall, IsIsolated, calls_concerning};
 ghost use Rattle.turn_desk_core.specs.DeskIsolation.{IsAnsweredAlike};
 ghost use Rattle.turn_desk_core.specs.DeskSteps.{DeskStep};
 ghost use Rattle.stun_proto_server.specs.Server.{SameFor};
 
-/// An answer to a request that is served is a response to it, never a request. A success says that the
-/// request validated under the key of a user, and that one grant of it is kept, with its number, its
-/// source and what its method asks for. An error adds to no grants, and shows no CONNECTION-ID. The key
-/// that signs a reply is the one under which the request validated.
+/// The reply to a request that is served satisfies `DeskStep`:
+///
+/// - It is a response, with the request's method and transaction ID.
+/// - A success response means that the request validated under a user's key, and that exactly one
+///   grant was added, with the request's transaction ID, its source and what its method requests.
+/// - An error response adds no grant and has no CONNECTION-ID.
+/// - A reply that is signed is signed under the key that validated the request.
 pub fn desk_steps()
     ensures { (old new : State) (from : SocketAddr) (bytes reply : List ℕ) (now : ℕ)
         (stream : Stream) (decision : Decision)
@@ -24,11 +28,13 @@ pub fn desk_steps()
         → DeskStep old from bytes decision reply new }
 {}
 
-/// Addresses are apart: what a desk answers to an address is fixed by what that address sees of its
-/// authenticator, which calls of other addresses leave as it was (`addresses_are_apart` of
-/// `stun_proto`, and the clause `others` of `handle`). Where an address can't tell two desks apart, an
-/// answer of the one is an answer of the other, both grant the same, and the address can't tell them
-/// apart afterwards.
+/// Non-interference for one request. The reply to an address depends only on what that address can
+/// observe of the authenticator; calls for other addresses leave that unchanged
+/// (`addresses_are_apart` of `stun_proto`, and the clause `others` of `handle`).
+///
+/// Premises: `from` can't distinguish the server cores `a` and `b`, and `a` may return this reply.
+/// Conclusion: `b` may return this reply too, both add equal grants, and `from` can't distinguish
+/// them afterwards.
 pub fn desks_answer_alike()
     ensures { (a b new : State) (from : SocketAddr) (bytes reply : List ℕ) (now : ℕ)
         (stream : Stream) (decision : Decision)
@@ -37,21 +43,25 @@ pub fn desks_answer_alike()
         → IsAnsweredAlike a b from bytes now stream decision reply new }
 {}
 
-/// So it is of whole runs of calls, whatever other addresses do between an address's own. Of any run of
-/// requests, and of calls of the authenticator, none of which is refused memory, those that concern an
-/// address alone, its own and those on users and settings, are answered the same by any desk that the
-/// address can't tell from the one of the run. They leave a desk that it can't tell from the one that all
-/// calls left: what is kept for the address is the same, and so is all that was granted to it, in order.
+/// Non-interference for whole runs: whatever other addresses do between an address's own calls, the
+/// results for this address stay equal. A run is a sequence of requests and authenticator calls of
+/// which none ran out of memory. The calls that concern an address are its own and those on users
+/// and settings.
 ///
-/// And what it is answered and granted is fixed by these calls: of two runs in which they are the same,
-/// of desks that the address can't tell apart, it gets the same answers and the same grants. That takes
-/// for granted that no request names two users, by a hash that both have (RFC 8489, section 14.4).
-pub fn addresses_stand_alone()
+/// - `alone`: delete from a run all calls that don't concern the address. Any server core that the
+///   address can't distinguish from the run's first one can give the remaining calls equal results.
+///   The address can't distinguish the final states: what is stored for it is equal, and so are its
+///   grants, in order.
+/// - `fixed`: take two runs of server cores that the address can't distinguish, with equal calls
+///   that concern it. Then the results of these calls are equal. The address can't distinguish the
+///   final states, so its grants are equal too. Premise: no request names two users by a hash that
+///   both share (RFC 8489, section 14.4).
+pub fn addresses_are_isolated()
     ensures alone { (address : SocketAddr) (old other new : State)
         (pairs : List (ServerCall × ServerAnswer))
         → AreAlike address old other
         → IsServerRun old pairs new
-        → StandsAlone address other pairs new }
+        → IsIsolated address other pairs new }
     ensures fixed { (address : SocketAddr) (old other new left : State)
         (pairs others : List (ServerCall × ServerAnswer))
         → AreAlike address old other

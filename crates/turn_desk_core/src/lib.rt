@@ -1,9 +1,8 @@
-//! The server core: what is asked for, what is granted, the reply, and `Desk`, which authenticates a
-//! request before it does any of these.
+//! The server core. `Desk` authenticates a request, determines what it asks for, grants it or not,
+//! and builds the reply.
 #![tactic(auto)]
 
 pub mod allocated;
-pub mod asked;
 pub mod decision;
 pub mod desk;
 pub mod failure;
@@ -13,4 +12,5 @@ pub mod laws;
 pub mod peers;
 pub mod reply;
 pub mod request;
+pub mod requested;
 pub mod verdict;

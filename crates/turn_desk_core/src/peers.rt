@@ -1,7 +1,7 @@
 //! The peers that a request names (RFC 8656, section 18.3).
 
 ghost use Rattle.std.specs.Prelude.{◌≡◌, IfOk};
-ghost use Rattle.turn_desk_core.specs.AskedFor.{are_peers, peer_asked, peer_in, peers_asked, peers_told};
+ghost use Rattle.turn_desk_core.specs.RequestedFor.{are_peers, peer_requested, peer_in, peers_requested, peers_reported};
 
 use std::alloc::Global;
 use std::convert::TryFrom;
@@ -14,33 +14,37 @@ use stun_types_wire::transaction::TransactionId;
 use stun_types_write::attribute::AttributeStaticType;
 use turn_types_peer::xor_peer_address::XorPeerAddress;
 
-/// The peer of the first XOR-PEER-ADDRESS, where there is one that is well formed.
-pub(crate) fn peer_asked(request: &Message) -> Option<SocketAddr>
-    ensures { result ≡ peer_asked request.now }
+/// Returns the peer of the first XOR-PEER-ADDRESS, if there is one and it is well formed.
+pub(crate) fn peer_requested(request: &Message) -> Option<SocketAddr>
+    ensures { result ≡ peer_requested request.now }
 {
     let raw = request.raw_attribute(XorPeerAddress::TYPE)?;
     peer_in(&raw, request.transaction_id())
 }
 
-/// The peers of all XOR-PEER-ADDRESS, in order, where there is one and all are well formed. Where
-/// memory is refused, `NoMemory`.
-pub(crate) fn peers_asked(
+/// Returns the peers of all XOR-PEER-ADDRESS attributes, in order, or `None` if there is none or
+/// one is malformed.
+///
+/// # Errors
+///
+/// - `NoMemory`: an allocation failed.
+pub(crate) fn peers_requested(
     alloc: Global,
     request: &Message,
 ) -> Result<Option<ListOf<SocketAddr>>, NoMemory>
-    ensures { IfOk result (λ peers. peers ≡ peers_asked request.now) }
+    ensures { IfOk result (λ peers. peers ≡ peers_requested request.now) }
 {
     if !are_peers(request) {
         return Ok(None);
     }
-    let peers = peers_told(alloc, request)?;
+    let peers = peers_reported(alloc, request)?;
     if peers.is_empty() {
         return Ok(None);
     }
     Ok(Some(peers))
 }
 
-/// Whether each XOR-PEER-ADDRESS is well formed.
+/// Returns whether every XOR-PEER-ADDRESS is well formed.
 #[tactic(auto, using(stun_types_wire::proofs::Left::map_numbered))]
 fn are_peers(request: &Message) -> bool
     ensures { result ≡ are_peers request.now }
@@ -54,10 +58,10 @@ fn are_peers(request: &Message) -> bool
     true
 }
 
-/// The peers that each XOR-PEER-ADDRESS tells which is well formed, in order.
+/// Returns the peers of all well-formed XOR-PEER-ADDRESS attributes, in order.
 #[tactic(auto, using(stun_types_wire::proofs::Left::map_numbered))]
-fn peers_told(alloc: Global, request: &Message) -> Result<ListOf<SocketAddr>, NoMemory>
-    ensures { IfOk result (λ peers. peers ≡ peers_told request.now) }
+fn peers_reported(alloc: Global, request: &Message) -> Result<ListOf<SocketAddr>, NoMemory>
+    ensures { IfOk result (λ peers. peers ≡ peers_reported request.now) }
 {
     let number = request.transaction_id();
     let mut peers = ListOf::new(alloc);
@@ -71,12 +75,13 @@ fn peers_told(alloc: Global, request: &Message) -> Result<ListOf<SocketAddr>, No
     Ok(peers)
 }
 
-/// The peer of a XOR-PEER-ADDRESS in a message of this number, where it is well formed.
-fn peer_in(raw: &RawAttribute<'_>, number: TransactionId) -> Option<SocketAddr>
-    ensures { result ≡ peer_in number raw.now }
+/// Returns the peer of a XOR-PEER-ADDRESS in a message with this transaction ID, if it is well
+/// formed.
+fn peer_in(raw: &RawAttribute<'_>, transaction_id: TransactionId) -> Option<SocketAddr>
+    ensures { result ≡ peer_in transaction_id raw.now }
 {
     match XorPeerAddress::try_from(raw) {
-        Ok(peer) => Some(peer.addr(number)),
+        Ok(peer) => Some(peer.addr(transaction_id)),
         Err(_) => None,
     }
 }

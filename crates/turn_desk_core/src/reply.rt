@@ -1,4 +1,4 @@
-//! The reply to a request, and what is kept of what is granted.
+//! The reply to a request, and the grant that is stored for it.
 
 ghost use Rattle.std.specs.Prelude.{◌≡◌, ◌∷◌, [], IfOk, option_to_list};
 ghost use Rattle.stun_types_wire.specs.Attributes.{kind_at};
@@ -21,10 +21,18 @@ use stun_types_base::memory::NoMemory;
 use stun_types_message::parsed::Message;
 use stun_types_write::vec::MessageWriteVec;
 
-/// The reply to a request from an address, by what becomes of it, before it is signed: an error
-/// response with the code; or the success response, which shows of an allocation the relayed
-/// addresses, LIFETIME and XOR-MAPPED-ADDRESS, of a refresh LIFETIME, of a connection CONNECTION-ID,
-/// and else nothing. Where memory is refused, `NoMemory`.
+/// Returns the reply to a request for a verdict, before it is signed.
+///
+/// - `Verdict::Fails`: an error response with the code.
+/// - `Verdict::Allocates`: a success response with the relayed addresses, LIFETIME and
+///   XOR-MAPPED-ADDRESS.
+/// - `Verdict::Refreshes`: a success response with LIFETIME.
+/// - `Verdict::Connects`: a success response with CONNECTION-ID.
+/// - Any other verdict: a success response without attributes.
+///
+/// # Errors
+///
+/// - `NoMemory`: an allocation failed.
 pub fn reply_to(
     alloc: Global,
     request: &Message,
@@ -49,17 +57,20 @@ pub fn reply_to(
     }
 }
 
-/// What is kept of what is granted to a request from an address, where something is. Peers, channel,
-/// transport and the number of a connection that is bound are the request's; relayed addresses,
-/// lifetime and the number of a new connection are those that were decided. Where memory is refused,
-/// `NoMemory`.
+/// Returns the grant for a verdict on a request from an address, or `None` if nothing is granted.
+/// Peers, channel, transport and the ID of a connection that is bound come from the request.
+/// Relayed addresses, lifetime and the ID of a new connection come from the decision.
+///
+/// # Errors
+///
+/// - `NoMemory`: an allocation failed.
 pub fn granted_to(
     alloc: Global,
     request: &Message,
     from: SocketAddr,
     what: Verdict,
 ) -> Result<Option<Grant>, NoMemory>
-    ensures { IfOk result (λ kept. option_to_list kept ≡ grants_of request.now from what) }
+    ensures { IfOk result (λ stored. option_to_list stored ≡ grants_of request.now from what) }
 {
     let mut grant = bare_grant(alloc, request, from);
     match what {
@@ -88,7 +99,8 @@ pub fn granted_to(
     Ok(Some(grant))
 }
 
-/// A grant to a request from an address that gives nothing yet.
+/// Returns a grant with the request's method, transaction ID and source, and all other fields
+/// empty.
 fn bare_grant(alloc: Global, request: &Message, from: SocketAddr) -> Grant
     ensures { result ≡ bare_grant request.now from }
 {
@@ -105,7 +117,11 @@ fn bare_grant(alloc: Global, request: &Message, from: SocketAddr) -> Grant
     }
 }
 
-/// A list of one peer. Where memory is refused, `NoMemory`.
+/// Returns a list of one peer.
+///
+/// # Errors
+///
+/// - `NoMemory`: an allocation failed.
 fn one(alloc: Global, peer: SocketAddr) -> Result<ListOf<SocketAddr>, NoMemory>
     ensures { IfOk result (λ peers. peers ≡ peer ∷ []) }
 {

@@ -1,4 +1,4 @@
-//! Which messages a desk serves.
+//! Which messages the server core serves.
 
 ghost use Rattle.std.specs.Prelude.{◌≡◌, ◌↔◌, IsTrue, None};
 ghost use Rattle.stun_types_wire.specs.Grammar.{refusal};
@@ -10,8 +10,9 @@ use turn_types_attributes::registry::{
     ALLOCATE, CHANNEL_BIND, CONNECT, CONNECTION_BIND, CREATE_PERMISSION, REFRESH,
 };
 
-/// Whether a message is a request that a desk serves: an ALLOCATE, a REFRESH, a CREATE_PERMISSION, a
-/// CHANNEL_BIND, a CONNECT or a CONNECTION_BIND (RFC 8656, section 17; RFC 6062, section 6.1).
+/// Returns whether a message is a request that the server core serves: an ALLOCATE, a REFRESH, a
+/// CREATE_PERMISSION, a CHANNEL_BIND, a CONNECT or a CONNECTION_BIND (RFC 8656, section 17; RFC
+/// 6062, section 6.1).
 pub fn is_served(message: &Message) -> bool
     requires { refusal message.now ≡ None }
     ensures { IsTrue result ↔ IsServed message.now }
@@ -21,21 +22,21 @@ pub fn is_served(message: &Message) -> bool
         && (is_of_allocation(method) || is_of_peer(method) || is_of_connection(method))
 }
 
-/// Whether a method asks for an allocation, or for more of its time.
+/// Returns whether a method is ALLOCATE or REFRESH.
 fn is_of_allocation(method: Method) -> bool
     ensures { IsTrue result ↔ IsOfAllocation method.0 }
 {
     method == ALLOCATE || method == REFRESH
 }
 
-/// Whether a method asks for the way to a peer by datagrams.
+/// Returns whether a method is CREATE_PERMISSION or CHANNEL_BIND.
 fn is_of_peer(method: Method) -> bool
     ensures { IsTrue result ↔ IsOfPeer method.0 }
 {
     method == CREATE_PERMISSION || method == CHANNEL_BIND
 }
 
-/// Whether a method asks for a connection to a peer, or for the binding of one.
+/// Returns whether a method is CONNECT or CONNECTION_BIND.
 fn is_of_connection(method: Method) -> bool
     ensures { IsTrue result ↔ IsOfConnection method.0 }
 {

@@ -1,10 +1,10 @@
-//! What becomes of a request that one of the desk's users sent.
+//! The outcome of a validated request.
 
 ghost use Rattle.std.specs.Prelude.{◌≡◌, IfOk};
 ghost use Rattle.turn_desk_core.specs.Verdicts.{IsLawful, are_relayable, decided, on_allocation, on_connection, on_refreshment, refused_code, verdict_on};
 
-use crate::asked::{Asked, asked_by};
 use crate::decision::Decision;
+use crate::requested::{Requested, requested_by};
 use std::alloc::Global;
 use std::net::SocketAddr;
 use stun_types_attributes::error_code::ErrorCode;
@@ -13,45 +13,51 @@ use stun_types_base::memory::NoMemory;
 use stun_types_base::transport::TransportType;
 use stun_types_message::parsed::Message;
 
-/// What becomes of a request.
+/// The outcome of a validated request.
 #[derive(Debug, Drop)]
 pub enum Verdict {
-    /// It is refused with this error code, from 300 to 699.
+    /// The request is rejected with this error code, from 300 to 699.
     Fails(u16),
     /// An allocation is granted.
     Allocates {
-        /// By which it reaches its peers.
+        /// The transport between the server and the peers.
         transport: TransportType,
-        /// One address, or two of distinct families.
+        /// The relayed addresses: one, or two of different families.
         relayed: ListOf<SocketAddr>,
-        /// In seconds.
+        /// The lifetime, in seconds.
         lifetime: u32,
     },
-    /// An allocation lives on, so many seconds.
+    /// An allocation's lifetime is set to this number of seconds.
     Refreshes(u32),
-    /// The peers may reach it.
+    /// Permissions for these peers are installed.
     Permits(ListOf<SocketAddr>),
     /// A channel is bound.
     Binds {
-        /// Its number.
+        /// The channel number.
         channel: u16,
-        /// To whom.
+        /// The peer.
         peer: SocketAddr,
     },
     /// A connection was made.
     Connects {
-        /// To whom.
+        /// The peer.
         peer: SocketAddr,
-        /// Its number.
+        /// The connection ID.
         connection: u32,
     },
-    /// A data connection is bound to the connection with this number.
+    /// A data connection is bound to the connection with this ID.
     Joins(u32),
 }
 
-/// What becomes of a request by what the driver decided. Where what its method needs is missing, it
-/// fails with 400; where it is refused, with the code; where the decision doesn't fit, with 500. Where
-/// memory is refused, `NoMemory`.
+/// Returns the outcome of a request under the application's decision. Checked in this order:
+///
+/// 1. An attribute that the method needs is missing or malformed: error code 400.
+/// 2. The decision refuses the request: its code, or 500 if the code is not from 300 to 699.
+/// 3. The decision does not fit the method: error code 500.
+///
+/// # Errors
+///
+/// - `NoMemory`: an allocation failed.
 #[tactic(auto, using(crate::proofs::Lawful::verdict_lawful))]
 pub fn verdict_on(
     alloc: Global,
@@ -61,39 +67,40 @@ pub fn verdict_on(
     ensures made { IfOk result (λ made. made ≡ verdict_on request.now decision.now) }
     ensures lawful { IfOk result IsLawful }
 {
-    match asked_by(alloc, request)? {
+    match requested_by(alloc, request)? {
         None => Ok(Verdict::Fails(ErrorCode::BAD_REQUEST)),
-        Some(told) => decided(alloc, told, decision),
+        Some(reported) => decided(alloc, reported, decision),
     }
 }
 
-/// What becomes of what was asked.
-fn decided(alloc: Global, told: Asked, decision: &Decision) -> Result<Verdict, NoMemory>
-    ensures { IfOk result (λ made. made ≡ decided told decision.now) }
+/// Returns the outcome of a request that asks for `reported`, under this decision.
+fn decided(alloc: Global, reported: Requested, decision: &Decision) -> Result<Verdict, NoMemory>
+    ensures { IfOk result (λ made. made ≡ decided reported decision.now) }
 {
     if let Decision::Refuse(code) = decision {
         return Ok(Verdict::Fails(refused_code(*code)));
     }
-    match told {
-        Asked::Allocation(transport) => on_allocation(alloc, transport, decision),
-        Asked::Refreshment => Ok(on_refreshment(decision)),
-        Asked::Permissions(peers) => match decision {
+    match reported {
+        Requested::Allocation(transport) => on_allocation(alloc, transport, decision),
+        Requested::Refreshment => Ok(on_refreshment(decision)),
+        Requested::Permissions(peers) => match decision {
             Decision::Grant => Ok(Verdict::Permits(peers)),
             _ => Ok(Verdict::Fails(ErrorCode::SERVER_ERROR)),
         },
-        Asked::Channel { channel, peer } => match decision {
+        Requested::Channel { channel, peer } => match decision {
             Decision::Grant => Ok(Verdict::Binds { channel, peer }),
             _ => Ok(Verdict::Fails(ErrorCode::SERVER_ERROR)),
         },
-        Asked::Connection(peer) => Ok(on_connection(peer, decision)),
-        Asked::Binding(connection) => match decision {
+        Requested::Connection(peer) => Ok(on_connection(peer, decision)),
+        Requested::Binding(connection) => match decision {
             Decision::Grant => Ok(Verdict::Joins(connection)),
             _ => Ok(Verdict::Fails(ErrorCode::SERVER_ERROR)),
         },
     }
 }
 
-/// An ALLOCATE for a transport gets what was decided for an allocation, where that fits.
+/// Returns the outcome of an ALLOCATE for a transport: an allocation as decided, or 500 if the
+/// decision does not fit.
 fn on_allocation(
     alloc: Global,
     transport: TransportType,
@@ -119,7 +126,8 @@ fn on_allocation(
     }
 }
 
-/// A REFRESH gets the lifetime that was decided, whatever it asked for.
+/// Returns the outcome of a REFRESH: the decided lifetime, whatever lifetime was requested, or 500
+/// if the decision does not fit.
 fn on_refreshment(decision: &Decision) -> Verdict
     ensures { result ≡ on_refreshment decision.now }
 {
@@ -129,7 +137,8 @@ fn on_refreshment(decision: &Decision) -> Verdict
     }
 }
 
-/// A CONNECT to a peer gets the number that was decided.
+/// Returns the outcome of a CONNECT to a peer: a connection with the decided ID, or 500 if the
+/// decision does not fit.
 fn on_connection(peer: SocketAddr, decision: &Decision) -> Verdict
     ensures { result ≡ on_connection peer decision.now }
 {
@@ -142,7 +151,7 @@ fn on_connection(peer: SocketAddr, decision: &Decision) -> Verdict
     }
 }
 
-/// The code of a refusal, where it is one from 300 to 699; else the refusal doesn't fit.
+/// Returns the code of a refusal if it is from 300 to 699, and 500 otherwise.
 fn refused_code(code: u16) -> u16
     ensures { result ≡ refused_code code }
 {
@@ -152,7 +161,7 @@ fn refused_code(code: u16) -> u16
     code
 }
 
-/// Whether there is one address, or there are two of distinct families.
+/// Returns whether there is one address, or two of different families.
 fn are_relayable(addresses: &[SocketAddr]) -> bool
     ensures { result ≡ are_relayable addresses.now }
 {
@@ -163,7 +172,7 @@ fn are_relayable(addresses: &[SocketAddr]) -> bool
     }
 }
 
-/// The same addresses, in memory of their own.
+/// Returns a copy of the addresses.
 fn copy_of(alloc: Global, addresses: &[SocketAddr]) -> Result<ListOf<SocketAddr>, NoMemory>
     ensures { IfOk result (λ copy. copy ≡ addresses.now) }
 {

@@ -1,5 +1,5 @@
 pub mod Printed
--- What stands above this crate has these through it.
+-- Crates that depend on this one reach these definitions through it.
 pub use Rattle.turn_client_proto_api.specs.TurnTypesFrame as TurnTypesFrame
 pub use Rattle.turn_client_proto_api.specs.StunProtoTransaction as StunProtoTransaction
 pub use Rattle.turn_client_proto_api.specs as TurnClientProtoApi

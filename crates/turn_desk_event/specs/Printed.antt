@@ -1,4 +1,4 @@
--- What answers are printed as.
+-- The text that is printed for a result.
 use Rattle.std.specs.Prelude.{ℕ, List, [], ◌++◌, Bool, true, false, Option, Some, None, codes}
 use Rattle.std.specs.Fmt.{decimal}
 use Rattle.std.specs.List.{flat_map}
@@ -30,21 +30,21 @@ use Rattle.turn_desk_event.specs.declared.answer.Answer.TheVariants as Answers
 use Rattle.turn_desk_event.specs.declared.answer.Refusal.{Refusal}
 use Rattle.turn_desk_event.specs.declared.answer.Refusal.TheVariants.{BindChannel, CreatePermission, Delete, Send, TcpAllocate, TcpConnect}
 
--- the word for a transport
+-- The word for a transport.
 abbrev pub transport_word : TransportType → List ℕ
 transport_word Udp = codes "udp"
 transport_word Tcp = codes "tcp"
 
--- the word for a family of addresses
+-- The word for an address family.
 abbrev pub family_word : AddressFamily → List ℕ
 family_word IPV4 = codes "4"
 family_word IPV6 = codes "6"
 
--- a transport and an address, with a space between
+-- A transport and an address, separated by a space.
 abbrev pub placed_text : TransportType → List ℕ → List ℕ
 placed_text transport address = transport_word transport ++ codes " " ++ address
 
--- what happened at the server: its name, and its values
+-- An event that a client reports: its name and its values.
 abbrev pub event_text : TurnEvent → List ℕ
 event_text (Events.AllocationCreated t a) = codes "AllocationCreated " ++ placed_text t (socket_text a)
 event_text (Events.AllocationCreateFailed family) = codes "AllocationCreateFailed " ++ family_word family
@@ -55,18 +55,19 @@ event_text (Events.ChannelCreateFailed t a) = codes "ChannelCreateFailed " ++ pl
 event_text (Events.TcpConnected a) = codes "TcpConnected " ++ socket_text a
 event_text (Events.TcpConnectFailed a) = codes "TcpConnectFailed " ++ socket_text a
 
--- why allocations are not deleted
+-- The name of a `DeleteError`.
 abbrev pub delete_error_text : DeleteError → List ℕ
 delete_error_text Deletes.NoAllocation = codes "NoAllocation"
 delete_error_text Deletes.NoMemory = codes "NoMemory"
 
--- why no permission is asked for
+-- The name of a `CreatePermissionError`.
 abbrev pub permission_error_text : CreatePermissionError → List ℕ
 permission_error_text Permits.AlreadyExists = codes "AlreadyExists"
 permission_error_text Permits.NoAllocation = codes "NoAllocation"
 permission_error_text Permits.NoMemory = codes "NoMemory"
 
--- why no channel is asked for: behind an expired channel the moment through which its number stays reserved
+-- The name of a `BindChannelError`. For an expired channel it is followed by the time until which no channel
+-- can be bound to that peer, that time included.
 abbrev pub bind_error_text : BindChannelError → List ℕ
 bind_error_text Binds.AlreadyExists = codes "AlreadyExists"
 bind_error_text (Binds.ExpiredChannelExists until) = codes "ExpiredChannelExists " ++ decimal until
@@ -74,20 +75,20 @@ bind_error_text Binds.NoAllocation = codes "NoAllocation"
 bind_error_text Binds.NoChannel = codes "NoChannel"
 bind_error_text Binds.NoMemory = codes "NoMemory"
 
--- why no connection is asked for
+-- The name of a `TcpConnectError`.
 abbrev pub connect_error_text : TcpConnectError → List ℕ
 connect_error_text Connects.AlreadyExists = codes "AlreadyExists"
 connect_error_text Connects.NoAllocation = codes "NoAllocation"
 connect_error_text Connects.NoPermission = codes "NoPermission"
 connect_error_text Connects.NoMemory = codes "NoMemory"
 
--- why a socket is not taken
+-- The name of a `TcpAllocateError`.
 abbrev pub socket_error_text : TcpAllocateError → List ℕ
 socket_error_text Sockets.AlreadyExists = codes "AlreadyExists"
 socket_error_text Sockets.NoAllocation = codes "NoAllocation"
 socket_error_text Sockets.NoMemory = codes "NoMemory"
 
--- why nothing is sent to a peer
+-- The name of a `SendError`.
 abbrev pub send_error_text : SendError → List ℕ
 send_error_text Sends.NoAllocation = codes "NoAllocation"
 send_error_text Sends.NoPermission = codes "NoPermission"
@@ -95,7 +96,7 @@ send_error_text Sends.NoTcpSocket = codes "NoTcpSocket"
 send_error_text Sends.TooLarge = codes "TooLarge"
 send_error_text Sends.NoMemory = codes "NoMemory"
 
--- why a client refuses a call
+-- The reason why a client refuses a call.
 abbrev pub refusal_text : Refusal → List ℕ
 refusal_text (Delete error) = delete_error_text error
 refusal_text (CreatePermission error) = permission_error_text error
@@ -104,42 +105,42 @@ refusal_text (TcpConnect error) = connect_error_text error
 refusal_text (TcpAllocate error) = socket_error_text error
 refusal_text (Send error) = send_error_text error
 
--- whether a permission stands
+-- The word for whether a permission is active.
 abbrev pub have_text : Bool → List ℕ
 have_text true = codes "yes"
 have_text false = codes "no"
 
--- a relayed address with its transport, behind a space
+-- A relayed address with its transport, after a space.
 abbrev pub relayed_text : TransportType × SocketAddr → List ℕ
 relayed_text relayed = codes " " ++ placed_text relayed.0 (socket_text relayed.1)
 
--- an IP address, behind a space
+-- An IP address, after a space.
 abbrev pub permitted_text : IpAddr → List ℕ
 permitted_text ip = codes " " ++ ip_text ip
 
--- a channel's number and its peer, each behind a space
+-- A channel's number and its peer, each after a space.
 abbrev pub channel_text : ℕ × SocketAddr → List ℕ
 channel_text channel = codes " " ++ decimal channel.0 ++ codes " " ++ socket_text channel.1
 
--- whether a connection is bound
+-- The word for whether a connection is bound.
 abbrev pub bound_text : Bool → List ℕ
 bound_text true = codes "bound"
 bound_text false = codes "waiting"
 
--- a connection's own address, its peer, its number and whether it is bound, each behind a space
+-- A connection's local address, its peer, its ID and whether it is bound, each after a space.
 abbrev pub connection_text : SocketAddr × SocketAddr × ℕ × Bool → List ℕ
 connection_text c = codes " " ++ socket_text c.0 ++ codes " " ++ socket_text c.1 ++ codes " " ++ decimal c.2
     ++ codes " " ++ bound_text c.3
 
--- two addresses with a space between
+-- Two addresses, separated by a space.
 abbrev pub between_text : SocketAddr → SocketAddr → List ℕ
 between_text from to = socket_text from ++ codes " " ++ socket_text to
 
--- an ICMP message's type, code and data
+-- The type, code and data of an ICMP message.
 abbrev pub icmp_text : ℕ → ℕ → ℕ → List ℕ
 icmp_text type code content = decimal type ++ codes " " ++ decimal code ++ codes " " ++ decimal content
 
--- what an answer is printed as, without the line feed
+-- The text for a result, without the line feed.
 abbrev pub answer_words : Answer → List ℕ
 answer_words (Answers.Reply reply) = codes "reply " ++ hex_text reply.items
 answer_words Answers.Nothing = codes "none"
@@ -151,7 +152,7 @@ answer_words (Answers.Peer p) =
     codes "peer " ++ placed_text p.transport (socket_text p.peer) ++ codes " " ++ hex_text p.payload
 answer_words (Answers.Icmp transport peer type code content) =
     codes "icmp " ++ placed_text transport (socket_text peer) ++ codes " " ++ icmp_text type code content
-answer_words (Answers.Wait moment) = codes "wait " ++ decimal moment
+answer_words (Answers.Wait time) = codes "wait " ++ decimal time
 answer_words (Answers.Socket id socket peer) =
     codes "socket " ++ decimal id ++ codes " " ++ between_text socket.from socket.to ++ codes " " ++ socket_text peer
 answer_words (Answers.Close local remote) = codes "close " ++ between_text local remote
@@ -159,13 +160,13 @@ answer_words Answers.Closed = codes "closed"
 answer_words (Answers.Event event) = codes "event " ++ event_text event
 answer_words Answers.Done = codes "ok"
 answer_words (Answers.Refused refusal) = codes "refused " ++ refusal_text refusal
-answer_words (Answers.Have stands) = have_text stands
+answer_words (Answers.Have occurs) = have_text occurs
 answer_words (Answers.Relayed list) = codes "relayed" ++ flat_map relayed_text list.items
 answer_words (Answers.Permissions list) = codes "permissions" ++ flat_map permitted_text list.items
 answer_words (Answers.Channels list) = codes "channels" ++ flat_map channel_text list.items
 answer_words (Answers.Connections list) = codes "connections" ++ flat_map connection_text list.items
 answer_words Answers.OutOfRange = codes "out of range"
 
--- the printed line of an answer
+-- The line for a result.
 abbrev pub answer_text : Answer → List ℕ
 answer_text answer = answer_words answer ++ codes "\n"

@@ -1,4 +1,4 @@
-//! What events in a world are answered.
+//! The results of a simulation's events.
 
 use std::net::{IpAddr, SocketAddr};
 use stun_types_base::data::Data;
@@ -13,37 +13,37 @@ use turn_client_proto_api::error::{
 };
 use turn_client_proto_api::event::TurnEvent;
 
-/// Why a client refuses a call.
+/// Why a client refused a call.
 #[derive(Clone, Copy, Debug, PartialEq, Eq)]
 pub enum Refusal {
-    /// Why allocations are not deleted.
+    /// Why `delete` was refused.
     Delete(DeleteError),
-    /// Why no permission is asked for.
+    /// Why `create_permission` was refused.
     CreatePermission(CreatePermissionError),
-    /// Why no channel is asked for.
+    /// Why `bind_channel` was refused.
     BindChannel(BindChannelError),
-    /// Why no connection is asked for.
+    /// Why `tcp_connect` was refused.
     TcpConnect(TcpConnectError),
-    /// Why a socket is not taken.
+    /// Why `allocated_tcp_socket` was refused.
     TcpAllocate(TcpAllocateError),
-    /// Why nothing is sent to a peer.
+    /// Why `send_to` was refused.
     Send(SendError),
 }
 
-/// What an event is answered.
+/// The result of an event.
 #[derive(Debug, Drop)]
 pub enum Answer {
-    /// The desk replies.
+    /// The server core replies with these bytes.
     Reply(Vec<u8>),
-    /// The desk doesn't reply, the client has nothing to send, or no event waits.
+    /// The server core does not reply, the client has nothing to transmit, or no event is queued.
     Nothing,
-    /// The client sends: what was asked for what it sends, or what carries bytes to a peer.
+    /// The client transmits this: the result of polling it, or a payload to a peer.
     Transmit(Transmit<Data<'static>>),
-    /// The client took the bytes that came.
+    /// The client handled the received bytes.
     Handled,
-    /// The bytes that came are not for the client.
+    /// The received bytes are not for the client.
     Ignored,
-    /// The bytes that came carry a payload of a peer.
+    /// The received bytes carry a payload from a peer.
     Peer(TurnPeerData<Vec<u8>>),
     /// The server received an ICMP message on the way to a peer.
     Icmp {
@@ -58,42 +58,43 @@ pub enum Answer {
         /// The data of the ICMP message.
         icmp_data: u32,
     },
-    /// The client has nothing to do before this moment.
+    /// The client has nothing to do before this time.
     Wait(Instant),
-    /// The client's user is to open a connection to the server.
+    /// The caller has to open a connection to the server.
     Socket {
-        /// The number by which the server knows the connection to the peer.
+        /// The connection ID that the server gave the connection to the peer.
         id: u32,
         /// The connection to open.
         socket: Socket5Tuple,
         /// The peer.
         peer: SocketAddr,
     },
-    /// The client's user is to close a connection to the server.
+    /// The caller has to close a connection to the server.
     Close {
-        /// The own address.
+        /// The client's address.
         local: SocketAddr,
         /// The server's address.
         remote: SocketAddr,
     },
-    /// The client has ended.
+    /// The client is closed.
     Closed,
-    /// What happened at the server.
+    /// The client reports an event.
     Event(TurnEvent),
-    /// The call was done.
+    /// The call succeeded.
     Done,
     /// The call was refused.
     Refused(Refusal),
-    /// Whether a permission stands.
+    /// Whether a permission is active.
     Have(bool),
-    /// The relayed addresses that the client shows, with their transports.
+    /// The relayed addresses that the client lists, with their transports.
     Relayed(Vec<(TransportType, SocketAddr)>),
-    /// The addresses of the permissions that stand.
+    /// The addresses of the active permissions.
     Permissions(Vec<IpAddr>),
-    /// The channels that stand, each with its number and its peer.
+    /// The active channels, each with its number and its peer.
     Channels(Vec<(u16, SocketAddr)>),
-    /// The data connections, each with its own address, its peer, its number, and whether it is bound.
+    /// The data connections, each with its local address, its peer, its connection ID, and whether
+    /// it is bound.
     Connections(Vec<(SocketAddr, SocketAddr, u32, bool)>),
-    /// There is no client, or the moment is past `CLIENT_END`. Nothing was done.
+    /// There is no client, or the time is after `CLIENT_END`. Nothing was done.
     OutOfRange,
 }

@@ -1,11 +1,11 @@
-//! What happens in a world.
+//! The events of a simulation.
 
 use std::net::{IpAddr, SocketAddr};
 use stun_types_base::instant::Instant;
 use stun_types_base::transport::TransportType;
 use turn_desk_core::decision::Decision;
 
-/// A call of a client by its user.
+/// A call of a client by its application.
 #[derive(Debug, Drop)]
 pub enum ClientCall {
     /// `poll`.
@@ -20,20 +20,21 @@ pub enum ClientCall {
     HavePermission(TransportType, IpAddr),
     /// `permissions` of the allocation with this transport and relayed address.
     Permissions(TransportType, SocketAddr),
-    /// `bind_channel` to the peer, over this transport between the server and the peers.
+    /// `bind_channel` to the peer, with this transport between the server and the peers.
     BindChannel(TransportType, SocketAddr),
     /// `channels`.
     Channels,
     /// `tcp_connect` to the peer.
     TcpConnect(SocketAddr),
-    /// `allocated_tcp_socket` for the connection of this number and to this peer, with the own address
-    /// of the socket that was opened, or none. The five-tuple is that of the client's own connection.
+    /// `allocated_tcp_socket` for the connection with this ID to this peer. The last field is the
+    /// local address of the socket that was opened, or `None` if none was. The five-tuple is that
+    /// of the client's own connection.
     AllocatedTcpSocket(u32, SocketAddr, Option<SocketAddr>),
-    /// `tcp_closed` of the socket with this own address and this other side.
+    /// `tcp_closed` for the socket with this local address and this remote address.
     TcpClosed(SocketAddr, SocketAddr),
     /// `connections`.
     Connections,
-    /// `send_to` the peer, over this transport between the server and the peers, of these bytes.
+    /// `send_to` the peer, with this transport between the server and the peers and these bytes.
     SendTo(TransportType, SocketAddr, Vec<u8>),
     /// `poll_recv`.
     PollRecv,
@@ -43,35 +44,36 @@ pub enum ClientCall {
     RelayedAddresses,
 }
 
-/// What happens to the client or to the desk of a world.
+/// An event for the client or for the server core of a simulation.
 #[derive(Debug, Drop)]
 pub enum Event {
-    /// The client's user calls it at a moment.
+    /// The application calls the client at this time.
     Call(ClientCall, Instant),
-    /// The client is asked at a moment for what it sends.
+    /// The application asks the client at this time for something to transmit.
     Draw(Instant),
-    /// Bytes reach the client by its own transport.
+    /// Bytes reach the client on its own transport.
     ToClient {
         /// The bytes.
         bytes: Vec<u8>,
-        /// The address that they come from.
+        /// The source address.
         from: SocketAddr,
-        /// The address that they go to.
+        /// The destination address.
         to: SocketAddr,
-        /// When they arrive.
+        /// The time of arrival.
         now: Instant,
     },
-    /// Bytes reach the desk.
+    /// Bytes reach the server core.
     ToDesk {
         /// The bytes.
         bytes: Vec<u8>,
-        /// The address that they come from.
+        /// The source address.
         from: SocketAddr,
-        /// When they arrive.
+        /// The time of arrival.
         now: Instant,
-        /// What the desk is told, where it asks.
+        /// The application's decision, if the server core needs one.
         decision: Decision,
-        /// The seed of the ChaCha20 generator whose words the desk draws for them.
+        /// The seed of the ChaCha20 generator that supplies the server core's random words for
+        /// these bytes.
         seed: [u8; 32],
     },
 }

@@ -1,4 +1,4 @@
-//! The events of a simulation and their answers, and the lines by which a trace prints them.
+//! The events of a simulation and their results, and the lines that a trace prints for the results.
 #![tactic(auto)]
 
 pub mod answer;

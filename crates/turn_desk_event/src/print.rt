@@ -1,4 +1,4 @@
-//! The printing of answers.
+//! Printing of results.
 
 ghost use Rattle.std.specs.Prelude.{◌≡◌, ◌++◌, IfOk, OnOk, codes, decimal, string_bytes};
 ghost use Rattle.std.specs.List.{flat_map};
@@ -19,8 +19,11 @@ use turn_client_proto_api::error::{
 };
 use turn_client_proto_api::event::TurnEvent;
 
-/// The line that an answer is printed as, with its line feed. Where memory is refused,
-/// `AllocError`.
+/// Returns the line that is printed for a result, with its line feed.
+///
+/// # Errors
+///
+/// - `AllocError`: an allocation failed.
 pub fn answer_line(alloc: Global, answer: &Answer) -> Result<String, AllocError>
     ensures { IfOk result (λ text. string_bytes text ≡ answer_text answer.now) }
 {
@@ -29,7 +32,7 @@ pub fn answer_line(alloc: Global, answer: &Answer) -> Result<String, AllocError>
     Ok(text)
 }
 
-/// What an answer is printed as, without the line feed.
+/// Returns the line that is printed for a result, without the line feed.
 fn print_words(alloc: Global, answer: &Answer) -> Result<String, AllocError>
     ensures { IfOk result (λ text. string_bytes text ≡ answer_words answer.now) }
 {
@@ -47,14 +50,14 @@ fn print_words(alloc: Global, answer: &Answer) -> Result<String, AllocError>
             icmp_code,
             icmp_data,
         } => print_icmp(alloc, *transport, *peer, *icmp_type, *icmp_code, *icmp_data),
-        Answer::Wait(moment) => format!(in alloc; "wait {}", moment.as_nanos()),
+        Answer::Wait(time) => format!(in alloc; "wait {}", time.as_nanos()),
         Answer::Socket { id, socket, peer } => print_socket(alloc, *id, *socket, *peer),
         Answer::Close { local, remote } => print_close(alloc, *local, *remote),
         Answer::Closed => String::from_str(alloc, "closed"),
         Answer::Event(event) => print_event(alloc, *event),
         Answer::Done => String::from_str(alloc, "ok"),
         Answer::Refused(refusal) => print_refusal(alloc, *refusal),
-        Answer::Have(stands) => String::from_str(alloc, name_of_have(*stands)),
+        Answer::Have(occurs) => String::from_str(alloc, name_of_have(*occurs)),
         Answer::Relayed(list) => print_relayed(alloc, list.as_slice()),
         Answer::Permissions(list) => print_permissions(alloc, list.as_slice()),
         Answer::Channels(list) => print_channels(alloc, list.as_slice()),
@@ -137,7 +140,7 @@ fn print_close(alloc: Global, local: SocketAddr, remote: SocketAddr) -> Result<S
     format!(in alloc; "close {local} {remote}")
 }
 
-/// `event NAME` and the values of the event.
+/// `event NAME`, followed by the values of the event.
 fn print_event(alloc: Global, event: TurnEvent) -> Result<String, AllocError>
     ensures { IfOk result (λ text. string_bytes text ≡ codes "event " ++ event_text event) }
 {
@@ -180,7 +183,7 @@ fn print_event(alloc: Global, event: TurnEvent) -> Result<String, AllocError>
     }
 }
 
-/// `relayed`, and the transport and the address of each.
+/// `relayed`, followed by the transport and the address of each relayed address.
 fn print_relayed(alloc: Global, list: &[(TransportType, SocketAddr)]) -> Result<String, AllocError>
     ensures { IfOk result (λ text. string_bytes text
         ≡ codes "relayed" ++ flat_map relayed_text list.now) }
@@ -192,7 +195,7 @@ fn print_relayed(alloc: Global, list: &[(TransportType, SocketAddr)]) -> Result<
     Ok(text)
 }
 
-/// Appends the transport and the address of a relayed address, each behind a space.
+/// Appends the transport and the address of a relayed address, each after a space.
 fn push_relayed(
     alloc: Global,
     text: &mut String,
@@ -205,7 +208,7 @@ fn push_relayed(
     text.push_str(words.as_str())
 }
 
-/// `permissions`, and the address of each.
+/// `permissions`, followed by the address of each permission.
 fn print_permissions(alloc: Global, list: &[IpAddr]) -> Result<String, AllocError>
     ensures { IfOk result (λ text. string_bytes text
         ≡ codes "permissions" ++ flat_map permitted_text list.now) }
@@ -217,7 +220,7 @@ fn print_permissions(alloc: Global, list: &[IpAddr]) -> Result<String, AllocErro
     Ok(text)
 }
 
-/// Appends the address of a permission behind a space.
+/// Appends the address of a permission after a space.
 fn push_permitted(alloc: Global, text: &mut String, ip: IpAddr) -> Result<(), AllocError>
     ensures { OnOk result (string_bytes text.new ≡ string_bytes text.old ++ permitted_text ip) }
 {
@@ -225,7 +228,7 @@ fn push_permitted(alloc: Global, text: &mut String, ip: IpAddr) -> Result<(), Al
     text.push_str(word.as_str())
 }
 
-/// `channels`, and the number and the peer of each.
+/// `channels`, followed by the number and the peer of each channel.
 fn print_channels(alloc: Global, list: &[(u16, SocketAddr)]) -> Result<String, AllocError>
     ensures { IfOk result (λ text. string_bytes text
         ≡ codes "channels" ++ flat_map channel_text list.now) }
@@ -237,7 +240,7 @@ fn print_channels(alloc: Global, list: &[(u16, SocketAddr)]) -> Result<String, A
     Ok(text)
 }
 
-/// Appends the number and the peer of a channel, each behind a space.
+/// Appends the number and the peer of a channel, each after a space.
 fn push_channel(
     alloc: Global,
     text: &mut String,
@@ -250,7 +253,8 @@ fn push_channel(
     text.push_str(words.as_str())
 }
 
-/// `connections`, and of each the own address, the peer, the number and whether it is bound.
+/// `connections`, followed by the local address, the peer, the connection ID and the bound state of
+/// each connection.
 fn print_connections(
     alloc: Global,
     list: &[(SocketAddr, SocketAddr, u32, bool)],
@@ -265,7 +269,7 @@ fn print_connections(
     Ok(text)
 }
 
-/// Appends what is shown of a connection, each word behind a space.
+/// Appends the words for a connection, each after a space.
 fn push_connection(
     alloc: Global,
     text: &mut String,
@@ -279,14 +283,14 @@ fn push_connection(
     text.push_str(words.as_str())
 }
 
-/// The word for whether a connection is bound.
+/// Returns the word for whether a connection is bound.
 fn name_of_bound(is_bound: bool) -> &'static str
     ensures { result.now ≡ bound_text is_bound }
 {
     if is_bound { "bound" } else { "waiting" }
 }
 
-/// `refused NAME`, and behind the name of an expired channel its moment.
+/// `refused NAME`; the name for an expired channel is followed by its time.
 fn print_refusal(alloc: Global, refusal: Refusal) -> Result<String, AllocError>
     ensures { IfOk result (λ text. string_bytes text ≡ codes "refused " ++ refusal_text refusal) }
 {
@@ -302,7 +306,7 @@ fn print_refusal(alloc: Global, refusal: Refusal) -> Result<String, AllocError>
     }
 }
 
-/// The name of the reason for which no connection is asked for.
+/// Returns the name of a `TcpConnectError`.
 fn name_of_connect_error(error: TcpConnectError) -> &'static str
     ensures { result.now ≡ connect_error_text error }
 {
@@ -314,7 +318,7 @@ fn name_of_connect_error(error: TcpConnectError) -> &'static str
     }
 }
 
-/// The name of the reason for which a socket is not taken.
+/// Returns the name of a `TcpAllocateError`.
 fn name_of_socket_error(error: TcpAllocateError) -> &'static str
     ensures { result.now ≡ socket_error_text error }
 {
@@ -325,7 +329,7 @@ fn name_of_socket_error(error: TcpAllocateError) -> &'static str
     }
 }
 
-/// The name of a `SendError`.
+/// Returns the name of a `SendError`.
 fn name_of_send_error(error: SendError) -> &'static str
     ensures { result.now ≡ send_error_text error }
 {
@@ -338,8 +342,8 @@ fn name_of_send_error(error: SendError) -> &'static str
     }
 }
 
-/// `refused NAME` where no channel is asked for, and behind the name of an expired channel the moment
-/// through which none is bound to that peer.
+/// `refused NAME` for a `BindChannelError`. The name for an expired channel is followed by the time
+/// until which no channel can be bound to that peer, that time included.
 fn print_bind_refusal(alloc: Global, error: BindChannelError) -> Result<String, AllocError>
     ensures { IfOk result (λ text. string_bytes text ≡ codes "refused " ++ bind_error_text error) }
 {
@@ -354,14 +358,14 @@ fn print_bind_refusal(alloc: Global, error: BindChannelError) -> Result<String, 
     }
 }
 
-/// The word for whether a permission stands.
-fn name_of_have(stands: bool) -> &'static str
-    ensures { result.now ≡ have_text stands }
+/// Returns the word for whether a permission is active.
+fn name_of_have(occurs: bool) -> &'static str
+    ensures { result.now ≡ have_text occurs }
 {
-    if stands { "yes" } else { "no" }
+    if occurs { "yes" } else { "no" }
 }
 
-/// The word for a transport.
+/// Returns the word for a transport.
 fn name_of_transport(transport: TransportType) -> &'static str
     ensures { result.now ≡ transport_word transport }
 {
@@ -371,7 +375,7 @@ fn name_of_transport(transport: TransportType) -> &'static str
     }
 }
 
-/// The word for a family of addresses.
+/// Returns the word for an address family.
 fn name_of_family(family: AddressFamily) -> &'static str
     ensures { result.now ≡ family_word family }
 {
@@ -381,7 +385,7 @@ fn name_of_family(family: AddressFamily) -> &'static str
     }
 }
 
-/// The name of the reason for which allocations are not deleted.
+/// Returns the name of a `DeleteError`.
 fn name_of_delete_error(error: DeleteError) -> &'static str
     ensures { result.now ≡ delete_error_text error }
 {
@@ -391,7 +395,7 @@ fn name_of_delete_error(error: DeleteError) -> &'static str
     }
 }
 
-/// The name of the reason for which no permission is asked for.
+/// Returns the name of a `CreatePermissionError`.
 fn name_of_permission_error(error: CreatePermissionError) -> &'static str
     ensures { result.now ≡ permission_error_text error }
 {

@@ -1,4 +1,4 @@
--- What arrives at the client of an honest run in the steps that an event is.
+-- What arrives at the client of an honest run in the steps of an event.
 use Rattle.std.proofs.Common.{◌≡◌, ◌≢◌, ℕ, ◌≤◌, ◌^◌, List, [], ◌∷◌, ◌++◌, length, drop, Option, Some, None, refl, sym, ap, ◌∙◌, subst, append-nil}
 use Rattle.std.specs.Prelude.{Vec, is_none}
 use Rattle.std.specs.declared.alloc.Global.{Global}
@@ -11,7 +11,7 @@ use Rattle.turn_client_proto_handshake_laws.specs.Coming.{IsPartOf, IsUnserved}
 use Rattle.turn_client_proto_handshake_laws.specs.Sent.{Beginning}
 use Rattle.turn_client_proto_handshake_laws.proofs.Frames.{message_has_one, part_has_none}
 use Rattle.turn_client_proto_step_laws.specs.Recv.Control.{Open}
-use Rattle.turn_client_proto_step_laws.specs.Recv.Kept.{Kept, Protocol}
+use Rattle.turn_client_proto_step_laws.specs.Recv.ClientState.{ClientState, Protocol}
 use Rattle.turn_client_proto_step_laws.specs.RunClient.{Client}
 use Rattle.turn_client_proto_messages.specs.TurnRuns.Steps.{Call}
 use Rattle.turn_client_proto_step_laws.specs.Recv.Waiting.{completed, whole_frames}
@@ -21,17 +21,17 @@ use Rattle.turn_desk_event.specs.declared.event.ClientCall.{ClientCall}
 use Rattle.turn_desk_event.specs.declared.event.ClientCall.TheVariants as call
 use Rattle.turn_desk_event.specs.declared.event.Event.{Event}
 use Rattle.turn_desk_event.specs.declared.event.Event.TheVariants.{Call as Called, ToClient}
-use Rattle.turn_desk_world_laws.specs.Told.{AreBrought, AreCallsBy, AreCallsOfAsking, AreCallsOfBytes, AreCallsOfPiece, AreCallsOverTcp, AreTakenUp, ByEnd, ByNone, ByOthers, ByPiece, IsOneCall, IsStreams, OfStream, OverNone, OverSocket, arriving}
+use Rattle.turn_desk_world_laws.specs.Reported.{AreBrought, AreCallsBy, AreCallsOfAsking, AreCallsOfBytes, AreCallsOfChunk, AreCallsOverTcp, AreTakenUp, ByEnd, ByNone, ByOthers, ByChunk, IsOneCall, IsStreams, OfStream, OverNone, OverSocket, arriving}
 use Rattle.turn_desk_progress_laws.specs.Promises.{control_at, over}
 use Rattle.turn_desk_progress_laws.specs.Scripts.{BringsOn, IsLook}
 use Rattle.turn_desk_progress_laws.proofs.Clients.{within}
 
--- nothing arrives in any of these calls
+-- Nothing arrives in any of these calls.
 abbrev pub NoneArrive : List (Call Client) → Type 0
 NoneArrive [] = Unit {0}
 NoneArrive (call ∷ earlier) = (call.came ≡ []) × NoneArrive earlier
 
--- a message arrives in the oldest of them, and nothing else in any
+-- A message arrives in the oldest of the calls, and nothing else in any.
 pub record ArrivesFirst (message : List ℕ) (calls : List (Call Client)) : Type 0 where
   pub later : List (Call Client)
   pub call : Call Client
@@ -44,7 +44,7 @@ pub record ArrivesFirst (message : List ℕ) (calls : List (Call Client)) : Type
 pub one_call : (happening : Event) (ret : Answer) (first last : Client) (calls : List (Call Client)) → arriving happening ≡ [] → IsOneCall happening ret first calls last → NoneArrive calls
 one_call happening ret first last calls none is = subst (λ (l : List (Call Client)). NoneArrive l) (sym is.1) (is.4.came_is ∙ none, tt)
 
-pub looks_bring_none : (what : ClientCall) (now : ℕ) (k : Kept) (ret : Answer) (first last : Client) (calls : List (Call Client)) → IsLook what → AreCallsBy (Called what now) k ret first calls last → NoneArrive calls
+pub looks_bring_none : (what : ClientCall) (now : ℕ) (k : ClientState) (ret : Answer) (first last : Client) (calls : List (Call Client)) → IsLook what → AreCallsBy (Called what now) k ret first calls last → NoneArrive calls
 looks_bring_none call.PollEvent now k ret first last calls look is = one_call (Called call.PollEvent now) ret first last calls refl is
 looks_bring_none (call.HavePermission transport ip) now k ret first last calls look is = one_call (Called (call.HavePermission transport ip) now) ret first last calls refl is
 looks_bring_none (call.Permissions transport relayed) now k ret first last calls look is = one_call (Called (call.Permissions transport relayed) now) ret first last calls refl is
@@ -57,46 +57,46 @@ taken_up_bring_none : (now : ℕ) (ret : Answer) (first last : Client) (calls : 
 taken_up_bring_none now ret first last [] is = tt
 taken_up_bring_none now ret first last (call ∷ earlier) is = (is.1.came_is, taken_up_bring_none now answer.Nothing first call.before earlier is.2)
 
-pub waiting_brings_none : (asked : Option Joined) (now : ℕ) (k : Kept) (ret : Answer) (first last : Client) (calls : List (Call Client)) → AreCallsOfAsking asked now k ret first calls last → NoneArrive calls
+pub waiting_brings_none : (requested : Option Joined) (now : ℕ) (k : ClientState) (ret : Answer) (first last : Client) (calls : List (Call Client)) → AreCallsOfAsking requested now k ret first calls last → NoneArrive calls
 waiting_brings_none None now k ret first last calls is = taken_up_bring_none now ret first last calls is
 waiting_brings_none (Some c) now k ret first last calls is = subst (λ (l : List (Call Client)). NoneArrive l) (sym is.1) (is.4.came_is, tt)
 
 -- ---- where bytes of a reply come
 
--- all of it has come, and arrives; or nothing does
+-- If all of the reply has come, it arrives; otherwise nothing does.
 abbrev pub Arrives : (reply rest : List ℕ) → List (Call Client) → Type 0
 Arrives reply [] calls = ArrivesFirst reply calls
 Arrives reply (byte ∷ rest) calls = NoneArrive calls
 
-module _ (b : Beginning) (p : Protocol) (u : IsUnserved b p) (reply front : List ℕ) (message : refusal reply ≡ None) (part : IsPartOf front reply) (bytes : Vec ℕ Global) (now : ℕ) (early : now ≤ 2 ^ 62) (ret : Answer) (first last : Client)
+module _ (b : Beginning) (p : Protocol) (u : IsUnserved b p) (reply head : List ℕ) (message : refusal reply ≡ None) (part : IsPartOf head reply) (bytes : Vec ℕ Global) (now : ℕ) (early : now ≤ 2 ^ 62) (ret : Answer) (first last : Client)
     (calls : List (Call Client)) where
-  abbrev kept : Kept
-  kept = over (Open (alive front)) p
+  abbrev stored : ClientState
+  stored = over (Open (alive head)) p
 
-  streams : IsStreams kept b.server b.here now
+  streams : IsStreams stored b.server b.here now
   streams = record {
-    stream = alive front;
+    stream = alive head;
     opens = refl;
-    piece = record { from_is = sym u.settings.server; to_is = sym u.settings.here; works = ap is_none u.settings.remote; in_range = within now early };
+    chunk = record { from_is = sym u.settings.server; to_is = sym u.settings.here; works = ap is_none u.settings.remote; in_range = within now early };
   }
 
-  same_stream : (stream : Stream) → Open (alive front) ≡ Open stream → alive front ≡ stream
+  same_stream : (stream : Stream) → Open (alive head) ≡ Open stream → alive head ≡ stream
   same_stream stream is = Prim.cc is
 
-  -- the frames that come are those that the piece completes
+  -- The frames that arrive are those that the chunk completes.
   module _ (some : bytes.items ≢ []) where
-    came_so : (came waiting : List (List ℕ)) → AreBrought kept bytes.items b.server b.here now came waiting → came ≡ completed (alive front) bytes.items
-    came_so came waiting (ByPiece stream opens piece more came_is waits) = came_is ∙ ap (λ (s : Stream). completed s bytes.items) (sym (same_stream stream opens))
-    came_so came waiting (ByEnd stream opens piece none came_is waits) = absurd (some none)
-    came_so came waiting (ByOthers stream opens none came_is waits) = absurd (none streams.piece)
+    came_so : (came waiting : List (List ℕ)) → AreBrought stored bytes.items b.server b.here now came waiting → came ≡ completed (alive head) bytes.items
+    came_so came waiting (ByChunk stream opens chunk more came_is waits) = came_is ∙ ap (λ (s : Stream). completed s bytes.items) (sym (same_stream stream opens))
+    came_so came waiting (ByEnd stream opens chunk none came_is waits) = absurd (some none)
+    came_so came waiting (ByOthers stream opens none came_is waits) = absurd (none streams.chunk)
     came_so came waiting (ByNone closed came_is waits) = absurd (Prim.cc closed)
 
-    completes : (frames : List (List ℕ)) → whole_frames (alive (front ++ bytes.items)) ≡ frames → completed (alive front) bytes.items ≡ frames
-    completes frames is = ap (λ (l : List (List ℕ)). drop (length l) (whole_frames (alive (front ++ bytes.items)))) (part_has_none front reply part) ∙ is
+    completes : (frames : List (List ℕ)) → whole_frames (alive (head ++ bytes.items)) ≡ frames → completed (alive head) bytes.items ≡ frames
+    completes frames is = ap (λ (l : List (List ℕ)). drop (length l) (whole_frames (alive (head ++ bytes.items)))) (part_has_none head reply part) ∙ is
 
-    of_piece : (rest : List ℕ) → reply ≡ (front ++ bytes.items) ++ rest → AreCallsOfPiece kept bytes.items b.server b.here now ret first calls last → Arrives reply rest calls
-    of_piece [] all is =
-        let whole : reply ≡ front ++ bytes.items = all ∙ append-nil (front ++ bytes.items) in
+    of_chunk : (rest : List ℕ) → reply ≡ (head ++ bytes.items) ++ rest → AreCallsOfChunk stored bytes.items b.server b.here now ret first calls last → Arrives reply rest calls
+    of_chunk [] all is =
+        let whole : reply ≡ head ++ bytes.items = all ∙ append-nil (head ++ bytes.items) in
         record {
           later = is.taking;
           call = is.coming;
@@ -105,17 +105,17 @@ module _ (b : Beginning) (p : Protocol) (u : IsUnserved b p) (reply front : List
           came_is = is.comes.came_is ∙ came_so is.came is.waiting is.brought
               ∙ completes (reply ∷ []) (ap (λ (l : List ℕ). whole_frames (alive l)) (sym whole) ∙ message_has_one reply message);
         }
-    of_piece (byte ∷ rest) all is =
-        let more : IsPartOf (front ++ bytes.items) reply = record { is_message = message; rest = byte ∷ rest; parts = all; more = λ none. Prim.cc none } in
-        let none : is.coming.came ≡ [] = is.comes.came_is ∙ came_so is.came is.waiting is.brought ∙ completes [] (part_has_none (front ++ bytes.items) reply more) in
-        subst (λ (l : List (Call Client)). NoneArrive l) (sym is.calls_are) (behind is.taking is.coming (taken_up_bring_none now ret is.coming.after last is.taking is.taken) none)
+    of_chunk (byte ∷ rest) all is =
+        let more : IsPartOf (head ++ bytes.items) reply = record { is_message = message; rest = byte ∷ rest; parts = all; more = λ none. Prim.cc none } in
+        let none : is.coming.came ≡ [] = is.comes.came_is ∙ came_so is.came is.waiting is.brought ∙ completes [] (part_has_none (head ++ bytes.items) reply more) in
+        subst (λ (l : List (Call Client)). NoneArrive l) (sym is.calls_are) (following is.taking is.coming (taken_up_bring_none now ret is.coming.after last is.taking is.taken) none)
       where
-        behind : (later : List (Call Client)) (call : Call Client) → NoneArrive later → call.came ≡ [] → NoneArrive (later ++ call ∷ [])
-        behind [] call none last_none = (last_none, tt)
-        behind (one ∷ later) call none last_none = (none.0, behind later call none.1 last_none)
+        following : (later : List (Call Client)) (call : Call Client) → NoneArrive later → call.came ≡ [] → NoneArrive (later ++ call ∷ [])
+        following [] call none last_none = (last_none, tt)
+        following (one ∷ later) call none last_none = (none.0, following later call none.1 last_none)
 
-    over_tcp : (rest : List ℕ) → reply ≡ (front ++ bytes.items) ++ rest → AreCallsOverTcp kept bytes.items b.server b.here now ret first calls last → Arrives reply rest calls
-    over_tcp rest all (OfStream is_stream is) = of_piece rest all is
+    over_tcp : (rest : List ℕ) → reply ≡ (head ++ bytes.items) ++ rest → AreCallsOverTcp stored bytes.items b.server b.here now ret first calls last → Arrives reply rest calls
+    over_tcp rest all (OfStream is_stream is) = of_chunk rest all is
     over_tcp rest all (OverSocket no_stream range c at is) = absurd (no_stream streams)
     over_tcp rest all (OverNone no_stream none is) = absurd (no_stream streams)
 
@@ -123,6 +123,6 @@ module _ (b : Beginning) (p : Protocol) (u : IsUnserved b p) (reply front : List
   over_udp [] same none is = record { later = []; call = is.0; calls_are = is.1; none = tt; came_is = is.4.came_is ∙ ap (λ (l : List ℕ). l ∷ []) same }
   over_udp (byte ∷ rest) same none is = absurd (Prim.cc none)
 
-  pub arrives : (transport : TransportType) (rest : List ℕ) → BringsOn transport reply front bytes.items rest → AreCallsOfBytes (control_at transport front) (over (control_at transport front) p) bytes b.server b.here now ret first calls last → Arrives reply rest calls
+  pub arrives : (transport : TransportType) (rest : List ℕ) → BringsOn transport reply head bytes.items rest → AreCallsOfBytes (control_at transport head) (over (control_at transport head) p) bytes b.server b.here now ret first calls last → Arrives reply rest calls
   arrives Udp rest on is = over_udp rest on.0 on.1 is
   arrives Tcp rest on is = over_tcp on.0 rest on.1 is

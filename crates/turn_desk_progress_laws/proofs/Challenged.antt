@@ -1,4 +1,5 @@
--- What a desk's challenge of a signed request is: it tells the desk's realm, and takes what the desk takes.
+-- A server core's challenge of a signed request has the server core's realm, and accepts what the server core
+-- accepts.
 use Rattle.std.proofs.Common.{◌≡◌, ◌≢◌, ℕ, Bool, true, false, List, [], ◌∷◌, ◌++◌, Option, Some, None, refl, sym, ap, ◌∙◌, inl, inr}
 use Rattle.std.specs.Prelude.{if◌then◌else◌, ◌&&◌}
 use Rattle.std.specs.FinMap as map
@@ -6,7 +7,7 @@ use Rattle.std.specs.Option.{option_map}
 use Rattle.std.specs.declared.net.socket_addr.SocketAddr.{SocketAddr}
 use Rattle.rand_core.specs.Stream.{Stream}
 use Rattle.turn_desk_core.specs.StunTypesWire.Attributes.{Attr, kind_at}
-use Rattle.turn_desk_core.specs.StunTypesWire.Grammar.{number_at, refusal, shown}
+use Rattle.turn_desk_core.specs.StunTypesWire.Grammar.{number_at, refusal, visible}
 use Rattle.turn_desk_core.specs.StunTypesWire.declared.algorithm.IntegrityAlgorithm.{IntegrityAlgorithm}
 use Rattle.turn_desk_core.specs.StunTypesWire.declared.algorithm.IntegrityAlgorithm.TheVariants.{Sha1, Sha256, Sha512}
 use Rattle.turn_desk_core.specs.StunTypesWire.declared.class.MessageClass.{MessageClass}
@@ -15,15 +16,15 @@ use Rattle.turn_desk_core.specs.StunTypesMessage.Objections.{error_attribute}
 use Rattle.turn_client_proto_messages.specs.StunTypesIntegrity.Signing.{signature}
 use Rattle.turn_desk_core.specs.StunTypesWire.Text.{message_text}
 use Rattle.turn_desk_core.specs.StunTypesWire.Types.{class_of, method_of, type_of}
-use Rattle.turn_client_proto_messages.specs.StunProtoClient.Challenges.{Told, asks_again, challenge_shown, is_anonymous_enough, is_challenge_code, is_error, told_of}
+use Rattle.turn_client_proto_messages.specs.StunProtoClient.Challenges.{ChallengeFields, asks_again, challenge_visible, is_anonymous_enough, is_challenge_code, is_error, reported_of}
 use Rattle.turn_client_proto_messages.specs.StunProtoClient.Choice.{supports, takes}
-use Rattle.turn_client_proto_api.specs.StunProtoAuth.Claims.{claim_of, claimed, code_shown, last_of_kind, text_told}
+use Rattle.turn_client_proto_api.specs.StunProtoAuth.Claims.{claim_of, claimed, code_visible, last_of_kind, text_decoded}
 use Rattle.turn_client_proto_messages.specs.StunProtoClient.Client as auth
 use Rattle.turn_client_proto_messages.specs.StunProtoClient.ClientValidation.{IsAnswerable}
 use Rattle.turn_client_proto_api.specs.StunProtoAuth.declared.feature.Feature.TheVariants.{Auto, Disabled, Required}
 use Rattle.turn_client_proto_api.specs.StunProtoAuth.declared.feature.Feature.{Feature}
 use Rattle.turn_desk_core.specs.StunProtoVerify.Judgement.{user_key}
-use Rattle.turn_client_proto_api.specs.StunProtoAuth.Nonce.{features_offered, features_told}
+use Rattle.turn_client_proto_api.specs.StunProtoAuth.Nonce.{features_offered, features_in}
 use Rattle.turn_desk_core.specs.StunProtoServer.Server.{Client, Server}
 use Rattle.turn_desk_core.specs.StunProtoVerify.declared.error.LongTermServerAuthError.TheVariants.{BadRequest}
 use Rattle.turn_desk_core.specs.StunProtoVerify.declared.error.LongTermServerAuthError.{LongTermServerAuthError}
@@ -36,50 +37,50 @@ use Rattle.turn_desk_core.specs.declared.verdict.Verdict.{Verdict}
 use Rattle.turn_desk_core.specs.declared.verdict.Verdict.TheVariants.{Fails, Allocates, Refreshes, Permits, Binds, Connects, Joins}
 use Rattle.turn_desk_step_laws.specs.Challenged.{challenge_of}
 use Rattle.turn_desk_progress_laws.specs.Standing.{IsOfSettings}
-use Rattle.turn_desk_step_laws.proofs.Told.{challenge_read, takes_own}
-use Rattle.turn_desk_progress_laws.specs.Joining.{TellsOwn}
+use Rattle.turn_desk_step_laws.proofs.Reported.{challenge_read, takes_own}
+use Rattle.turn_desk_progress_laws.specs.Joining.{ReportsOwn}
 use Rattle.turn_desk_progress_laws.proofs.Successes.{IsMethod}
 
 -- ---- what is no challenge
 
-untold : (bytes : List ℕ) → told_of (claimed bytes) ≡ None → challenge_shown bytes ≡ None
+untold : (bytes : List ℕ) → reported_of (claimed bytes) ≡ None → challenge_visible bytes ≡ None
 untold bytes none = by (asks_again bytes)
   where
-    by : (b : Bool) → (if b then told_of (claimed bytes) else None) ≡ None
+    by : (b : Bool) → (if b then reported_of (claimed bytes) else None) ≡ None
     by true = none
     by false = refl
 
--- an error response with its code alone
-bare_failure : (bytes : List ℕ) (code : ℕ) → shown bytes ≡ error_attribute code ∷ [] → challenge_shown bytes ≡ None
-unfolding last_of_kind text_told
-bare_failure bytes code shows = untold bytes (ap (λ (l : List Attr). told_of (claim_of l)) shows)
+-- An error response with only its code.
+bare_failure : (bytes : List ℕ) (code : ℕ) → visible bytes ≡ error_attribute code ∷ [] → challenge_visible bytes ≡ None
+unfolding last_of_kind text_decoded
+bare_failure bytes code shows = untold bytes (ap (λ (l : List Attr). reported_of (claim_of l)) shows)
 
--- or with its code and a signature
-signed_failure : (bytes : List ℕ) (code : ℕ) (algorithm : IntegrityAlgorithm) (key text : List ℕ) → shown bytes ≡ error_attribute code ∷ signature algorithm key text ∷ [] → challenge_shown bytes ≡ None
-unfolding last_of_kind text_told signature
-signed_failure bytes code Sha1 key text shows = untold bytes (ap (λ (l : List Attr). told_of (claim_of l)) shows)
-signed_failure bytes code Sha256 key text shows = untold bytes (ap (λ (l : List Attr). told_of (claim_of l)) shows)
-signed_failure bytes code Sha512 key text shows = untold bytes (ap (λ (l : List Attr). told_of (claim_of l)) shows)
+-- An error response with its code and a signature.
+signed_failure : (bytes : List ℕ) (code : ℕ) (algorithm : IntegrityAlgorithm) (key text : List ℕ) → visible bytes ≡ error_attribute code ∷ signature algorithm key text ∷ [] → challenge_visible bytes ≡ None
+unfolding last_of_kind text_decoded signature
+signed_failure bytes code Sha1 key text shows = untold bytes (ap (λ (l : List Attr). reported_of (claim_of l)) shows)
+signed_failure bytes code Sha256 key text shows = untold bytes (ap (λ (l : List Attr). reported_of (claim_of l)) shows)
+signed_failure bytes code Sha512 key text shows = untold bytes (ap (λ (l : List Attr). reported_of (claim_of l)) shows)
 
-no_success : (bytes : List ℕ) → class_of (kind_at bytes) ≡ Success → challenge_shown bytes ≡ None
-no_success bytes is = ap (λ (c : MessageClass). if is_error c && is_challenge_code (code_shown bytes) then told_of (claimed bytes) else None) is
+no_success : (bytes : List ℕ) → class_of (kind_at bytes) ≡ Success → challenge_visible bytes ≡ None
+no_success bytes is = ap (λ (c : MessageClass). if is_error c && is_challenge_code (code_visible bytes) then reported_of (claimed bytes) else None) is
 
 -- ---- what is one
 
 module _ (old new : State) (from : SocketAddr) (bytes reply : List ℕ) (now : ℕ) (stream : Stream) (decision : Decision) (m : ℕ) (is_method : IsMethod m) (error_method : method_of (type_of Error m) ≡ m) (method_is : method_of (kind_at bytes) ≡ m)
-    (served : IsServed bytes) (is : IsAnswer old from bytes now stream decision reply new) (told : Told) (shows : challenge_shown reply ≡ Some told) where
-  told_none : {A : Type 0} → challenge_shown reply ≡ None → A
-  told_none none = absurd (Prim.cc (sym shows ∙ none))
+    (served : IsServed bytes) (is : IsAnswer old from bytes now stream decision reply new) (reported : ChallengeFields) (shows : challenge_visible reply ≡ Some reported) where
+  reported_none : {A : Type 0} → challenge_visible reply ≡ None → A
+  reported_none none = absurd (Prim.cc (sym shows ∙ none))
 
   no_verdict : {A : Type 0} → IsVerdict old from bytes now stream (verdict_on bytes decision) reply new → A
   no_verdict {A} v = by (verdict_on bytes decision) v.read.kind v.read.shows
     where
       succeeds : kind_at reply ≡ type_of Success (method_of (kind_at bytes)) → A
-      succeeds kind = told_none (no_success reply (ap class_of kind ∙ (ap (λ (x : ℕ). class_of (type_of Success x)) method_is ∙ is_method.success)))
+      succeeds kind = reported_none (no_success reply (ap class_of kind ∙ (ap (λ (x : ℕ). class_of (type_of Success x)) method_is ∙ is_method.success)))
 
       by : (what : Verdict) → kind_at reply ≡ reply_type bytes what
-          → shown reply ≡ reply_attributes bytes from what ++ signature v.algorithm (user_key old.auth.realm v.name v.password v.algorithm) (message_text (reply_type bytes what) (number_at bytes) (reply_attributes bytes from what)) ∷ [] → A
-      by (Fails code) kind attributes = told_none (signed_failure reply code v.algorithm (user_key old.auth.realm v.name v.password v.algorithm) _ attributes)
+          → visible reply ≡ reply_attributes bytes from what ++ signature v.algorithm (user_key old.auth.realm v.name v.password v.algorithm) (message_text (reply_type bytes what) (number_at bytes) (reply_attributes bytes from what)) ∷ [] → A
+      by (Fails code) kind attributes = reported_none (signed_failure reply code v.algorithm (user_key old.auth.realm v.name v.password v.algorithm) _ attributes)
       by (Allocates transport relayed lifetime) kind attributes = succeeds kind
       by (Refreshes lifetime) kind attributes = succeeds kind
       by (Permits peers) kind attributes = succeeds kind
@@ -98,10 +99,10 @@ module _ (old new : State) (from : SocketAddr) (bytes reply : List ℕ) (now : �
   ch = by_challenge
 
   not_bad : ch.error ≢ BadRequest
-  not_bad bad = told_none (bare_failure reply 400 (ch.read.shows ∙ ap (λ (e : LongTermServerAuthError). refusal_attributes e (unvalidated_party old.auth ch.nonce)) bad))
+  not_bad bad = reported_none (bare_failure reply 400 (ch.read.shows ∙ ap (λ (e : LongTermServerAuthError). refusal_attributes e (unvalidated_party old.auth ch.nonce)) bad))
 
-  told_is : told ≡ challenge_of (unvalidated_party old.auth ch.nonce)
-  told_is = Prim.cc (sym shows ∙ challenge_read old new from bytes reply now stream served ch not_bad)
+  reported_is : reported ≡ challenge_of (unvalidated_party old.auth ch.nonce)
+  reported_is = Prim.cc (sym shows ∙ challenge_read old new from bytes reply now stream served ch not_bad)
 
   pub message_is : refusal reply ≡ None
   message_is = ch.read.message
@@ -112,32 +113,32 @@ module _ (old new : State) (from : SocketAddr) (bytes reply : List ℕ) (now : �
   pub method_same : method_of (kind_at reply) ≡ m
   method_same = ap method_of ch.read.kind ∙ (ap (λ (x : ℕ). method_of (type_of Error x)) method_is ∙ error_method)
 
-  pub realm_is : told.realm ≡ old.auth.realm
-  realm_is = ap (λ (t : Told). t.realm) told_is
+  pub realm_is : reported.realm ≡ old.auth.realm
+  realm_is = ap (λ (t : ChallengeFields). t.realm) reported_is
 
-  -- it takes what the desk takes, where its nonce tells of that
-  module _ (algorithms : List IntegrityAlgorithm) (anonymous : Feature) (own : old.auth.algorithms ≡ algorithms) (tells : TellsOwn algorithms anonymous from new.auth) where
-    features_by : (found : Option Client) → map.get new.auth.clients from ≡ found → option_map (λ (k : Client). k.nonce) found ≡ Some ch.nonce → features_told ch.nonce ≡ features_offered algorithms anonymous
+  -- The challenge accepts what the server core accepts, if its nonce announces that.
+  module _ (algorithms : List IntegrityAlgorithm) (anonymous : Feature) (own : old.auth.algorithms ≡ algorithms) (decodes : ReportsOwn algorithms anonymous from new.auth) where
+    features_by : (found : Option Client) → map.get new.auth.clients from ≡ found → option_map (λ (k : Client). k.nonce) found ≡ Some ch.nonce → features_in ch.nonce ≡ features_offered algorithms anonymous
     features_by None found is_nonce = absurd (Prim.cc is_nonce)
-    features_by (Some kept) found is_nonce =
-        let same : kept.nonce ≡ ch.nonce = Prim.cc is_nonce in
-        ap features_told (sym same) ∙ tells kept found
+    features_by (Some stored) found is_nonce =
+        let same : stored.nonce ≡ ch.nonce = Prim.cc is_nonce in
+        ap features_in (sym same) ∙ decodes stored found
 
-    features : features_told ch.nonce ≡ features_offered algorithms anonymous
-    features = features_by (map.get new.auth.clients from) refl ch.kept
+    features : features_in ch.nonce ≡ features_offered algorithms anonymous
+    features = features_by (map.get new.auth.clients from) refl ch.stored
 
-    pub takes_so : (algorithm : IntegrityAlgorithm) → takes told.offered algorithm ≡ supports algorithms algorithm
+    pub takes_so : (algorithm : IntegrityAlgorithm) → takes reported.offered algorithm ≡ supports algorithms algorithm
     takes_so algorithm =
-        ap (λ (t : Told). takes t.offered algorithm) told_is
+        ap (λ (t : ChallengeFields). takes t.offered algorithm) reported_is
         ∙ (takes_own (unvalidated_party old.auth ch.nonce) algorithm (ap (λ f. f.password_algorithms) features ∙ ap (λ (l : List IntegrityAlgorithm). (features_offered l anonymous).password_algorithms) (sym own))
         ∙ ap (λ (l : List IntegrityAlgorithm). supports l algorithm) own)
 
-    pub hides_so : (features_told told.nonce).anonymous_username ≡ (features_offered algorithms anonymous).anonymous_username
-    hides_so = ap (λ (t : Told). (features_told t.nonce).anonymous_username) told_is ∙ ap (λ f. f.anonymous_username) features
+    pub hides_so : (features_in reported.nonce).anonymous_username ≡ (features_offered algorithms anonymous).anonymous_username
+    hides_so = ap (λ (t : ChallengeFields). (features_in t.nonce).anonymous_username) reported_is ∙ ap (λ f. f.anonymous_username) features
 
 -- ---- who can answer one challenge of a server can answer another
 
-module _ (server : Server) (client : auth.Client) (one other : Told) (of_one : IsOfSettings server one) (of_other : IsOfSettings server other) (choice : IntegrityAlgorithm) (is : IsAnswerable client one choice) where
+module _ (server : Server) (client : auth.Client) (one other : ChallengeFields) (of_one : IsOfSettings server one) (of_other : IsOfSettings server other) (choice : IntegrityAlgorithm) (is : IsAnswerable client one choice) where
   same_takes : (algorithm : IntegrityAlgorithm) → takes other.offered algorithm ≡ takes one.offered algorithm
   same_takes algorithm = of_other.takes_own algorithm ∙ sym (of_one.takes_own algorithm)
 

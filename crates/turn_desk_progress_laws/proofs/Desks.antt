@@ -1,4 +1,4 @@
--- What a desk that is asked keeps, and how it grants the request of its user.
+-- What a server core that is asked stores, and how it grants the request of its user.
 use Rattle.std.proofs.Common.{◌≡◌, ℕ, Bool, true, false, List, [], ◌∷◌, ◌++◌, Option, Some, None, refl, sym, ap, ◌∙◌, subst, inl, inr}
 use Rattle.std.specs.Prelude.{if◌then◌else◌}
 use Rattle.std.specs.FinMap as map
@@ -12,21 +12,21 @@ use Rattle.turn_desk_core.specs.StunTypesWire.declared.class.MessageClass.TheVar
 use Rattle.turn_desk_core.specs.StunTypesMessage.Objections.{error_type}
 use Rattle.turn_desk_core.specs.StunTypesWire.Types.{class_of, method_of, type_of}
 use Rattle.turn_desk_core.specs.StunTypesWire.Attributes.{Attr}
-use Rattle.turn_desk_core.specs.StunTypesWire.Grammar.{refusal, shown}
+use Rattle.turn_desk_core.specs.StunTypesWire.Grammar.{refusal, visible}
 use Rattle.turn_desk_core.specs.StunTypesWire.declared.algorithm.IntegrityAlgorithm.TheVariants.{Sha1, Sha256, Sha512}
 use Rattle.turn_desk_core.specs.StunTypesWire.Registry.{bad_request_code, longest_text, realm_kind}
 use Rattle.turn_client_proto_messages.specs.StunTypesIntegrity.Signing.{signature}
-use Rattle.turn_client_proto_messages.specs.StunProtoClient.Challenges.{Told, asks_again, challenge_shown, told_by, told_of}
-use Rattle.turn_client_proto_api.specs.StunProtoAuth.Claims.{last_of_kind, text_told}
+use Rattle.turn_client_proto_messages.specs.StunProtoClient.Challenges.{ChallengeFields, asks_again, challenge_visible, decoded_by, reported_of}
+use Rattle.turn_client_proto_api.specs.StunProtoAuth.Claims.{last_of_kind, text_decoded}
 use Rattle.turn_desk_core.specs.StunProtoVerify.declared.error.LongTermServerAuthError.{LongTermServerAuthError}
 use Rattle.turn_desk_core.specs.StunProtoVerify.declared.error.LongTermServerAuthError.TheVariants.{BadRequest, IntegrityFailed, NoMemory, StaleNonce, Unauthorized}
 use Rattle.turn_client_proto_messages.specs.TurnRuns.Indications.{is_indication}
-use Rattle.turn_client_proto_progress_laws.specs.Speaking.{TellsRealm}
+use Rattle.turn_client_proto_progress_laws.specs.Speaking.{ReportsRealm}
 use Rattle.turn_client_proto_progress_laws.proofs.Asking.Tools.{no_challenge}
 use Rattle.turn_desk_core.specs.Replies.{failure_attributes}
 use Rattle.turn_desk_core.specs.Steps.{refusal_attributes, unvalidated_party}
 use Rattle.turn_desk_step_laws.specs.Challenged.{challenge_of}
-use Rattle.turn_desk_step_laws.proofs.Told.{challenge_read}
+use Rattle.turn_desk_step_laws.proofs.Reported.{challenge_read}
 use Rattle.turn_desk_core.specs.StunTypesAuthAttributes.Userhashes.{userhash_of}
 use Rattle.turn_client_proto_api.specs.StunProtoAuth.Claims.{Claimed, claimed}
 use Rattle.turn_client_proto_messages.specs.StunProtoClient.Client.{account_key}
@@ -55,13 +55,13 @@ use Rattle.turn_desk_core.specs.Replies.{success_type}
 
 -- ---- what stays
 
--- the client's user is a user of the desk's, of this realm, and no two users have the same hash
+-- The server core has the client's user and this realm, and no two users with the same hash.
 pub record IsDeskOf (b : Beginning) (realm : List ℕ) (d : State) : Type 0 where
   pub realm_is : d.auth.realm ≡ realm
   pub user : map.get d.auth.users b.config.credentials.username ≡ Some b.config.credentials.password
   pub hashes : HashesDiffer d.auth
 
--- realm and users
+-- The realm and the users are unchanged.
 pub record SameUsers (old new : Server) : Type 0 where
   pub realm : new.realm ≡ old.realm
   pub users : new.users ≡ old.users
@@ -105,7 +105,7 @@ module _ (b : Beginning) (realm : List ℕ) (old new : State) (is : IsDeskOf b r
 
 -- ---- what it grants
 
--- the types of replies
+-- The types of replies.
 record IsTyped (mtype method : ℕ) : Type 0 where
   class : class_of mtype ≡ Success
   same : method_of mtype ≡ method
@@ -133,7 +133,7 @@ error_class bytes served = by_method (λ (m : ℕ). class_of (type_of Error m) �
 no_success : {A : Type 0} (class : MessageClass) → class ≡ Success → class ≡ Error → A
 no_success class one other = absurd (Prim.cc (sym one ∙ other))
 
--- of a request that a success answers, the type of the reply is that of its success
+-- If the reply to a request is a success response, its type is that of the request's success response.
 typed_success : (bytes : List ℕ) (what : Verdict) → IsServed bytes → class_of (reply_type bytes what) ≡ Success → reply_type bytes what ≡ success_type bytes
 typed_success bytes (Fails code) served success = no_success (class_of (error_type bytes)) success (error_class bytes served)
 typed_success bytes (Allocates transport relayed lifetime) served success = refl
@@ -144,7 +144,7 @@ typed_success bytes (Connects peer connection) served success = refl
 typed_success bytes (Joins connection) served success = refl
 
 module _ (b : Beginning) (realm : List ℕ) (wanted : Wanted) (request : List ℕ) (own : IsOwnRequest b realm wanted request) (old new : State) (is : IsDeskOf b realm old) where
-  -- whom it names
+  -- Whether the request hides its user's name.
   abbrev hidden : Bool
   hidden = hides_name b.config.anonymous_username own.challenge.nonce
 
@@ -188,21 +188,21 @@ module _ (b : Beginning) (realm : List ℕ) (wanted : Wanted) (request : List �
 
 -- ---- what it replies
 
--- a message that is no indication, and tells the realm if it is a challenge
+-- The reply is a message and no indication, and names the realm if it is a challenge.
 pub record IsReplyOf (realm reply : List ℕ) : Type 0 where
   pub message : refusal reply ≡ None
   pub answers : is_indication (class_of (kind_at reply)) ≡ false
-  pub tells : TellsRealm realm reply
+  pub decodes : ReportsRealm realm reply
 
-no_realm : (reply : List ℕ) → (claimed reply).realm ≡ None → challenge_shown reply ≡ None
+no_realm : (reply : List ℕ) → (claimed reply).realm ≡ None → challenge_visible reply ≡ None
 no_realm reply none = elim (cases_Bool (asks_again reply)) [
   | inl asks ↦
-      let here : challenge_shown reply ≡ told_of (claimed reply) = rw asks refl in
-      here ∙ ap (λ (r : Option (List ℕ)). told_by r (claimed reply).nonce (claimed reply).algorithms) none
+      let here : challenge_visible reply ≡ reported_of (claimed reply) = rw asks refl in
+      here ∙ ap (λ (r : Option (List ℕ)). decoded_by r (claimed reply).nonce (claimed reply).algorithms) none
   | inr other ↦ rw other refl
 ]
 
--- an error that is no challenge shows no REALM, signed or not
+-- An error response that is no challenge shows no REALM, signed or not.
 failure_alone : (code : ℕ) → last_of_kind realm_kind (failure_attributes code) ≡ None
 unfolding last_of_kind
 failure_alone code = refl
@@ -213,43 +213,43 @@ failure_signed code Sha1 key text = refl
 failure_signed code Sha256 key text = refl
 failure_signed code Sha512 key text = refl
 
-no_realm_shown : (reply : List ℕ) (all : List Attr) → shown reply ≡ all → last_of_kind realm_kind all ≡ None → challenge_shown reply ≡ None
-unfolding text_told
-no_realm_shown reply all shows none = no_realm reply (ap (λ (l : List Attr). text_told realm_kind longest_text (last_of_kind realm_kind l)) shows ∙ ap (text_told realm_kind longest_text) none)
+no_realm_listed : (reply : List ℕ) (all : List Attr) → visible reply ≡ all → last_of_kind realm_kind all ≡ None → challenge_visible reply ≡ None
+unfolding text_decoded
+no_realm_listed reply all shows none = no_realm reply (ap (λ (l : List Attr). text_decoded realm_kind longest_text (last_of_kind realm_kind l)) shows ∙ ap (text_decoded realm_kind longest_text) none)
 
 module _ (realm : List ℕ) (old new : State) (same : old.auth.realm ≡ realm) (from : SocketAddr) (bytes reply : List ℕ) (now : ℕ) (stream : Stream) (served : IsServed bytes) where
-  none_told : challenge_shown reply ≡ None → TellsRealm realm reply
-  none_told none told shows = absurd (Prim.cc (sym shows ∙ none))
+  none_decoded : challenge_visible reply ≡ None → ReportsRealm realm reply
+  none_decoded none reported shows = absurd (Prim.cc (sym shows ∙ none))
 
-  read_told : (a : IsChallenge old from bytes now stream reply new) → challenge_shown reply ≡ Some (challenge_of (unvalidated_party old.auth a.nonce)) → TellsRealm realm reply
-  read_told a read told shows =
-      let is : told ≡ challenge_of (unvalidated_party old.auth a.nonce) = Prim.cc (sym shows ∙ read) in
-      ap (λ (t : Told). t.realm) is ∙ same
+  read_reported : (a : IsChallenge old from bytes now stream reply new) → challenge_visible reply ≡ Some (challenge_of (unvalidated_party old.auth a.nonce)) → ReportsRealm realm reply
+  read_reported a read reported shows =
+      let is : reported ≡ challenge_of (unvalidated_party old.auth a.nonce) = Prim.cc (sym shows ∙ read) in
+      ap (λ (t : ChallengeFields). t.realm) is ∙ same
 
-  away_tells : (error : LongTermServerAuthError) (a : IsChallenge old from bytes now stream reply new) → a.error ≡ error → TellsRealm realm reply
-  away_tells BadRequest a is =
-      let shows : shown reply ≡ failure_attributes bad_request_code = a.read.shows ∙ ap (λ (e : LongTermServerAuthError). refusal_attributes e (unvalidated_party old.auth a.nonce)) is in
-      none_told (no_realm_shown reply (failure_attributes bad_request_code) shows (failure_alone bad_request_code))
-  away_tells Unauthorized a is = read_told a (challenge_read old new from bytes reply now stream served a (λ e. Prim.cc (sym is ∙ e)))
-  away_tells (IntegrityFailed algorithm) a is = read_told a (challenge_read old new from bytes reply now stream served a (λ e. Prim.cc (sym is ∙ e)))
-  away_tells StaleNonce a is = read_told a (challenge_read old new from bytes reply now stream served a (λ e. Prim.cc (sym is ∙ e)))
-  away_tells NoMemory a is = read_told a (challenge_read old new from bytes reply now stream served a (λ e. Prim.cc (sym is ∙ e)))
+  away_reports : (error : LongTermServerAuthError) (a : IsChallenge old from bytes now stream reply new) → a.error ≡ error → ReportsRealm realm reply
+  away_reports BadRequest a is =
+      let shows : visible reply ≡ failure_attributes bad_request_code = a.read.shows ∙ ap (λ (e : LongTermServerAuthError). refusal_attributes e (unvalidated_party old.auth a.nonce)) is in
+      none_decoded (no_realm_listed reply (failure_attributes bad_request_code) shows (failure_alone bad_request_code))
+  away_reports Unauthorized a is = read_reported a (challenge_read old new from bytes reply now stream served a (λ e. Prim.cc (sym is ∙ e)))
+  away_reports (IntegrityFailed algorithm) a is = read_reported a (challenge_read old new from bytes reply now stream served a (λ e. Prim.cc (sym is ∙ e)))
+  away_reports StaleNonce a is = read_reported a (challenge_read old new from bytes reply now stream served a (λ e. Prim.cc (sym is ∙ e)))
+  away_reports NoMemory a is = read_reported a (challenge_read old new from bytes reply now stream served a (λ e. Prim.cc (sym is ∙ e)))
 
-  success_tells : (kind : ℕ) → kind_at reply ≡ kind → kind ≡ success_type bytes → TellsRealm realm reply
-  success_tells kind is typed = none_told (no_challenge reply (ap class_of (is ∙ typed) ∙ (success_typed bytes served).class))
+  success_reports : (kind : ℕ) → kind_at reply ≡ kind → kind ≡ success_type bytes → ReportsRealm realm reply
+  success_reports kind is typed = none_decoded (no_challenge reply (ap class_of (is ∙ typed) ∙ (success_typed bytes served).class))
 
-  verdict_tells : (what : Verdict) → IsVerdict old from bytes now stream what reply new → TellsRealm realm reply
-  verdict_tells (Fails code) a = none_told (no_realm_shown reply _ a.read.shows (failure_signed code a.algorithm _ _))
-  verdict_tells (Allocates transport relayed lifetime) a = success_tells _ a.read.kind refl
-  verdict_tells (Refreshes lifetime) a = success_tells _ a.read.kind refl
-  verdict_tells (Permits peers) a = success_tells _ a.read.kind refl
-  verdict_tells (Binds channel peer) a = success_tells _ a.read.kind refl
-  verdict_tells (Connects peer connection) a = success_tells _ a.read.kind refl
-  verdict_tells (Joins connection) a = success_tells _ a.read.kind refl
+  verdict_reports : (what : Verdict) → IsVerdict old from bytes now stream what reply new → ReportsRealm realm reply
+  verdict_reports (Fails code) a = none_decoded (no_realm_listed reply _ a.read.shows (failure_signed code a.algorithm _ _))
+  verdict_reports (Allocates transport relayed lifetime) a = success_reports _ a.read.kind refl
+  verdict_reports (Refreshes lifetime) a = success_reports _ a.read.kind refl
+  verdict_reports (Permits peers) a = success_reports _ a.read.kind refl
+  verdict_reports (Binds channel peer) a = success_reports _ a.read.kind refl
+  verdict_reports (Connects peer connection) a = success_reports _ a.read.kind refl
+  verdict_reports (Joins connection) a = success_reports _ a.read.kind refl
 
-  reply_tells : (decision : Decision) → IsAnswer old from bytes now stream decision reply new → TellsRealm realm reply
-  reply_tells decision (inl a) = away_tells a.error a refl
-  reply_tells decision (inr a) = verdict_tells (verdict_on bytes decision) a
+  reply_reports : (decision : Decision) → IsAnswer old from bytes now stream decision reply new → ReportsRealm realm reply
+  reply_reports decision (inl a) = away_reports a.error a refl
+  reply_reports decision (inr a) = verdict_reports (verdict_on bytes decision) a
 
   typed_answers : (what : Verdict) → is_indication (class_of (reply_type bytes what)) ≡ false
   typed_answers (Fails code) = ap is_indication (error_class bytes served)
@@ -261,5 +261,5 @@ module _ (realm : List ℕ) (old new : State) (same : old.auth.realm ≡ realm) 
   typed_answers (Joins connection) = ap is_indication (success_typed bytes served).class
 
   pub reply_is : (decision : Decision) → IsAnswer old from bytes now stream decision reply new → IsReplyOf realm reply
-  reply_is decision (inl a) = record { message = a.read.message; answers = ap is_indication (ap class_of a.read.kind ∙ error_class bytes served); tells = reply_tells decision (inl a) }
-  reply_is decision (inr a) = record { message = a.read.message; answers = ap is_indication (ap class_of a.read.kind) ∙ typed_answers (verdict_on bytes decision); tells = reply_tells decision (inr a) }
+  reply_is decision (inl a) = record { message = a.read.message; answers = ap is_indication (ap class_of a.read.kind ∙ error_class bytes served); decodes = reply_reports decision (inl a) }
+  reply_is decision (inr a) = record { message = a.read.message; answers = ap is_indication (ap class_of a.read.kind) ∙ typed_answers (verdict_on bytes decision); decodes = reply_reports decision (inr a) }

@@ -1,4 +1,5 @@
--- A desk grants what a client that holds an allocation asks for: its success is taken by the client.
+-- A server core grants what a client that holds an allocation requests, and the client accepts its success
+-- response.
 use Rattle.std.proofs.Common.{◌≡◌, ℕ, List, [], Some, None, refl, sym, ap, ◌∙◌, subst}
 use Rattle.std.specs.Prelude.{IsSome, Vec}
 use Rattle.std.specs.FinMap as map
@@ -17,7 +18,7 @@ use Rattle.turn_client_proto_progress_laws.specs.Holders.{Holder, IsSignedBy}
 use Rattle.turn_client_proto_progress_laws.specs.Replies.{IsSuccessOf}
 use Rattle.turn_client_proto_messages.specs.declared.request.TurnRequest.{TurnRequest}
 use Rattle.turn_desk_world_laws.specs.World.Desks.{words_of}
-use Rattle.turn_client_proto_step_laws.specs.Recv.Kept.{Protocol}
+use Rattle.turn_client_proto_step_laws.specs.Recv.ClientState.{Protocol}
 use Rattle.turn_desk_world_laws.specs.World.Model.{World}
 use Rattle.turn_desk_world_laws.specs.World.Runs.{IsStep}
 use Rattle.turn_desk_core.specs.Steps.{IsAnswer}
@@ -33,7 +34,7 @@ use Rattle.turn_desk_progress_laws.proofs.Same.{step_same}
 use Rattle.turn_desk_progress_laws.proofs.Successes.{IsMethod, message_is, method_same, number_same, reply_right}
 use Rattle.turn_desk_progress_laws.proofs.Worlds.{IsServedOn, served_on}
 
-module _ (plan : Plan) (old w v : World) (address : SocketAddr) (lifetime : ℕ) (link : Link) (front : List ℕ) (Is : Holder → List TurnEvent → Protocol → Type 0) (s : IsHeldBy plan old address lifetime link front Is w) (fresh : IsFresh plan old)
+module _ (plan : Plan) (old w v : World) (address : SocketAddr) (lifetime : ℕ) (link : Link) (head : List ℕ) (Is : Holder → List TurnEvent → Protocol → Type 0) (s : IsHeldBy plan old address lifetime link head Is w) (fresh : IsFresh plan old)
     (what : TurnRequest) (number : ℕ) (text : List ℕ) (signed : IsSignedBy (holder_in plan address lifetime s.auth s.standing) what number text) (m : ℕ) (is_method : IsMethod m) (method_is : method_of (kind_at text) ≡ m)
     (bytes reply : Vec ℕ Global) (same : bytes.items ≡ text) (from : SocketAddr) (now : ℕ) (decision : Decision) (seed : List ℕ) (success : class_of (kind_at reply.items) ≡ Success)
     (step : IsStep (ToDesk bytes from now decision seed) w (answer.Reply reply) v) where
@@ -72,8 +73,8 @@ module _ (plan : Plan) (old w v : World) (address : SocketAddr) (lifetime : ℕ)
   pub part_so : IsPartOf [] reply.items
   part_so = none_yet reply.items message_so
 
-  -- the client is as it was, and may be said to be this
-  pub stays_so : (IsNow : Holder → List TurnEvent → Protocol → Type 0) → IsNow h s.events s.client.core → IsHeldBy plan old address lifetime link front IsNow v
+  -- The client is unchanged, and meets this statement too.
+  pub stays_so : (IsNow : Holder → List TurnEvent → Protocol → Type 0) → IsNow h s.events s.client.core → IsHeldBy plan old address lifetime link head IsNow v
   stays_so IsNow is = record {
     auth = s.auth;
     standing = s.standing;

@@ -1,4 +1,4 @@
--- Runs and scripts with one event more, and what a desk is behind a run.
+-- Runs and scripts with one more event, and the server core after a run.
 use Rattle.std.proofs.Common.{ℕ, List, [], ◌∷◌, ◌++◌, refl, sym, subst}
 use Rattle.turn_client_proto_handshake_laws.specs.Sent.{Beginning}
 use Rattle.turn_desk_world_laws.specs.World.Model.{World}
@@ -7,7 +7,7 @@ use Rattle.turn_desk_core.specs.State.{State}
 use Rattle.turn_desk_event.specs.declared.answer.Answer.{Answer}
 use Rattle.turn_desk_event.specs.declared.event.Event.{Event}
 use Rattle.turn_desk_event.specs.declared.event.Event.TheVariants.{Call, Draw, ToClient, ToDesk}
-use Rattle.turn_desk_progress_laws.specs.Scripts.{Follows, IsScript, Place, Plan}
+use Rattle.turn_desk_progress_laws.specs.Scripts.{Follows, IsScript, Progress, Plan}
 use Rattle.turn_desk_progress_laws.proofs.Clients.{same_desk}
 use Rattle.turn_desk_progress_laws.proofs.Desks.{IsDeskOf, desk_stays}
 
@@ -16,10 +16,10 @@ unfolding IsRun
 run_more [] pair w v u run step = (u, subst (λ (x : World). IsStep pair.0 x pair.1 u) run step, refl)
 run_more (first ∷ pairs) pair w v u run step = (run.0, run.1, run_more pairs pair run.0 v u run.2 step)
 
-pub script_more : (plan : Plan) (pairs : List (Event × Answer)) (pair : Event × Answer) (place between next : Place) → IsScript plan place pairs between → Follows plan between pair.0 pair.1 next → IsScript plan place (pairs ++ pair ∷ []) next
+pub script_more : (plan : Plan) (pairs : List (Event × Answer)) (pair : Event × Answer) (progress between next : Progress) → IsScript plan progress pairs between → Follows plan between pair.0 pair.1 next → IsScript plan progress (pairs ++ pair ∷ []) next
 unfolding IsScript
-script_more plan [] pair place between next is follows = (next, subst (λ (x : Place). Follows plan x pair.0 pair.1 next) is follows, refl)
-script_more plan (first ∷ pairs) pair place between next is follows = (is.0, is.1, script_more plan pairs pair is.0 between next is.2 follows)
+script_more plan [] pair progress between next is follows = (next, subst (λ (x : Progress). Follows plan x pair.0 pair.1 next) is follows, refl)
+script_more plan (first ∷ pairs) pair progress between next is follows = (is.0, is.1, script_more plan pairs pair is.0 between next is.2 follows)
 
 -- ---- the desk
 

@@ -1,4 +1,4 @@
--- A desk keeps its realm and its users, whatever it is asked.
+-- No request changes a server core's realm and users.
 use Rattle.std.proofs.Common.{◌≡◌, ℕ, Bool, true, false, if◌then◌else◌, List, Option, Some, None, refl, sym, ap, ◌∙◌, subst, inl, inr}
 use Rattle.std.specs.Prelude.{IsSome}
 use Rattle.std.specs.FinMap as map
@@ -21,7 +21,7 @@ use Rattle.turn_desk_progress_laws.specs.Scripts.{Plan}
 use Rattle.turn_desk_progress_laws.proofs.Clients.{same_desk}
 use Rattle.turn_desk_progress_laws.specs.Watched.{IsServing}
 
--- a nonce that is drawn changes neither
+-- A new nonce changes neither.
 pub refreshed_realm : (server : Server) (from : SocketAddr) (now : ℕ) (stream : Stream) → (refreshed server from now stream).realm ≡ server.realm
 refreshed_realm server from now stream = elim (has_standing_nonce server from now) as (λ (x : Bool). (if x then server else with_new_nonce server from now stream).realm ≡ server.realm) [
   | true ↦ refl
@@ -66,7 +66,7 @@ module _ (plan : Plan) (old : State) where
   of_client : (w v : World) → IsOfClient w v → IsServing plan old w.desk → IsServing plan old v.desk
   of_client w v same is = same_serving w.desk v.desk (same_desk w v same) is
 
-  -- so does a world
+  -- No event of a simulation changes them.
   pub serves : (event : Event) (w v : World) (ret : Answer) → IsStep event w ret v → IsServing plan old w.desk → IsServing plan old v.desk
   serves (Call call now) w v ret step is = of_client w v step.1 is
   serves (Draw now) w v ret step is = of_client w v step.1 is

@@ -1,4 +1,4 @@
--- No event changes the desk's realm, nor its users or settings.
+-- No event changes the server core's realm, users or settings.
 use Rattle.std.proofs.Common.{◌≡◌, ℕ, Bool, true, false, List, [], ◌∷◌, Option, Some, None, refl, sym, ap, ◌∙◌, subst, inl, inr}
 use Rattle.std.specs.Prelude.{if◌then◌else◌}
 use Rattle.std.specs.FinMap as map
@@ -18,15 +18,15 @@ use Rattle.turn_desk_event.specs.declared.answer.Answer.TheVariants as answer
 use Rattle.turn_desk_core.specs.declared.decision.Decision.{Decision}
 use Rattle.turn_desk_event.specs.declared.event.Event.{Event}
 use Rattle.turn_desk_event.specs.declared.event.Event.TheVariants.{Call, Draw, ToClient, ToDesk}
-use Rattle.turn_desk_progress_laws.specs.Joining.{IsSameDesk, TellsOwn}
+use Rattle.turn_desk_progress_laws.specs.Joining.{IsSameDesk, ReportsOwn}
 use Rattle.turn_desk_progress_laws.specs.Links.{Link}
-use Rattle.turn_desk_progress_laws.proofs.Nonces.{answered_tells}
+use Rattle.turn_desk_progress_laws.proofs.Nonces.{answered_reports}
 use Rattle.turn_desk_progress_laws.proofs.Successes.{answered_realm, answered_users}
 
--- ---- an answer
+-- ---- a result
 
 module _ (old new : State) (from : SocketAddr) (bytes reply : List ℕ) (now : ℕ) (stream : Stream) (decision : Decision) where
-  -- by an outcome of the address
+  -- The server core's state, by the outcome for the address.
   pub record IsAfter : Type 0 where
     pub outcome : Option Outcome
     pub after : new.auth ≡ with_outcome (refreshed old.auth from now stream) from outcome
@@ -54,30 +54,30 @@ module _ (link : Link) (old : World) where
     users = ap (λ (d : State). d.auth.users) same ∙ is.users;
     algorithms = ap (λ (d : State). d.auth.algorithms) same ∙ is.algorithms;
     anonymous = ap (λ (d : State). d.auth.anonymous_username) same ∙ is.anonymous;
-    tells = λ own kept there. is.tells own kept (ap (λ (d : State). map.get d.auth.clients link.local) (sym same) ∙ there);
+    decodes = λ own stored there. is.decodes own stored (ap (λ (d : State). map.get d.auth.clients link.local) (sym same) ∙ there);
   }
 
-  -- what is kept for the socket's address: by a request from it, or from another one
+  -- What is stored for the socket's address, by a request from it or from another one.
   module _ (w v : World) (reply bytes : List ℕ) (from : SocketAddr) (now : ℕ) (decision : Decision) (seed : List ℕ) (is : IsReplied w.desk bytes from now decision (words_of seed) reply v.desk) (same : IsSameDesk link old w) where
     a : IsAfter w.desk v.desk from bytes reply now (words_of seed) decision
     a = after_answer w.desk v.desk from bytes reply now (words_of seed) decision is.answer
 
-    abbrev Tells : Server → Type 0
-    Tells server = TellsOwn old.desk.auth.algorithms old.desk.auth.anonymous_username link.local server
+    abbrev Reports : Server → Type 0
+    Reports server = ReportsOwn old.desk.auth.algorithms old.desk.auth.anonymous_username link.local server
 
-    own_tells : (from ≡ link.local) → Tells w.desk.auth → Tells v.desk.auth
-    own_tells at tells = subst Tells (sym a.after)
-        (subst (λ (x : SocketAddr). Tells (with_outcome (refreshed w.desk.auth x now (words_of seed)) x a.outcome)) (sym at)
-        (answered_tells old.desk.auth.algorithms old.desk.auth.anonymous_username w.desk.auth same.algorithms same.anonymous link.local now (words_of seed) a.outcome tells))
+    own_reports : (from ≡ link.local) → Reports w.desk.auth → Reports v.desk.auth
+    own_reports at decodes = subst Reports (sym a.after)
+        (subst (λ (x : SocketAddr). Reports (with_outcome (refreshed w.desk.auth x now (words_of seed)) x a.outcome)) (sym at)
+        (answered_reports old.desk.auth.algorithms old.desk.auth.anonymous_username w.desk.auth same.algorithms same.anonymous link.local now (words_of seed) a.outcome decodes))
 
-    tells_still : Tells w.desk.auth → Tells v.desk.auth
-    tells_still tells = by (is_same_address from link.local) refl
+    reports_still : Reports w.desk.auth → Reports v.desk.auth
+    reports_still decodes = by (is_same_address from link.local) refl
       where
-        by : (b : Bool) → is_same_address from link.local ≡ b → Tells v.desk.auth
-        by true at = own_tells (same_address from link.local at) tells
-        by false apart = λ kept there.
+        by : (b : Bool) → is_same_address from link.local ≡ b → Reports v.desk.auth
+        by true at = own_reports (same_address from link.local at) decodes
+        by false apart = λ stored there.
             (let other = is.others link.local (λ at. Prim.cc (sym (ap (λ (x : SocketAddr). is_same_address x link.local) (sym at) ∙ same_itself link.local) ∙ apart)) in
-            tells kept (sym other.kept ∙ there))
+            decodes stored (sym other.stored ∙ there))
 
     pub replied_same : IsSameDesk link old v
     replied_same = record {
@@ -85,7 +85,7 @@ module _ (link : Link) (old : World) where
       users = answered_users w.desk v.desk from bytes reply now (words_of seed) decision is.answer ∙ same.users;
       algorithms = answered_algorithms w.desk v.desk from bytes reply now (words_of seed) decision a ∙ same.algorithms;
       anonymous = answered_anonymous w.desk v.desk from bytes reply now (words_of seed) decision a ∙ same.anonymous;
-      tells = λ own. tells_still (same.tells own);
+      decodes = λ own. reports_still (same.decodes own);
     }
 
   replied : (w v : World) (ret : Answer) (bytes : List ℕ) (from : SocketAddr) (now : ℕ) (decision : Decision) (seed : List ℕ) → IsReply ret w.desk bytes from now decision seed v.desk → IsSameDesk link old w → IsSameDesk link old v

@@ -1,11 +1,12 @@
--- What a success of a desk's is: of the method and number of the request, right under the key of the user whom that names.
+-- A server core's success response has the request's transaction ID and method, and is valid under the key of
+-- the user whom the request names.
 use Rattle.std.proofs.Common.{◌≡◌, ℕ, ◌<◌, ◌^◌, Bool, true, false, List, [], ◌∷◌, ◌++◌, Option, Some, None, refl, sym, ap, ◌∙◌, subst, inl, inr}
 use Rattle.std.specs.Prelude.{if◌then◌else◌}
 use Rattle.std.specs.FinMap as map
 use Rattle.std.specs.declared.net.socket_addr.SocketAddr.{SocketAddr}
 use Rattle.rand_core.specs.Stream.{Stream}
 use Rattle.turn_desk_core.specs.StunTypesWire.Attributes.{kind_at}
-use Rattle.turn_desk_core.specs.StunTypesWire.Grammar.{number_at, refusal, shown}
+use Rattle.turn_desk_core.specs.StunTypesWire.Grammar.{number_at, refusal, visible}
 use Rattle.turn_client_proto_messages.specs.StunTypesIntegrity.Integrity.{Validates}
 use Rattle.turn_desk_core.specs.StunTypesWire.declared.algorithm.IntegrityAlgorithm.{IntegrityAlgorithm}
 use Rattle.turn_desk_core.specs.StunTypesWire.declared.class.MessageClass.TheVariants.{Error, Success}
@@ -24,21 +25,21 @@ use Rattle.turn_desk_core.specs.StunProtoServer.Server.{Server, has_standing_non
 use Rattle.turn_desk_core.specs.StunProtoServer.Users.{HashesDiffer, IsClaimedName, Names}
 use Rattle.turn_desk_core.proofs.StunProtoServer.Named.{same_users}
 use Rattle.turn_desk_core.specs.TurnTypesAttributes.TurnRegistry.{connection_id_kind}
-use Rattle.turn_desk_core.specs.TurnTypesPeer.TurnShows.{number_shown}
+use Rattle.turn_desk_core.specs.TurnTypesPeer.TurnShows.{number_visible}
 use Rattle.turn_client_proto_messages.specs.OwnClaims.{own_claim}
-use Rattle.turn_desk_core.specs.AskedFor.{asked}
+use Rattle.turn_desk_core.specs.RequestedFor.{requested}
 use Rattle.turn_desk_core.specs.declared.decision.Decision.TheVariants as by
 use Rattle.turn_desk_core.specs.declared.decision.Decision.{Decision}
 use Rattle.turn_desk_core.specs.State.{State}
 use Rattle.turn_desk_core.specs.Steps.{IsAnswer, IsVerdict}
 use Rattle.turn_desk_core.specs.Verdicts.{reply_attributes, reply_type, verdict, verdict_on}
-use Rattle.turn_desk_core.specs.declared.asked.Asked.{Asked}
-use Rattle.turn_desk_core.specs.declared.asked.Asked.TheVariants.{Allocation, Refreshment, Permissions, Channel, Connection, Binding}
+use Rattle.turn_desk_core.specs.declared.requested.Requested.{Requested}
+use Rattle.turn_desk_core.specs.declared.requested.Requested.TheVariants.{Allocation, Refreshment, Permissions, Channel, Connection, Binding}
 use Rattle.turn_desk_core.specs.declared.verdict.Verdict.{Verdict}
 use Rattle.turn_desk_core.specs.declared.verdict.Verdict.TheVariants.{Fails, Allocates, Refreshes, Permits, Binds, Connects, Joins}
 use Rattle.turn_desk_step_laws.proofs.Replies.{connected_number}
 
--- what is so of a method's types
+-- What holds of a method's types.
 pub record IsMethod (m : ℕ) : Type 0 where
   pub error : class_of (type_of Error m) ≡ Error
   pub success : class_of (type_of Success m) ≡ Success
@@ -48,7 +49,7 @@ named : (realm name : List ℕ) (hidden : Bool) → IsClaimedName realm (if hidd
 named realm name true = refl
 named realm name false = refl
 
--- a validation changes neither realm nor users
+-- Validating a message changes neither realm nor users.
 module _ (old : Server) (from : SocketAddr) (now : ℕ) (stream : Stream) where
   pub same_realm : (refreshed old from now stream).realm ≡ old.realm
   same_realm = elim (has_standing_nonce old from now) as (λ b. (if b then old else with_new_nonce old from now stream).realm ≡ old.realm) [
@@ -56,8 +57,8 @@ module _ (old : Server) (from : SocketAddr) (now : ℕ) (stream : Stream) where
     | false ↦ refl
   ]
 
-  pub same_users_kept : (refreshed old from now stream).users ≡ old.users
-  same_users_kept = elim (has_standing_nonce old from now) as (λ b. (if b then old else with_new_nonce old from now stream).users ≡ old.users) [
+  pub same_users_stored : (refreshed old from now stream).users ≡ old.users
+  same_users_stored = elim (has_standing_nonce old from now) as (λ b. (if b then old else with_new_nonce old from now stream).users ≡ old.users) [
     | true ↦ refl
     | false ↦ refl
   ]
@@ -68,14 +69,14 @@ module _ (old : Server) (from : SocketAddr) (now : ℕ) (stream : Stream) where
     | false ↦ differ
   ]
 
--- an answer changes neither
+-- Answering a request changes neither.
 pub answered_realm : (old new : State) (from : SocketAddr) (bytes reply : List ℕ) (now : ℕ) (stream : Stream) (decision : Decision) → IsAnswer old from bytes now stream decision reply new → new.auth.realm ≡ old.auth.realm
 answered_realm old new from bytes reply now stream decision (inl a) = ap (λ (s : Server). s.realm) a.judged.after ∙ same_realm old.auth from now stream
 answered_realm old new from bytes reply now stream decision (inr a) = ap (λ (s : Server). s.realm) a.judged.after ∙ same_realm old.auth from now stream
 
 pub answered_users : (old new : State) (from : SocketAddr) (bytes reply : List ℕ) (now : ℕ) (stream : Stream) (decision : Decision) → IsAnswer old from bytes now stream decision reply new → new.auth.users ≡ old.auth.users
-answered_users old new from bytes reply now stream decision (inl a) = ap (λ (s : Server). s.users) a.judged.after ∙ same_users_kept old.auth from now stream
-answered_users old new from bytes reply now stream decision (inr a) = ap (λ (s : Server). s.users) a.judged.after ∙ same_users_kept old.auth from now stream
+answered_users old new from bytes reply now stream decision (inl a) = ap (λ (s : Server). s.users) a.judged.after ∙ same_users_stored old.auth from now stream
+answered_users old new from bytes reply now stream decision (inr a) = ap (λ (s : Server). s.users) a.judged.after ∙ same_users_stored old.auth from now stream
 
 module _ (old new : State) (from : SocketAddr) (bytes reply : List ℕ) (now : ℕ) (stream : Stream) (decision : Decision) (m : ℕ) (is_method : IsMethod m) (method_is : method_of (kind_at bytes) ≡ m)
     (is : IsAnswer old from bytes now stream decision reply new) (success : class_of (kind_at reply) ≡ Success) where
@@ -85,7 +86,7 @@ module _ (old new : State) (from : SocketAddr) (bytes reply : List ℕ) (now : �
   error_clash : {A : Type 0} → kind_at reply ≡ type_of Error (method_of (kind_at bytes)) → A
   error_clash kind = absurd (Prim.cc (sym success ∙ (ap class_of kind ∙ (ap (λ (x : ℕ). class_of (type_of Error x)) method_is ∙ is_method.error))))
 
-  -- it is no challenge
+  -- The reply is no challenge.
   pub by_verdict : IsVerdict old from bytes now stream what reply new
   by_verdict = of is
     where
@@ -93,7 +94,7 @@ module _ (old new : State) (from : SocketAddr) (bytes reply : List ℕ) (now : �
       of (inl challenge) = error_clash challenge.read.kind
       of (inr v) = v
 
-  -- nor a failure
+  -- Nor is it an error response.
   pub kind_is : kind_at reply ≡ type_of Success (method_of (kind_at bytes))
   kind_is = of what by_verdict.read.kind
     where
@@ -133,7 +134,7 @@ module _ (old new : State) (from : SocketAddr) (bytes reply : List ℕ) (now : �
 
     own_named : Names server (claimed bytes) own
     own_named = record {
-      present = ap (λ u. map.get u s.account.username) (same_users_kept old.auth from now stream) ∙ present;
+      present = ap (λ u. map.get u s.account.username) (same_users_stored old.auth from now stream) ∙ present;
       named = subst (λ (c : Claimed). IsClaimedName server.realm c.username c.user_hash s.account.username) (sym claims)
           (subst (λ (r : List ℕ). IsClaimedName r (if hidden then None else Some s.account.username) (if hidden then Some (userhash_of s.account.username s.challenge.realm) else None) s.account.username)
           (realm ∙ sym (same_realm old.auth from now stream)) (named s.challenge.realm s.account.username hidden));
@@ -151,7 +152,7 @@ module _ (old new : State) (from : SocketAddr) (bytes reply : List ℕ) (now : �
     algorithm_is : v.algorithm ≡ s.challenge.choice
     algorithm_is = Prim.cc (sym v.judged.accepts.judged.last ∙ ap (λ (c : Claimed). c.integrity) claims)
 
-    -- what it signs
+    -- What the reply signs.
     abbrev signed : List ℕ
     signed = text_to_sign v.algorithm (message_text (reply_type bytes what) (number_at bytes) (reply_attributes bytes from what))
 
@@ -177,12 +178,12 @@ module _ (old new : State) (from : SocketAddr) (bytes reply : List ℕ) (now : �
   abbrev key : List ℕ
   key = user_key old.auth.realm w.name w.password w.algorithm
 
-  pub shows_number : number_shown 4 connection_id_kind reply ≡ Some number
-  shows_number = of (asked bytes) w.read.kind w.read.shows
+  pub shows_number : number_visible 4 connection_id_kind reply ≡ Some number
+  shows_number = of (requested bytes) w.read.kind w.read.shows
     where
-      of : (o : Option Asked) → kind_at reply ≡ reply_type bytes (verdict o (by.Connect number))
-          → shown reply ≡ reply_attributes bytes from (verdict o (by.Connect number)) ++ signature w.algorithm key (message_text (reply_type bytes (verdict o (by.Connect number))) (number_at bytes) (reply_attributes bytes from (verdict o (by.Connect number)))) ∷ []
-          → number_shown 4 connection_id_kind reply ≡ Some number
+      of : (o : Option Requested) → kind_at reply ≡ reply_type bytes (verdict o (by.Connect number))
+          → visible reply ≡ reply_attributes bytes from (verdict o (by.Connect number)) ++ signature w.algorithm key (message_text (reply_type bytes (verdict o (by.Connect number))) (number_at bytes) (reply_attributes bytes from (verdict o (by.Connect number)))) ∷ []
+          → number_visible 4 connection_id_kind reply ≡ Some number
       of None kind shows = no_failure kind
       of (Some (Allocation transport)) kind shows = no_failure kind
       of (Some Refreshment) kind shows = no_failure kind

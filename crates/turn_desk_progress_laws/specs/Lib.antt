@@ -12,7 +12,7 @@ pub mod Linked
 pub mod Links
 pub mod Joining
 pub mod Rebinding
--- What stands above this crate has these through it.
+-- Crates that build on this one reach these definitions through it.
 pub use Rattle.turn_client_proto_messages.specs as TurnClientProtoMessages
 pub use Rattle.turn_client_proto_handshake_laws.specs as TurnClientProtoHandshakeLaws
 pub use Rattle.turn_client_proto_progress_laws.specs as TurnClientProtoProgressLaws

@@ -13,7 +13,7 @@ use Rattle.turn_client_proto_messages.specs.StunProtoClient.Client.{account_key}
 use Rattle.turn_client_proto_messages.specs.StunProtoClient.Digests.{IsRight}
 use Rattle.turn_client_proto_api.specs.StunProtoAuth.declared.feature.Feature.{Feature}
 use Rattle.turn_client_proto_api.specs.StunProtoAuth.declared.feature.Feature.TheVariants.{Required, Disabled}
-use Rattle.turn_desk_core.specs.StunTypesBase.Moments.{moment_after}
+use Rattle.turn_desk_core.specs.StunTypesBase.Times.{time_after}
 use Rattle.turn_desk_core.specs.StunProtoServer.Server.{Server}
 use Rattle.turn_desk_core.specs.StunProtoServer.Users.{HashesDiffer}
 use Rattle.turn_client_proto_api.specs.declared.event.TurnEvent.{TurnEvent}
@@ -21,8 +21,8 @@ use Rattle.turn_client_proto_api.specs.TurnTypesFrame.Streams.{alive}
 use Rattle.turn_client_proto_api.specs.Config.{Config}
 use Rattle.turn_client_proto_step_laws.specs.Recv.Control.{Control, Datagrams, Open}
 use Rattle.turn_client_proto_api.specs.Sent.{Sent}
-use Rattle.turn_client_proto_messages.specs.Allocation.Listed.{relayed_shown}
-use Rattle.turn_client_proto_step_laws.specs.Recv.Kept.{Kept, Protocol}
+use Rattle.turn_client_proto_messages.specs.Allocation.Listed.{relayed_listed}
+use Rattle.turn_client_proto_step_laws.specs.Recv.ClientState.{ClientState, Protocol}
 use Rattle.turn_client_proto_step_laws.specs.Timers.Polling.{cadence}
 use Rattle.turn_client_proto_handshake_laws.specs.Sent.{Begins, HasRoom}
 use Rattle.turn_client_proto_handshake_laws.specs.Choosing.{HasTextName}
@@ -37,34 +37,41 @@ use Rattle.turn_desk_core.specs.declared.grant.Grant.{Grant}
 use Rattle.turn_desk_core.specs.Verdicts.{bare_grant}
 use Rattle.turn_desk_world_laws.specs.World.Model.{World}
 use Rattle.turn_desk_world_laws.specs.World.Runs.{IsStep}
-use Rattle.turn_desk_progress_laws.specs.Scripts.{Plan, Place, Start, Asked, Challenged, Came}
+use Rattle.turn_desk_progress_laws.specs.Scripts.{Plan, Progress, Start, Requested, Challenged, Came}
 use Rattle.turn_desk_progress_laws.specs.Scripts.{Signed, Granted, Done, Barred, Silent}
 
 -- ---- where it begins
 
--- the second draw comes 50 ms after the first or later
+-- The second call of `poll_transmit` is at least 50 ms after the first, and no later than a client may be
+-- called.
 pub record IsTimely (plan : Plan) : Type 0 where
-  pub apart : moment_after plan.client.made cadence ≤ plan.second
+  pub apart : time_after plan.client.made cadence ≤ plan.second
   pub in_range : plan.second ≤ client_end
 
--- how bytes come to a client from its server: over UDP each datagram by itself; over TCP in a stream, of which this
--- front of a message has come
-abbrev pub control_at : TransportType → (front : List ℕ) → Control
-control_at Udp front = Datagrams
-control_at Tcp front = Open (alive front)
+-- How bytes come to a client from its server: over UDP each datagram by itself; over TCP in a stream, in
+-- which these first bytes of a message are buffered.
+abbrev pub control_at : TransportType → (head : List ℕ) → Control
+control_at Udp head = Datagrams
+control_at Tcp head = Open (alive head)
 
--- a client to which bytes come so
-abbrev pub over : Control → Protocol → Kept
+-- The state of a client with this core, to which bytes come in this way.
+abbrev pub over : Control → Protocol → ClientState
 over control core = record { core = core; control = control }
 
--- a world has the client that began, to which this front of a message has come; and of it this is so
-pub record HasClient (plan : Plan) (front : List ℕ) (w : World) (Is : Protocol → Type 0) : Type 0 where
+-- The simulation has the client of the plan, to which these first bytes of a message have come; and the
+-- statement `Is` holds of its core.
+pub record HasClient (plan : Plan) (head : List ℕ) (w : World) (Is : Protocol → Type 0) : Type 0 where
   pub core : Protocol
-  pub there : w.client ≡ Some (over (control_at plan.client.transport front) core)
+  pub there : w.client ≡ Some (over (control_at plan.client.transport head) core)
   pub is : Is core
 
--- a client of which nothing was asked yet, and to which nothing has come; a desk that has its user and keeps nothing
--- for its address; and the nonce of the first reply stands at the second draw
+-- The state in which an honest run begins:
+--
+-- - The client is new, and nothing has come to it. Its user name is UTF-8 and fits into a request, and it is
+--   configured for at most two address families.
+-- - The server core has its user, stores nothing for its address, and has no two users with the same hash.
+-- - The second call of `poll_transmit` is in time (`IsTimely`), and before the nonce of the first reply
+--   expires.
 pub record IsFresh (plan : Plan) (w : World) : Type 0 where
   pub client : HasClient plan [] w (λ p. Begins plan.client p)
   pub room : HasRoom plan.client.config
@@ -74,59 +81,59 @@ pub record IsFresh (plan : Plan) (w : World) : Type 0 where
       ≡ Some plan.client.config.credentials.password
   pub hashes : HashesDiffer w.desk.auth
   pub timely : IsTimely plan
-  pub stands : plan.second < moment_after plan.client.made w.desk.auth.nonce_expiry
+  pub occurs : plan.second < time_after plan.client.made w.desk.auth.nonce_expiry
 
 -- ---- whether they come together
 
--- the strongest of the algorithms that both have
+-- The strongest of the algorithms in both lists.
 pub record IsStrongestOf (own others : List IntegrityAlgorithm) (chosen : IntegrityAlgorithm) : Type 0 where
   pub is_own : supports own chosen ≡ true
   pub is_other : supports others chosen ≡ true
   pub greatest : (algorithm : IntegrityAlgorithm) → supports own algorithm ≡ true → supports others algorithm ≡ true
       → is_stronger algorithm chosen ≡ false
 
--- they have none in common
+-- The lists have no algorithm in common.
 abbrev pub HaveNone : (own others : List IntegrityAlgorithm) → Type 0
 HaveNone own others =
     (algorithm : IntegrityAlgorithm) → supports own algorithm ≡ true → supports others algorithm ≡ true → ⊥
 
--- the client insists that its name is hidden, and the desk takes no hash of one
+-- The client requires that its name is hidden, and the server core accepts no hash of a name.
 abbrev pub MustShowName : (own other : Feature) → Type 0
 MustShowName own other = (own ≡ Required) × (other ≡ Disabled)
 
--- why they can't
+-- The reasons why client and server core can't come together.
 abbrev pub AreApart : Config → Server → Type 0
 AreApart config server =
     HaveNone config.algorithms server.algorithms ⊎ MustShowName config.anonymous_username server.anonymous_username
 
--- ---- what was told
+-- ---- what was reported
 
--- the event that an answer is, where it is one
+-- The event that a result reports, if it reports one.
 abbrev pub event_in : Answer → List TurnEvent
 event_in (answer.Event event) = event ∷ []
 event_in _ = []
 
--- the events that a run told, in order
+-- The events that a run reported, in order.
 abbrev pub events_in : List (Event × Answer) → List TurnEvent
 events_in pairs = flat_map (λ (pair : Event × Answer). event_in pair.1) pairs
 
--- these events were told, and what still waits makes them whole
-abbrev pub TellsWhole : (told whole : List TurnEvent) → Protocol → Type 0
-TellsWhole told whole p = told ++ p.events ≡ whole
+-- The reported events, followed by those that are still queued, are these.
+abbrev pub ReportsWhole : (reported whole : List TurnEvent) → Protocol → Type 0
+ReportsWhole reported whole p = reported ++ p.events ≡ whole
 
 -- ---- both cases
 
--- a request is sent by the client's transport, from its own address to the server's
+-- The request is sent over the client's transport, from its own address to the server's.
 pub record IsOwnSent (plan : Plan) (request : Sent) : Type 0 where
   pub transport : request.transport ≡ plan.client.transport
   pub from : request.from ≡ plan.client.here
   pub to : request.to ≡ plan.client.server
 
--- the key of the client's user in the desk's realm
+-- The key of the client's user in the server core's realm.
 abbrev pub key_in_realm : Plan → World → IntegrityAlgorithm → Key
 key_in_realm plan w algorithm = account_key plan.client.config.credentials w.desk.auth.realm algorithm
 
--- the one grant of that request
+-- The one grant for that request.
 abbrev pub allocation_granted : Plan → (request : List ℕ) → SocketAddr → (lifetime : ℕ) → Grant
 allocation_granted plan request address lifetime = record (bare_grant request plan.client.here) {
   transport = Some plan.client.config.transport;
@@ -134,10 +141,10 @@ allocation_granted plan request address lifetime = record (bare_grant request pl
   lifetime = Some lifetime;
 }
 
--- the client holds exactly that allocation, and tells of it once; the desk has granted it in answer to that request,
--- and nothing else; request and reply are right under the user's key in the desk's realm, by the strongest common
--- algorithm
-pub record IsAllocated (plan : Plan) (old : World) (told : List TurnEvent) (request : Sent) (address : SocketAddr)
+-- The client holds exactly that allocation, and reports it once. The server core has granted it in response
+-- to that request, and nothing else. Request and reply are valid under the user's key in the server core's
+-- realm, by the strongest common algorithm.
+pub record IsAllocated (plan : Plan) (old : World) (reported : List TurnEvent) (request : Sent) (address : SocketAddr)
     (lifetime : ℕ) (reply : List ℕ) (new : World) : Type 0 where
   pub together : AreApart plan.client.config old.desk.auth → ⊥
   pub algorithm : IntegrityAlgorithm
@@ -145,35 +152,36 @@ pub record IsAllocated (plan : Plan) (old : World) (told : List TurnEvent) (requ
   pub is_own : IsOwnSent plan request
   pub request_is_right : IsRight request.bytes (key_in_realm plan old algorithm)
   pub reply_is_right : IsRight reply (key_in_realm plan old algorithm)
-  pub held : HasClient plan [] new (λ p. (relayed_shown p.allocations ≡ (plan.client.config.transport, address) ∷ [])
-      × TellsWhole told (created plan.client address) p)
+  pub held : HasClient plan [] new (λ p. (relayed_listed p.allocations ≡ (plan.client.config.transport, address) ∷ [])
+      × ReportsWhole reported (created plan.client address) p)
   pub granted : new.desk.grants ≡ old.desk.grants ++ allocation_granted plan request.bytes address lifetime ∷ []
 
--- they can't come together: the client holds nothing, and tells of the failure; the desk has granted nothing; nothing
--- is drawn any more, and once the events are taken the client is closed
-pub record IsTurnedAway (plan : Plan) (old : World) (told : List TurnEvent) (new : World) : Type 0 where
+-- Client and server core can't come together. The client holds nothing and reports the failure; the server
+-- core has granted nothing. The client transmits nothing more, and once its events are polled it is closed.
+pub record CannotAgree (plan : Plan) (old : World) (reported : List TurnEvent) (new : World) : Type 0 where
   pub apart : AreApart plan.client.config old.desk.auth
-  pub held : HasClient plan [] new (λ p. (relayed_shown p.allocations ≡ []) × TellsWhole told (failures plan.client) p)
+  pub held : HasClient plan [] new (λ p. (relayed_listed p.allocations ≡ []) × ReportsWhole reported (failures plan.client) p)
   pub granted : new.desk.grants ≡ old.desk.grants
   pub quiet : (now : ℕ) (ret : Answer) (next : World) → now ≤ client_end → IsStep (Draw now) new ret next
       → ret ≡ answer.Nothing
-  pub closed : (now : ℕ) (ret : Answer) (next : World) → now ≤ client_end → told ≡ failures plan.client
+  pub closed : (now : ℕ) (ret : Answer) (next : World) → now ≤ client_end → reported ≡ failures plan.client
       → IsStep (Call call.Poll now) new ret next → ret ≡ answer.Closed
 
--- what holds where a script has come to a place: until the first reply has come no event is told; behind it, it is
--- either case, by whether the two can come together; the second request is drawn if and only if they can; and each
--- request that is drawn is sent from the client's own address to the server's
-abbrev pub HasCome : Plan → World → List TurnEvent → Place → World → Type 0
-HasCome plan old told Start new = told ≡ []
-HasCome plan old told (Asked request) new = (told ≡ []) × IsOwnSent plan request
-HasCome plan old told (Challenged request reply front) new = told ≡ []
-HasCome plan old told Came new = (AreApart plan.client.config old.desk.auth → IsTurnedAway plan old told new)
-    × ((AreApart plan.client.config old.desk.auth → ⊥) → told ≡ [])
-HasCome plan old told (Signed request) new =
-    (AreApart plan.client.config old.desk.auth → ⊥) × (told ≡ []) × IsOwnSent plan request
-HasCome plan old told (Granted request address lifetime reply front) new =
-    (AreApart plan.client.config old.desk.auth → ⊥) × (told ≡ [])
-HasCome plan old told (Done request address lifetime reply) new =
-    IsAllocated plan old told request address lifetime reply new
-HasCome plan old told Barred new = IsTurnedAway plan old told new
-HasCome plan old told Silent new = ⊥
+-- What holds when a script has reached a position. Until the first reply has come, no event is reported.
+-- After that it is one of two cases, by whether the two can come together. The second request is transmitted
+-- if and only if they can. Each request that is transmitted is sent from the client's own address to the
+-- server's.
+abbrev pub HasCome : Plan → World → List TurnEvent → Progress → World → Type 0
+HasCome plan old reported Start new = reported ≡ []
+HasCome plan old reported (Requested request) new = (reported ≡ []) × IsOwnSent plan request
+HasCome plan old reported (Challenged request reply head) new = reported ≡ []
+HasCome plan old reported Came new = (AreApart plan.client.config old.desk.auth → CannotAgree plan old reported new)
+    × ((AreApart plan.client.config old.desk.auth → ⊥) → reported ≡ [])
+HasCome plan old reported (Signed request) new =
+    (AreApart plan.client.config old.desk.auth → ⊥) × (reported ≡ []) × IsOwnSent plan request
+HasCome plan old reported (Granted request address lifetime reply head) new =
+    (AreApart plan.client.config old.desk.auth → ⊥) × (reported ≡ [])
+HasCome plan old reported (Done request address lifetime reply) new =
+    IsAllocated plan old reported request address lifetime reply new
+HasCome plan old reported Barred new = CannotAgree plan old reported new
+HasCome plan old reported Silent new = ⊥

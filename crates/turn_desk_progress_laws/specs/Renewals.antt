@@ -8,8 +8,8 @@ use Rattle.turn_desk_core.specs.StunTypesWire.declared.class.MessageClass.TheVar
 use Rattle.turn_desk_core.specs.StunTypesWire.Types.{class_of, method_of}
 use Rattle.turn_client_proto_messages.specs.StunProtoClient.Digests.{IsRight}
 use Rattle.turn_desk_core.specs.TurnTypesAttributes.TurnRegistry.{lifetime_kind, refresh_method}
-use Rattle.turn_desk_core.specs.TurnTypesPeer.TurnShows.{number_shown}
-use Rattle.turn_client_proto_messages.specs.Allocation.Listed.{relayed_shown}
+use Rattle.turn_desk_core.specs.TurnTypesPeer.TurnShows.{number_visible}
+use Rattle.turn_client_proto_messages.specs.Allocation.Listed.{relayed_listed}
 use Rattle.turn_client_proto_api.specs.Sent.{Sent}
 use Rattle.turn_client_proto_messages.specs.Requests.{allocation_lifetime}
 use Rattle.turn_desk_world_laws.specs.World.Model.{World}
@@ -17,41 +17,42 @@ use Rattle.turn_desk_progress_laws.specs.Promises.{HasClient, IsOwnSent, IsStron
 use Rattle.turn_desk_progress_laws.specs.Scripts.{Plan}
 use Rattle.turn_desk_progress_laws.specs.Turns.{Turn, Watch, Watching, Refreshing, Renewing, Off, due}
 
--- the client holds exactly the allocation of that address
-abbrev pub HoldsStill : Plan → SocketAddr → (front : List ℕ) → World → Type 0
-HoldsStill plan address front w =
-    HasClient plan front w (λ p. relayed_shown p.allocations ≡ (plan.client.config.transport, address) ∷ [])
+-- The client holds exactly the allocation with that address.
+abbrev pub HoldsStill : Plan → SocketAddr → (head : List ℕ) → World → Type 0
+HoldsStill plan address head w =
+    HasClient plan head w (λ p. relayed_listed p.allocations ≡ (plan.client.config.transport, address) ∷ [])
 
--- one moment is before another, or not behind it
-abbrev pub IsBefore : (strictly : Bool) → (now moment : ℕ) → Type 0
-IsBefore true now moment = now < moment
-IsBefore false now moment = now ≤ moment
+-- `now` is before `time`; or, if not `strictly`, it may also be equal.
+abbrev pub IsBefore : (strictly : Bool) → (now time : ℕ) → Type 0
+IsBefore true now time = now < time
+IsBefore false now time = now ≤ time
 
--- no REFRESH was sent: one other message at most
+-- No REFRESH was transmitted, and at most one other message.
 abbrev pub AreEarly : List Sent → Type 0
 AreEarly [] = Unit {0}
 AreEarly (sent ∷ []) = method_of (kind_at sent.bytes) ≢ refresh_method
 AreEarly (sent ∷ other ∷ others) = ⊥
 
--- the allocation is held. Nothing that the client awaits is behind the minute before the end, and if it awaits that
--- moment, something is to be drawn then. No REFRESH was sent before
+-- The allocation is held. The client waits for no time later than a minute before the end; and if it waits
+-- for that time, there is something to transmit then. No REFRESH was transmitted before.
 pub record IsHeldOn (plan : Plan) (address : SocketAddr) (s : Watch) (w : World) : Type 0 where
   pub held : HoldsStill plan address [] w
-  pub by_due : IsBefore s.drawn s.until (due s.from s.lifetime)
+  pub by_due : IsBefore s.transmitted s.until (due s.from s.lifetime)
   pub early : AreEarly s.early
 
--- a message is a REFRESH, which asks for a lifetime, and right under the user's key in the desk's realm, by the
--- strongest common algorithm
+-- The message is a REFRESH that requests a lifetime, valid under the user's key in the server core's realm,
+-- by the strongest common algorithm.
 pub record IsOwnRefresh (plan : Plan) (old : World) (bytes : List ℕ) : Type 0 where
   pub message : refusal bytes ≡ None
   pub request : class_of (kind_at bytes) ≡ Request
   pub method : method_of (kind_at bytes) ≡ refresh_method
-  pub lifetime : number_shown 4 lifetime_kind bytes ≡ Some allocation_lifetime
+  pub lifetime : number_visible 4 lifetime_kind bytes ≡ Some allocation_lifetime
   pub algorithm : IntegrityAlgorithm
   pub strongest : IsStrongestOf plan.client.config.algorithms old.desk.auth.algorithms algorithm
   pub right : IsRight bytes (key_in_realm plan old algorithm)
 
--- it is sent a minute before the end, from the client's own address to the server's, and the allocation is held
+-- It is transmitted a minute before the end, from the client's own address to the server's, and the
+-- allocation is held.
 pub record IsSentInTime (plan : Plan) (old : World) (address : SocketAddr) (request : Sent) (from lifetime now : ℕ)
     (w : World) : Type 0 where
   pub held : HoldsStill plan address [] w
@@ -59,10 +60,10 @@ pub record IsSentInTime (plan : Plan) (old : World) (address : SocketAddr) (requ
   pub is_own : IsOwnSent plan request
   pub refresh : IsOwnRefresh plan old request.bytes
 
--- what holds where a client was driven to a turn
+-- What holds when a client was driven to a turn.
 abbrev pub HasRenewed : Plan → World → SocketAddr → Turn → World → Type 0
 HasRenewed plan old address (Watching s) w = IsHeldOn plan address s w
 HasRenewed plan old address (Refreshing request from lifetime now) w =
     IsSentInTime plan old address request from lifetime now w
-HasRenewed plan old address (Renewing request reply front lifetime now) w = HoldsStill plan address front w
+HasRenewed plan old address (Renewing request reply head lifetime now) w = HoldsStill plan address head w
 HasRenewed plan old address Off w = ⊥

@@ -1,4 +1,4 @@
--- What is held then, and given (RFC 8656, sections 10.3, 11.3, 12.3 and 12.6).
+-- What is then held, and delivered (RFC 8656, sections 10.3, 11.3, 12.3 and 12.6).
 use Rattle.std.specs.Prelude.{◌≡◌, ℕ, true, List, [], Vec}
 use Rattle.std.specs.Net.Socket.{socket_ip}
 use Rattle.std.specs.declared.alloc.Global.{Global}
@@ -17,14 +17,14 @@ use Rattle.turn_desk_event.specs.declared.event.Event.TheVariants.{ToClient}
 use Rattle.turn_desk_progress_laws.specs.Promises.{HasClient}
 use Rattle.turn_desk_progress_laws.specs.Scripts.{Plan}
 
--- a payload of a peer is what is answered
+-- The result is this payload from this peer.
 pub record IsAnsweredBy (plan : Plan) (peer : SocketAddr) (payload : List ℕ) (ret : Answer) : Type 0 where
   pub given : PeerPayload
   pub answer_is : ret ≡ answer.Peer given
   pub is : IsPayloadOf plan.client.config.transport peer payload given
 
--- the client has a permission for an address; and over UDP an indication of a peer with that address, which comes next
--- from the server's address to the client's, is answered by the data that it shows
+-- The client has a permission for this IP address. Over UDP, if an indication of a peer with this address
+-- comes next from the server's address to the client's, the result is the data that it shows.
 pub record IsPermissionHeld (plan : Plan) (ip : IpAddr) (now : ℕ) (w : World) : Type 0 where
   pub held : HasClient plan [] w (λ p. has_permission plan.client.config.transport ip p ≡ true)
   pub used : (peer : SocketAddr) (payload : List ℕ) (bytes : Vec ℕ Global) (ret : Answer) (next : World)
@@ -32,8 +32,8 @@ pub record IsPermissionHeld (plan : Plan) (ip : IpAddr) (now : ℕ) (w : World) 
       → IsStep (ToClient bytes plan.client.server plan.client.here now) w ret next
       → IsAnsweredBy plan peer payload ret
 
--- the client shows a channel to a peer; and over UDP a frame of that channel, which comes next from the server's
--- address to the client's, is answered by its data
+-- The client lists a channel to this peer. Over UDP, if a frame of this channel comes next from the server's
+-- address to the client's, the result is its data.
 pub record IsChannelHeld (plan : Plan) (peer : SocketAddr) (now : ℕ) (w : World) : Type 0 where
   pub number : ℕ
   pub held : HasClient plan [] w (λ p. IsIn (number, peer) (channels_of p))

@@ -1,4 +1,4 @@
--- How a world stands while a client renews its allocation.
+-- The state of the simulation while a client renews its allocation.
 use Rattle.std.specs.Prelude.{◌≡◌, ◌⊎◌, ◌≤◌, ◌<◌, ◌+◌, ◌^◌, ◌++◌, ℕ, Bool, true, false, List, [], ◌∷◌, Some}
 use Rattle.std.specs.FinMap as map
 use Rattle.std.specs.declared.net.socket_addr.SocketAddr.{SocketAddr}
@@ -23,27 +23,28 @@ use Rattle.turn_desk_progress_laws.specs.Turns.{Turn, Watch, Watching, Refreshin
 
 -- ---- what stays so
 
--- a desk has the client's user, in the realm of the one of which the run began, and no two users with the same hash
+-- The server core has the client's user, the realm that it had when the run began, and no two users with the
+-- same hash.
 pub record IsServing (plan : Plan) (old desk : State) : Type 0 where
   pub realm : desk.auth.realm ≡ old.auth.realm
   pub user : map.get desk.auth.users plan.client.config.credentials.username
       ≡ Some plan.client.config.credentials.password
   pub hashes : HashesDiffer desk.auth
 
--- the client has answered a challenge of that desk's
+-- The client has answered a challenge of that server core.
 pub record IsAgreed (plan : Plan) (old : State) (c : Choice) : Type 0 where
   pub chosen : IsChoice plan.client c
-  pub answered : IsAnsweredBy plan.client.config c.told c.algorithm
-  pub of : IsOfSettings old.auth c.told
+  pub answered : IsAnsweredBy plan.client.config c.reported c.algorithm
+  pub of : IsOfSettings old.auth c.reported
 
--- what waits to be sent: nothing, or the signed ALLOCATE once more
+-- Nothing is queued, or only the signed ALLOCATE once more.
 abbrev pub IsLeft : Plan → Choice → List Queued → Type 0
 IsLeft plan c queue = (queue ≡ []) ⊎ (queue ≡ signed_queued plan.client c ∷ [])
 
--- ---- behind the handshake
+-- ---- after the handshake
 
--- the client holds what it was granted at the second draw
-pub record IsHolding (plan : Plan) (old : World) (told : List TurnEvent) (address : SocketAddr) (lifetime : ℕ)
+-- The client holds what it was granted at the second call of `poll_transmit`.
+pub record IsHolding (plan : Plan) (old : World) (reported : List TurnEvent) (address : SocketAddr) (lifetime : ℕ)
     (w : World) : Type 0 where
   pub choice : Choice
   pub agreed : IsAgreed plan old.desk choice
@@ -52,32 +53,32 @@ pub record IsHolding (plan : Plan) (old : World) (told : List TurnEvent) (addres
   pub queue : List Queued
   pub left : IsLeft plan choice queue
   pub events : List TurnEvent
-  pub tells : told ++ events ≡ created plan.client address
+  pub decodes : reported ++ events ≡ created plan.client address
   pub client : HasClient plan [] w
       (λ p. Holds plan.client choice address lifetime plan.second plan.second queue events p)
 
 -- ---- at each turn
 
--- no event waits, where that was told
-abbrev pub IsTold : Bool → List TurnEvent → Type 0
-IsTold true events = events ≡ []
-IsTold false events = Unit {0}
+-- No event is queued, if that was reported.
+abbrev pub IsReported : Bool → List TurnEvent → Type 0
+IsReported true events = events ≡ []
+IsReported false events = Unit {0}
 
--- what waits, and what was sent before, are one message at most
+-- What is queued and what was transmitted before are one message at most.
 abbrev pub IsLeftOf : Plan → Choice → List Queued → List Sent → Type 0
 IsLeftOf plan c [] early = AreEarly early
 IsLeftOf plan c (one ∷ rest) early = (one ≡ signed_queued plan.client c) × (rest ≡ []) × (early ≡ [])
 
--- it is sent in time: each 50 ms behind the last
+-- The time that the queued messages take: each is transmitted 50 ms after the last.
 abbrev pub room_of : List Queued → ℕ
 room_of [] = cadence
 room_of (one ∷ rest) = cadence + room_of rest
 
--- granted first for so many seconds, and last so
+-- The term of an allocation: the seconds that were granted first and last, and the time of the last grant.
 abbrev pub term_of : (first from lifetime : ℕ) → Term
 term_of first from lifetime = record { first = first; lifetime = lifetime; from = from }
 
--- the client keeps the allocation
+-- The client keeps the allocation.
 pub record IsWatched (plan : Plan) (old : World) (address : SocketAddr) (s : Watch) (w : World) : Type 0 where
   pub choice : Choice
   pub agreed : IsAgreed plan old.desk choice
@@ -88,15 +89,15 @@ pub record IsWatched (plan : Plan) (old : World) (address : SocketAddr) (s : Wat
   pub queue : List Queued
   pub rested : last + room_of queue ≤ due_of (term_of first s.from s.lifetime)
   pub left : IsLeftOf plan choice queue s.early
-  pub until : IsBefore s.drawn s.until (next_of (term_of first s.from s.lifetime) last queue)
+  pub until : IsBefore s.transmitted s.until (next_of (term_of first s.from s.lifetime) last queue)
   pub events : List TurnEvent
-  pub told : IsTold s.told events
+  pub reported : IsReported s.reported events
   pub client : HasClient plan [] w
       (λ p. IsKeeping plan.client choice address (term_of first s.from s.lifetime) last queue events p)
 
--- it has sent a REFRESH, to which so much of a reply has come
+-- It has transmitted a REFRESH, and these first bytes of a reply have come.
 pub record IsAwaiting (plan : Plan) (old : World) (address : SocketAddr) (request : Sent) (from lifetime now : ℕ)
-    (front : List ℕ) (w : World) : Type 0 where
+    (head : List ℕ) (w : World) : Type 0 where
   pub choice : Choice
   pub agreed : IsAgreed plan old.desk choice
   pub serving : IsServing plan old.desk w.desk
@@ -109,25 +110,25 @@ pub record IsAwaiting (plan : Plan) (old : World) (address : SocketAddr) (reques
   pub request_is : request ≡ refresh_sent plan.client choice number now
   pub many : ℕ
   pub events : List TurnEvent
-  pub client : HasClient plan front w
+  pub client : HasClient plan head w
       (λ p. IsRefreshing plan.client choice address (term_of first from lifetime) number now many now events p)
 
--- the desk has granted it, and this front of its reply has come
-pub record IsAnswered (plan : Plan) (old : World) (address : SocketAddr) (request : Sent) (reply front : List ℕ)
+-- The server core has granted the REFRESH, and these first bytes of its reply have come.
+pub record IsAnswered (plan : Plan) (old : World) (address : SocketAddr) (request : Sent) (reply head : List ℕ)
     (lifetime now : ℕ) (w : World) : Type 0 where
   pub from : ℕ
   pub before : ℕ
-  pub awaits : IsAwaiting plan old address request from before now front w
+  pub awaits : IsAwaiting plan old address request from before now head w
   pub enough : least ≤ lifetime
   pub fits : lifetime < 2 ^ 32
-  pub part : IsPartOf front reply
+  pub part : IsPartOf head reply
   pub renewal : IsRenewal plan.client awaits.choice awaits.number lifetime reply
 
--- how a world stands at a turn
-abbrev pub StandsAt : Plan → World → SocketAddr → Turn → World → Type 0
-StandsAt plan old address (Watching s) w = IsWatched plan old address s w
-StandsAt plan old address (Refreshing request from lifetime now) w =
+-- The state of the simulation at a turn.
+abbrev pub IsAtStep : Plan → World → SocketAddr → Turn → World → Type 0
+IsAtStep plan old address (Watching s) w = IsWatched plan old address s w
+IsAtStep plan old address (Refreshing request from lifetime now) w =
     IsAwaiting plan old address request from lifetime now [] w
-StandsAt plan old address (Renewing request reply front lifetime now) w =
-    IsAnswered plan old address request reply front lifetime now w
-StandsAt plan old address Off w = ⊥
+IsAtStep plan old address (Renewing request reply head lifetime now) w =
+    IsAnswered plan old address request reply head lifetime now w
+IsAtStep plan old address Off w = ⊥

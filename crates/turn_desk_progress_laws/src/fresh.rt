@@ -1,26 +1,32 @@
-//! A world in which an honest run begins.
+//! A simulation in which an honest run begins.
 
 ghost use Rattle.std.specs.FinMap as map;
 ghost use Rattle.std.specs.Prelude.{◌≡◌, ◌≤◌, ◌<◌, ℕ, List, [], None, Some, length};
 ghost use Rattle.std.specs.declared.net.socket_addr.SocketAddr.{SocketAddr};
-ghost use Rattle.turn_desk_core.specs.StunTypesBase.Moments.{moment_after};
+ghost use Rattle.turn_desk_core.specs.StunTypesBase.Times.{time_after};
 ghost use Rattle.turn_desk_core.specs.StunProtoServer.Users.{HashesDiffer};
 ghost use Rattle.turn_desk_core.specs.StunTypesWire.Registry.{longest_username};
 ghost use Rattle.turn_desk_core.specs.StunTypesBase.declared.transport.TransportType.{TransportType};
 ghost use Rattle.turn_client_proto_handshake_laws.specs.Core.Beginning.{IsNew};
-ghost use Rattle.turn_client_proto_step_laws.specs.Recv.Kept.{Protocol};
+ghost use Rattle.turn_client_proto_step_laws.specs.Recv.ClientState.{Protocol};
 ghost use Rattle.turn_desk_world_laws.specs.World.Model.{World};
 ghost use Rattle.turn_desk_progress_laws.specs.Promises.{IsFresh, IsTimely, control_at, over};
 ghost use Rattle.turn_desk_progress_laws.specs.Scripts.{plan_over};
 
 use turn_client_proto_api::config::TurnConfig;
-use turn_client_proto_messages::laws::{names_are_texts, requests_are_lawful};
+use turn_client_proto_messages::laws::{names_are_texts, proof_requests_are_lawful};
 use turn_client_proto_messages::request::TurnRequest;
 
-/// An honest run begins in a world of a client as `TurnClientUdp::allocate`, or `TurnClientTcp::allocate`, makes
-/// it of these settings, with a name that has room in a request (RFC 8489, section 14.3), and of a desk that has
-/// the client's user and keeps nothing for its address: whatever the moments of the client's two draws are, where
-/// they fit.
+/// An honest run can begin (`IsFresh`) in a simulation with:
+///
+/// - a client as `TurnClientUdp::allocate` or `TurnClientTcp::allocate` makes it of these settings,
+///   whose user name fits into a request (RFC 8489, section 14.3)
+/// - a server core that has the client's user, stores nothing for the client's address, and has no
+///   two users with the same USERHASH
+///
+/// The times `made` and `second` of the client's two calls of `poll_transmit` may be any with these
+/// limits: the second is at least 50 ms after the first, is a time at which a client can be called,
+/// and is before the nonce of the first reply expires.
 pub fn worlds_begin_fresh(config: &TurnConfig)
     ensures { (transport : TransportType) (local remote : SocketAddr) (seed : List ℕ)
         (made second : ℕ) (core : Protocol) (w : World)
@@ -32,10 +38,10 @@ pub fn worlds_begin_fresh(config: &TurnConfig)
         ≡ Some config.now.credentials.password
         → HashesDiffer w.desk.auth
         → IsTimely (plan_over transport local remote config.now seed made second)
-        → second < moment_after made w.desk.auth.nonce_expiry
+        → second < time_after made w.desk.auth.nonce_expiry
         → IsFresh (plan_over transport local remote config.now seed made second) w }
 {
     names_are_texts(config);
     let allocates = config.allocation_transport();
-    requests_are_lawful(&TurnRequest::FirstAllocate(allocates, config.requested_families()));
+    proof_requests_are_lawful(&TurnRequest::FirstAllocate(allocates, config.requested_families()));
 }

@@ -1,12 +1,14 @@
-//! A client and a desk over an honest network, by UDP or TCP: the client draws twice, and each message is
-//! delivered once, unaltered (RFC 8489, section 9.2; RFC 8656, sections 7.1 to 7.4). Then the client holds
-//! exactly the allocation that was decided, and the desk has granted it; or the two can't come together, and
-//! neither has ([`honest_runs_allocate`]). The functions do nothing; each contract is a law on a world of both.
+//! A client and a server core over an honest network, over UDP or TCP: the client transmits twice,
+//! and each message is delivered once, unaltered (RFC 8489, section 9.2; RFC 8656, sections 7.1 to
+//! 7.4). Then the client holds exactly the allocation that was decided, and the server core has
+//! granted it. Or the two can't come together, and neither has ([`honest_runs_allocate`]). The
+//! functions do nothing; each contract is a theorem on a simulation of both.
 //!
-//! `specs/Scripts.antt` has what an honest network does, by places that a run passes; no answer is taken for
-//! granted there, but that what is drawn and what is replied are bytes to deliver. `specs/Promises.antt` has
-//! where it begins, and what it comes to. How the world stands at each place is in `specs/Standing.antt`, and
-//! there is a law here for each event that leads from one place to another.
+//! - `specs/Scripts.antt` says what an honest network does, by positions that a run passes. It
+//!   presumes no result, except that what is transmitted and what is replied are bytes to deliver.
+//! - `specs/Promises.antt` says where a run begins, and what it comes to.
+//! - `specs/Standing.antt` has the state of the simulation at each position. For each event that
+//!   leads from one position to another there is a theorem here.
 
 ghost use Rattle.std.specs.Prelude.{◌≡◌, ◌≢◌, ◌++◌, ◌<◌, ◌≤◌, List, [], ◌∷◌, Vec, ℕ};
 ghost use Rattle.std.specs.declared.alloc.Global.{Global};
@@ -30,84 +32,99 @@ ghost use Rattle.turn_desk_event.specs.declared.event.Event.TheVariants.{ToClien
 ghost use Rattle.turn_desk_world_laws.specs.World.Model.{World};
 ghost use Rattle.turn_desk_world_laws.specs.World.Runs.{IsRun, IsStep};
 ghost use Rattle.turn_desk_progress_laws.specs.Promises.{HasCome, IsFresh, event_in, events_in};
-ghost use Rattle.turn_desk_progress_laws.specs.Scripts.{Asked, Barred, BringsOn, Came, Challenged};
+ghost use Rattle.turn_desk_progress_laws.specs.Scripts.{Requested, Barred, BringsOn, Came, Challenged};
 ghost use Rattle.turn_desk_progress_laws.specs.Scripts.{Done, Follows, Granted, IsCut, IsLook, IsPolledAt, IsScript};
-ghost use Rattle.turn_desk_progress_laws.specs.Scripts.{Place, Plan, Signed, Start, brought_first};
-ghost use Rattle.turn_desk_progress_laws.specs.Scripts.{brought_second, drawn_first, drawn_second};
+ghost use Rattle.turn_desk_progress_laws.specs.Scripts.{Progress, Plan, Signed, Start, brought_first};
+ghost use Rattle.turn_desk_progress_laws.specs.Scripts.{brought_second, transmitted_first, transmitted_second};
 ghost use Rattle.turn_desk_progress_laws.specs.Scripts.{given, replied_first, replied_second};
-ghost use Rattle.turn_desk_progress_laws.specs.Standing.{IsOver, Stands};
+ghost use Rattle.turn_desk_progress_laws.specs.Standing.{IsOver, IsAtStage};
 
 use turn_client_proto_handshake_laws::stages::{
     asking_clients_wait, challenges_are_answered, chosen_clients_sign, ended_clients_rest,
     granted_clients_hold, messages_reach_clients, new_clients_ask, signed_allocates_answer,
-    signed_clients_wait, stages_are_told, stages_are_unserved,
+    signed_clients_wait, stages_are_reported, stages_are_unserved,
 };
-use turn_client_proto_messages::laws::requests_are_read;
-use turn_client_proto_step_laws::told::messages_are_told_alike;
+use turn_client_proto_messages::laws::proof_requests_are_read;
+use turn_client_proto_step_laws::reported::messages_are_reported_alike;
 use turn_desk_core::decision;
 use turn_desk_event::event;
 use turn_desk_step_laws::handshakes::{
     first_requests_are_challenged as desk_challenges, signed_allocates_are_granted,
     successes_are_right,
 };
-use turn_desk_world_laws::laws::relayed_addresses_are_told;
+use turn_desk_world_laws::laws::relayed_addresses_are_reported;
 
-/// A new client, over UDP or TCP, whose user a desk has, at an address of which the desk keeps nothing, is
-/// drawn. What it sends reaches the desk unaltered from where it was sent, and the desk's reply reaches the
-/// client unaltered, all at that moment: over UDP in one datagram, over TCP in pieces, wherever it is cut
-/// ([`cuts_are_honest`]; RFC 8489, section 6.2.2). At least 50 ms later, before the desk's nonce expires, the
-/// client is drawn again; what it sends and what the desk replies is delivered so, too, and the desk is told to
-/// allocate an address of the one family that the client asks for, without flow information and scope. All
-/// along, between the pieces of a reply, too, the client's events may be taken, and it may be asked what it
-/// holds and what has come of its peers; and until all of its second reply has come it may be polled, before
-/// its first request would be given up if it were not answered.
+/// A new client gets its allocation over an honest network, or the two sides can't come together.
 ///
-/// Then the client holds exactly that allocation, and one event tells so; the desk has granted it in answer to
-/// that request, and nothing else; and request and reply are right under the key of the user in the desk's
-/// realm, by the strongest algorithm that both have (`IsAllocated`). So it is if and only if they have an
-/// algorithm in common, and the client's name need not be hidden from a desk that takes no hash of a name.
-/// Else the client has ended behind the first reply: it draws nothing, holds nothing and is granted nothing,
-/// its events tell that no address was allocated, and once these are taken it is closed (`IsTurnedAway`). The
-/// first draw always gives a request, and the desk replies to each. No two of its users have the same hash
-/// (RFC 8489, section 14.4).
+/// # Premises
 ///
-/// What the desk is told to decide for the first request makes no difference, nor what words its nonce is
-/// drawn from, nor how short the client's waits are. Where memory was refused there is no such run.
+/// At first (`IsFresh`) the client is new, over UDP or TCP. The server core has its user, stores
+/// nothing for its address, and has no two users with the same hash (RFC 8489, section 14.4). Then
+/// (`IsScript`):
 ///
-/// How client and desk stand then, for what comes next, says `stands`.
+/// 1. `poll_transmit` is called. What the client transmits reaches the server core unaltered, from
+///    where it was sent. The server core's reply reaches the client unaltered. All this is at one
+///    time. Over UDP the reply is one datagram; over TCP it comes in chunks, wherever it is cut
+///    ([`cuts_are_honest`]; RFC 8489, section 6.2.2).
+/// 2. At least 50 ms later, before the server core's nonce expires, `poll_transmit` is called
+///    again. The message and the reply are delivered in the same way. The decision is to allocate
+///    an address of the one family that the client requests, without flow information and scope.
+///
+/// At any time, between the chunks of a reply too, the client's events may be polled, and its
+/// getters and `poll_recv` called. Until all of the second reply has come, `poll` may be called,
+/// before the time at which the first request would be given up if it were not answered.
+///
+/// # Conclusions
+///
+/// `promised`: The first call of `poll_transmit` always gives a request, and the server core
+/// replies to each request.
+///
+/// - If client and server core have an algorithm in common, and the client doesn't require a hidden
+///   name of a server core that accepts no hash of a name (`IsAllocated`): the client holds exactly
+///   that allocation, and one event reports it. The server core has granted it in response to that
+///   request, and nothing else. Request and reply are valid under the user's key in the server
+///   core's realm, by the strongest common algorithm.
+/// - Otherwise (`CannotAgree`): the client has ended after the first reply. It transmits
+///   nothing, holds nothing and is granted nothing. Its events report that no address was
+///   allocated, and once these are polled it is closed.
+///
+/// `occurs`: The state of client and server core at each position, for what comes next.
+///
+/// The decision for the first request makes no difference, nor do the words from which the nonce is
+/// generated, nor the lengths of the client's waits. A run that ran out of memory is no such run.
 pub fn honest_runs_allocate()
     ensures promised { (plan : Plan) (old new : World) (pairs : List (Event × Answer))
-        (place : Place)
+        (progress : Progress)
         → IsFresh plan old
         → IsRun old pairs new
-        → IsScript plan Start pairs place
-        → HasCome plan old (events_in pairs) place new }
-    ensures stands { (plan : Plan) (old new : World) (pairs : List (Event × Answer))
-        (place : Place)
+        → IsScript plan Start pairs progress
+        → HasCome plan old (events_in pairs) progress new }
+    ensures occurs { (plan : Plan) (old new : World) (pairs : List (Event × Answer))
+        (progress : Progress)
         → IsFresh plan old
         → IsRun old pairs new
-        → IsScript plan Start pairs place
-        → Stands plan old (events_in pairs) place new }
+        → IsScript plan Start pairs progress
+        → IsAtStage plan old (events_in pairs) progress new }
 {
     events_lead_on();
     ended_worlds_rest();
 }
 
-/// What comes at a place of an honest network leads a world from how it stands there to how it stands at the
-/// place behind it.
+/// What an honest network does at a position leads from the simulation's state at that position to
+/// its state at the next one.
 pub fn events_lead_on()
-    ensures { (plan : Plan) (old w v : World) (told : List TurnEvent) (place next : Place)
+    ensures { (plan : Plan) (old w v : World) (reported : List TurnEvent) (progress next : Progress)
         (event : Event) (ret : Answer)
         → IsFresh plan old
-        → Follows plan place event ret next
-        → Stands plan old told place w
+        → Follows plan progress event ret next
+        → IsAtStage plan old reported progress w
         → IsStep event w ret v
-        → Stands plan old (told ++ event_in ret) next v }
+        → IsAtStage plan old (reported ++ event_in ret) next v }
 {
-    first_requests_are_drawn();
+    first_requests_are_transmitted();
     first_requests_are_challenged();
     first_replies_are_taken();
-    second_requests_are_drawn();
+    second_requests_are_transmitted();
     second_requests_are_granted();
     second_replies_are_taken();
     worlds_stand_still();
@@ -115,44 +132,44 @@ pub fn events_lead_on()
     ended_worlds_rest();
 }
 
-/// The first draw gives the first request: an ALLOCATE without credentials, from the client's own address to
-/// the server's (RFC 8656, section 7.1).
-pub fn first_requests_are_drawn()
-    ensures { (plan : Plan) (old w v : World) (told : List TurnEvent) (ret : Answer)
+/// The first call of `poll_transmit` gives the first request: an ALLOCATE without credentials, from
+/// the client's own address to the server's (RFC 8656, section 7.1).
+pub fn first_requests_are_transmitted()
+    ensures { (plan : Plan) (old w v : World) (reported : List TurnEvent) (ret : Answer)
         → IsFresh plan old
-        → Stands plan old told Start w
+        → IsAtStage plan old reported Start w
         → IsStep (Draw plan.client.made) w ret v
-        → Stands plan old (told ++ event_in ret) (drawn_first ret) v }
+        → IsAtStage plan old (reported ++ event_in ret) (transmitted_first ret) v }
 {
     new_clients_ask();
 }
 
-/// The desk replies to it by a challenge, whatever is decided (RFC 8489, section 9.2.4).
+/// The server core replies to it with a challenge, whatever is decided (RFC 8489, section 9.2.4).
 pub fn first_requests_are_challenged()
-    ensures { (plan : Plan) (old w v : World) (told : List TurnEvent) (ret : Answer)
+    ensures { (plan : Plan) (old w v : World) (reported : List TurnEvent) (ret : Answer)
         (request : Sent) (bytes : Vec ℕ Global) (decision : Decision) (seed : List ℕ)
         → IsFresh plan old
-        → Stands plan old told (Asked request) w
+        → IsAtStage plan old reported (Requested request) w
         → bytes.items ≡ request.bytes
         → IsStep (ToDesk bytes request.from plan.client.made decision seed) w ret v
-        → Stands plan old (told ++ event_in ret) (replied_first request ret) v }
+        → IsAtStage plan old (reported ++ event_in ret) (replied_first request ret) v }
 {
-    requests_are_read();
+    proof_requests_are_read();
     new_clients_ask();
     desk_challenges();
 }
 
-/// The client takes the challenge up as it comes. Once all of it has come the client answers it, or it ends
-/// (RFC 8489, section 9.2.5).
+/// The client handles the challenge as it comes. Once all of it has come, the client answers it or
+/// ends (RFC 8489, section 9.2.5).
 pub fn first_replies_are_taken()
-    ensures { (plan : Plan) (old w v : World) (told : List TurnEvent) (ret : Answer)
-        (request : Sent) (reply front rest : List ℕ) (bytes : Vec ℕ Global)
+    ensures { (plan : Plan) (old w v : World) (reported : List TurnEvent) (ret : Answer)
+        (request : Sent) (reply head rest : List ℕ) (bytes : Vec ℕ Global)
         → IsFresh plan old
-        → Stands plan old told (Challenged request reply front) w
-        → BringsOn plan.client.transport reply front bytes.items rest
+        → IsAtStage plan old reported (Challenged request reply head) w
+        → BringsOn plan.client.transport reply head bytes.items rest
         → IsStep (ToClient bytes request.to request.from plan.client.made) w ret v
-        → Stands plan old (told ++ event_in ret)
-        (brought_first request reply (front ++ bytes.items) rest) v }
+        → IsAtStage plan old (reported ++ event_in ret)
+        (brought_first request reply (head ++ bytes.items) rest) v }
 {
     new_clients_ask();
     challenges_are_answered();
@@ -160,136 +177,138 @@ pub fn first_replies_are_taken()
     messages_reach_clients::<&[u8]>();
 }
 
-/// The second draw gives the signed request, where the client has answered; and nothing, where it has ended.
-pub fn second_requests_are_drawn()
-    ensures { (plan : Plan) (old w v : World) (told : List TurnEvent) (ret : Answer)
+/// The second call of `poll_transmit` gives the signed request if the client has answered the
+/// challenge, and nothing if it has ended.
+pub fn second_requests_are_transmitted()
+    ensures { (plan : Plan) (old w v : World) (reported : List TurnEvent) (ret : Answer)
         → IsFresh plan old
-        → Stands plan old told Came w
+        → IsAtStage plan old reported Came w
         → IsStep (Draw plan.second) w ret v
-        → Stands plan old (told ++ event_in ret) (drawn_second ret) v }
+        → IsAtStage plan old (reported ++ event_in ret) (transmitted_second ret) v }
 {
     asking_clients_wait();
     chosen_clients_sign();
     ended_clients_rest();
 }
 
-/// The desk takes the signed request for its user's, and grants the address that was decided (RFC 8656,
-/// section 7.2).
+/// The server core accepts the signed request as its user's, and grants the address that was
+/// decided (RFC 8656, section 7.2).
 pub fn second_requests_are_granted()
-    ensures { (plan : Plan) (old w v : World) (told : List TurnEvent) (ret : Answer)
+    ensures { (plan : Plan) (old w v : World) (reported : List TurnEvent) (ret : Answer)
         (request : Sent) (bytes : Vec ℕ Global) (address : SocketAddr) (lifetime : ℕ)
         (seed : List ℕ)
         → IsFresh plan old
-        → Stands plan old told (Signed request) w
+        → IsAtStage plan old reported (Signed request) w
         → bytes.items ≡ request.bytes
         → AsksForOne plan.client address
         → IsWhole address
         → IsStep (ToDesk bytes request.from plan.second
         (by.Allocate (address ∷ []) lifetime) seed) w ret v
-        → Stands plan old (told ++ event_in ret) (replied_second request address lifetime ret) v }
+        → IsAtStage plan old (reported ++ event_in ret) (replied_second request address lifetime ret) v }
 {
-    requests_are_read();
+    proof_requests_are_read();
     signed_allocates_answer();
     signed_allocates_are_granted();
     successes_are_right();
-    relayed_addresses_are_told();
-    messages_are_told_alike();
+    relayed_addresses_are_reported();
+    messages_are_reported_alike();
 }
 
-/// The client takes the success up as it comes, and once all of it has come it holds the allocation (RFC 8656,
-/// section 7.3).
+/// The client handles the success response as it comes. Once all of it has come, it holds the
+/// allocation (RFC 8656, section 7.3).
 pub fn second_replies_are_taken()
-    ensures { (plan : Plan) (old w v : World) (told : List TurnEvent) (ret : Answer)
-        (request : Sent) (address : SocketAddr) (lifetime : ℕ) (reply front rest : List ℕ)
+    ensures { (plan : Plan) (old w v : World) (reported : List TurnEvent) (ret : Answer)
+        (request : Sent) (address : SocketAddr) (lifetime : ℕ) (reply head rest : List ℕ)
         (bytes : Vec ℕ Global)
         → IsFresh plan old
-        → Stands plan old told (Granted request address lifetime reply front) w
-        → BringsOn plan.client.transport reply front bytes.items rest
+        → IsAtStage plan old reported (Granted request address lifetime reply head) w
+        → BringsOn plan.client.transport reply head bytes.items rest
         → IsStep (ToClient bytes request.to request.from plan.second) w ret v
-        → Stands plan old (told ++ event_in ret)
-        (brought_second request address lifetime reply (front ++ bytes.items) rest) v }
+        → IsAtStage plan old (reported ++ event_in ret)
+        (brought_second request address lifetime reply (head ++ bytes.items) rest) v }
 {
     granted_clients_hold();
     stages_are_unserved();
     messages_reach_clients::<&[u8]>();
 }
 
-/// Over TCP a reply may be cut anywhere: an honest network gives it in any pieces that aren't empty.
+/// Over TCP a reply may be cut anywhere: an honest network may deliver it in any chunks that aren't
+/// empty.
 pub fn cuts_are_honest()
     ensures first { (plan : Plan) (request : Sent) (reply : List ℕ)
-        (pieces : List (Vec ℕ Global × Answer))
+        (chunks : List (Vec ℕ Global × Answer))
         → plan.client.transport ≡ Tcp
         → reply ≢ []
-        → IsCut reply pieces
+        → IsCut reply chunks
         → IsScript plan (Challenged request reply [])
-        (given request plan.client.made pieces) Came }
+        (given request plan.client.made chunks) Came }
     ensures second { (plan : Plan) (request : Sent) (address : SocketAddr) (lifetime : ℕ)
-        (reply : List ℕ) (pieces : List (Vec ℕ Global × Answer))
+        (reply : List ℕ) (chunks : List (Vec ℕ Global × Answer))
         → plan.client.transport ≡ Tcp
         → reply ≢ []
-        → IsCut reply pieces
+        → IsCut reply chunks
         → IsScript plan (Granted request address lifetime reply [])
-        (given request plan.second pieces) (Done request address lifetime reply) }
+        (given request plan.second chunks) (Done request address lifetime reply) }
 {}
 
-/// Where the client's events are taken, where it is asked what it holds, and where it is polled before it holds
-/// an allocation, a world stands where it stood.
+/// The simulation stays at its position if an event of the client's is polled or a getter is called
+/// (`looks`), and if `poll` is called before the client holds an allocation (`polls`).
 pub fn worlds_stand_still()
-    ensures looks { (plan : Plan) (old w v : World) (told : List TurnEvent) (ret : Answer)
-        (place : Place) (what : ClientCall) (now : ℕ)
-        → Stands plan old told place w
+    ensures looks { (plan : Plan) (old w v : World) (reported : List TurnEvent) (ret : Answer)
+        (progress : Progress) (what : ClientCall) (now : ℕ)
+        → IsAtStage plan old reported progress w
         → IsLook what
         → IsStep (Call what now) w ret v
-        → Stands plan old (told ++ event_in ret) place v }
-    ensures polls { (plan : Plan) (old w v : World) (told : List TurnEvent) (ret : Answer)
-        (place : Place) (now : ℕ)
-        → Stands plan old told place w
-        → IsPolledAt place
+        → IsAtStage plan old (reported ++ event_in ret) progress v }
+    ensures polls { (plan : Plan) (old w v : World) (reported : List TurnEvent) (ret : Answer)
+        (progress : Progress) (now : ℕ)
+        → IsAtStage plan old reported progress w
+        → IsPolledAt progress
         → now < end_at plan.client.made plan.client.config.waits
         → IsStep (Call Poll now) w ret v
-        → Stands plan old (told ++ event_in ret) place v }
+        → IsAtStage plan old (reported ++ event_in ret) progress v }
 {
     new_clients_ask();
     asking_clients_wait();
     chosen_clients_sign();
     signed_clients_wait();
     ended_clients_rest();
-    stages_are_told();
+    stages_are_reported();
 }
 
-/// Nothing has come of the client's peers; a world in which it is asked for that stands where it stood.
+/// The simulation stays at its position if `poll_recv` is called: nothing has come from peers.
 pub fn worlds_give_nothing()
-    ensures { (plan : Plan) (old w v : World) (told : List TurnEvent) (ret : Answer)
-        (place : Place) (now : ℕ)
+    ensures { (plan : Plan) (old w v : World) (reported : List TurnEvent) (ret : Answer)
+        (progress : Progress) (now : ℕ)
         → IsFresh plan old
-        → Stands plan old told place w
+        → IsAtStage plan old reported progress w
         → IsStep (Call PollRecv now) w ret v
-        → Stands plan old (told ++ event_in ret) place v }
+        → IsAtStage plan old (reported ++ event_in ret) progress v }
 {
-    requests_are_read();
+    proof_requests_are_read();
     new_clients_ask();
     stages_are_unserved();
     messages_reach_clients::<&[u8]>();
 }
 
-/// A client that has ended draws nothing any more, and once its events are taken it is closed.
+/// A client that has ended transmits nothing more, and once its events are polled it is closed.
 pub fn ended_worlds_rest()
-    ensures rests { (plan : Plan) (old w v : World) (told : List TurnEvent) (ret : Answer)
+    ensures rests { (plan : Plan) (old w v : World) (reported : List TurnEvent) (ret : Answer)
         (now : ℕ)
-        → Stands plan old told Barred w
+        → IsAtStage plan old reported Barred w
         → IsStep (Draw now) w ret v
-        → Stands plan old (told ++ event_in ret) Barred v }
-    ensures quiet { (plan : Plan) (old w v : World) (told : List TurnEvent) (ret : Answer)
+        → IsAtStage plan old (reported ++ event_in ret) Barred v }
+    ensures quiet { (plan : Plan) (old w v : World) (reported : List TurnEvent) (ret : Answer)
         (now : ℕ)
-        → IsOver plan old told w
+        → IsOver plan old reported w
         → now ≤ client_end
         → IsStep (Draw now) w ret v
         → ret ≡ Nothing }
-    ensures closed { (plan : Plan) (old w v : World) (told : List TurnEvent) (ret : Answer)
+    ensures closed { (plan : Plan) (old w v : World) (reported : List TurnEvent) (ret : Answer)
         (now : ℕ)
-        → IsOver plan old told w
+        → IsOver plan old reported w
         → now ≤ client_end
-        → told ≡ failures plan.client
+        → reported ≡ failures plan.client
         → IsStep (Call Poll now) w ret v
         → ret ≡ Closed }
 {

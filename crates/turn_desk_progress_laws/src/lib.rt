@@ -1,5 +1,5 @@
-//! Laws on a client and a desk over an honest network: what a new client holds after two replies,
-//! what it then asks for and is granted, and what it renews.
+//! Theorems on a client and a server core over an honest network: what a new client holds after two
+//! replies, what it then requests and is granted, and what it renews.
 #![tactic(auto)]
 
 pub mod connections;

@@ -1,9 +1,10 @@
-//! What is asked for is held: behind a run over an honest network a client is asked for a permission or a
-//! channel, its request reaches the desk and is granted, and the reply reaches the client (RFC 8656, sections
-//! 10 to 12). The functions do nothing; each contract is a law on a world of both.
+//! What is requested is held: after a run over an honest network the application requests a
+//! permission or a channel, the client's request reaches the server core and is granted, and the
+//! reply reaches the client (RFC 8656, sections 10 to 12). The functions do nothing; each contract
+//! is a theorem on a simulation of both.
 //!
-//! `specs/Asking.antt` has what may come before, and what becomes of the request; `specs/Promises.antt` what is
-//! held then, and what is given by it.
+//! `specs/Asking.antt` has what may happen before, and what becomes of the request;
+//! `specs/Promises.antt` what is held then, and what is delivered by it.
 
 ghost use Rattle.std.specs.Prelude.{◌≡◌, ◌<◌, ◌≤◌, ◌↔◌, List, [], ℕ};
 ghost use Rattle.std.specs.declared.net.ip_addr.IpAddr.{IpAddr};
@@ -32,15 +33,16 @@ use turn_client_proto_handshake_laws::stages::{
     granted_clients_hold, messages_reach_clients, stages_are_unserved,
 };
 use turn_client_proto_progress_laws::channels::{
-    channels_are_asked_for, frames_are_taken, granted_channels_are_held,
+    channels_are_requested_for, frames_are_taken, granted_channels_are_held,
 };
 use turn_client_proto_progress_laws::requests::{
-    datagrams_are_taken, granted_permissions_are_held, holders_speak, permissions_are_asked_for,
-    requests_are_own,
+    datagrams_are_taken, granted_permissions_are_held, holders_speak,
+    permissions_are_requested_for, requests_are_own,
 };
 
-/// Behind an honest run that allocates, the client speaks with the desk: it has that allocation alone, and
-/// signs under a challenge of the desk's realm (RFC 8489, section 9.2.5; RFC 8656, section 7.3).
+/// After an honest run that allocates, the client is established: it has that allocation alone, and
+/// signs under a challenge of the server core's realm (RFC 8489, section 9.2.5; RFC 8656, section
+/// 7.3).
 pub fn honest_runs_leave_speakers()
     ensures { (plan : Plan) (old one : World) (first : List (Event × Answer)) (signed : Sent)
         (address : SocketAddr) (lifetime : ℕ) (reply : List ℕ)
@@ -56,21 +58,32 @@ pub fn honest_runs_leave_speakers()
     holders_speak();
 }
 
-/// Behind an honest run let anything come to client and desk; but no challenge that is no unaltered reply of
-/// the desk comes to the client, over TCP nothing at all but such replies, each whole, and it is given no
-/// socket with its own local address. Let `create_permission` or `bind_channel` be answered Ok while the
-/// allocation is held, and the request that it made be drawn before it is given up and before the allocation's
-/// end; until then nothing is delivered to the client, and it is called at moments that aren't later, only to
-/// be drawn or polled, for its events, for what it holds, and for permissions and channels. At that very moment
-/// let the request reach the desk from the client's own address, the desk grant it by a success, and the reply
-/// reach the client. Then the client has the permission (`permission`), or a channel to that peer (`channel`).
-/// Over UDP an indication that shows XOR-PEER-ADDRESS of that IP and DATA, nothing else, or a frame of that
-/// channel, which comes next at that moment from the server's address to the client's, is answered by its data
-/// (RFC 8656, sections 10 to 12).
+/// What is requested is held after an honest run that allocates, if:
 ///
-/// The call is answered Ok if and only if the client may ask (`permitted`, `bindable`). Then there is one
-/// request that it made (`permission_request`, `channel_request`).
-pub fn asked_things_are_held()
+/// 1. Anything may reach the client and the server core then, with these limits (`IsCleanRun`):
+///    each challenge that reaches the client is an unaltered reply of the server core; over TCP
+///    nothing but such replies reaches it, each whole; and the client is given no socket with its
+///    own local address.
+/// 2. `create_permission` or `bind_channel` succeeds, and the allocation is held beyond the time of
+///    step 3.
+/// 3. The client transmits the request that the call made, before it would be given up. Until then
+///    nothing is delivered to the client, though anything may reach the server core. The client is
+///    called no later, and only for this: `poll`, `poll_transmit`, its events, its getters, further
+///    permissions and channels.
+/// 4. At that same time the request reaches the server core from the client's own address, the
+///    server core grants it by a success response, and the reply reaches the client.
+///
+/// Conclusions:
+///
+/// - `permission`: The client has the permission.
+/// - `channel`: The client has a channel to that peer.
+/// - Over UDP, let a DATA indication come next, at that time, from the server's address to the
+///   client's, which shows an XOR-PEER-ADDRESS with that IP, a DATA and nothing else; or a frame of
+///   that channel. The result is its data (RFC 8656, sections 10 to 12).
+/// - `permitted`, `bindable`: The call succeeds if and only if the client may request this
+///   (`MayPermit`, `MayBind`).
+/// - `permission_request`, `channel_request`: If it succeeds, there is a request that it made.
+pub fn requested_things_are_held()
     ensures permission { (plan : Plan) (old one two three four : World)
         (first second third : List (Event × Answer)) (signed : Sent) (reply request grant : List ℕ)
         (address : SocketAddr) (lifetime made now : ℕ) (ip : IpAddr)
@@ -150,8 +163,8 @@ pub fn asked_things_are_held()
         → (request : List ℕ) × IsRequestOf two three request }
 {
     honest_runs_leave_speakers();
-    permissions_are_asked_for();
-    channels_are_asked_for();
+    permissions_are_requested_for();
+    channels_are_requested_for();
     requests_are_own();
     granted_permissions_are_held();
     granted_channels_are_held();

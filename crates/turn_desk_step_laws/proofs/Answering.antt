@@ -1,4 +1,4 @@
--- What a desk answers to a request changes no user.
+-- Answering a request changes no user.
 use Rattle.std.proofs.Common.{◌≡◌, ℕ, true, false, List, Option, Some, None, sym, subst, inl, inr}
 use Rattle.std.specs.Prelude.{if◌then◌else◌}
 use Rattle.std.specs.declared.net.socket_addr.SocketAddr.{SocketAddr}
@@ -9,10 +9,10 @@ use Rattle.turn_desk_core.specs.StunProtoServer.Users.{HashesDiffer}
 use Rattle.turn_desk_core.specs.declared.decision.Decision.{Decision}
 use Rattle.turn_desk_core.specs.State.{State}
 use Rattle.turn_desk_core.specs.Steps.{IsAnswer}
--- what it answers is one
+-- The reply is determined.
 pub use Rattle.turn_desk_core.proofs.Definite.{answer_same}
 
--- a validation changes no user
+-- Validating a message changes no user.
 differ_still : (old : Server) (from : SocketAddr) (now : ℕ) (stream : Stream) (outcome : Option Outcome) → HashesDiffer old → HashesDiffer (with_outcome (refreshed old from now stream) from outcome)
 differ_still old from now stream outcome differ =
     elim (has_standing_nonce old from now) as (λ b. HashesDiffer (with_outcome (if b then old else with_new_nonce old from now stream) from outcome)) [

@@ -1,4 +1,4 @@
--- What a request asks for is what it shows.
+-- What a request is for is what it shows.
 use Rattle.std.proofs.Common.{◌≡◌, ℕ, Bool, eqb, List, [], ◌∷◌, Option, Some, None, refl, sym, ap, ◌∙◌, subst, arith, inl, inr}
 use Rattle.std.proofs.lemmas.Bool.{cases_Bool, eqb-true}
 use Rattle.std.specs.Prelude.{slice_index}
@@ -8,19 +8,19 @@ use Rattle.std.specs.declared.net.socket_addr.SocketAddr.{SocketAddr}
 use Rattle.byteorder.specs.Endian.{big_number}
 use Rattle.turn_desk_core.specs.StunTypesAttributes.Addresses.{address_again, address_of, address_read_refusal}
 use Rattle.turn_desk_core.specs.StunTypesWire.Attributes.{Attr}
-use Rattle.turn_desk_core.specs.StunTypesWire.Grammar.{number_at, shown}
+use Rattle.turn_desk_core.specs.StunTypesWire.Grammar.{number_at, visible}
 use Rattle.turn_desk_core.specs.StunTypesWire.declared.error.StunParseError.{StunParseError}
 use Rattle.turn_desk_core.specs.StunTypesWrite.ValueReading.{value_refusal}
 use Rattle.turn_desk_core.specs.StunTypesAttributes.Xor.{xored}
 use Rattle.turn_desk_core.specs.TurnTypesAttributes.TurnRegistry.{channel_number_kind, connection_id_kind, requested_transport_kind, xor_peer_address_kind}
-use Rattle.turn_desk_core.specs.TurnTypesPeer.TurnShows.{address_in, addresses_shown, each_shown, first_shown, number_in, number_shown, unless_refused}
-use Rattle.turn_desk_core.specs.AskedFor.{channel_asked, channel_in, connection_asked, connection_in, peer_asked, peer_in, peers_told, transport_asked, transport_in}
+use Rattle.turn_desk_core.specs.TurnTypesPeer.TurnShows.{address_in, addresses_visible, each_visible, first_visible, number_in, number_visible, unless_refused}
+use Rattle.turn_desk_core.specs.RequestedFor.{channel_requested, channel_in, connection_requested, connection_in, peer_requested, peer_in, peers_reported, transport_requested, transport_in}
 use Rattle.turn_runs_laws.specs.TurnRuns.StunWire.{protocol_transport}
 
 abbrev is_of : ℕ → Attr → Bool
 is_of kind a = eqb a.kind kind
 
--- what is found passes the test, and comes first of those that do
+-- What is found passes the test, and is the first that does.
 pub record IsFound (kind : ℕ) (all : List Attr) (a : Attr) : Type 0 where
   pub passes : a.kind ≡ kind
   pub others : List Attr
@@ -46,9 +46,9 @@ found kind (b ∷ all) a h = elim (cases_Bool (is_of kind b)) [
       record { passes = rest.passes; others = rest.others; first = (rw differs refl) ∙ rest.first }
 ]
 
--- ---- numbers
+-- ---- transaction IDs
 
--- the number in an attribute of its own type
+-- The number in an attribute of its own type.
 number_of_kind : (count kind : ℕ) (a : Attr) → a.kind ≡ kind → unless_refused (value_refusal kind 4 4 a) (Some (big_number count a.value)) ≡ number_in count (Some a)
 number_of_kind count kind a is = ap (λ (k : ℕ). unless_refused (value_refusal k 4 4 a) (Some (big_number count a.value))) (sym is)
 
@@ -56,15 +56,15 @@ channel_by : (all : List Attr) (one : Option Attr) → find (is_of channel_numbe
 channel_by all None is = refl
 channel_by all (Some a) is = number_of_kind 2 channel_number_kind a (found channel_number_kind all a is).passes
 
-pub channel_same : (bytes : List ℕ) → channel_asked bytes ≡ number_shown 2 channel_number_kind bytes
-channel_same bytes = channel_by (shown bytes) (first_shown channel_number_kind bytes) refl
+pub channel_same : (bytes : List ℕ) → channel_requested bytes ≡ number_visible 2 channel_number_kind bytes
+channel_same bytes = channel_by (visible bytes) (first_visible channel_number_kind bytes) refl
 
 connection_by : (all : List Attr) (one : Option Attr) → find (is_of connection_id_kind) all ≡ one → option_and_then connection_in one ≡ number_in 4 one
 connection_by all None is = refl
 connection_by all (Some a) is = number_of_kind 4 connection_id_kind a (found connection_id_kind all a is).passes
 
-pub connection_same : (bytes : List ℕ) → connection_asked bytes ≡ number_shown 4 connection_id_kind bytes
-connection_same bytes = connection_by (shown bytes) (first_shown connection_id_kind bytes) refl
+pub connection_same : (bytes : List ℕ) → connection_requested bytes ≡ number_visible 4 connection_id_kind bytes
+connection_same bytes = connection_by (visible bytes) (first_visible connection_id_kind bytes) refl
 
 -- ---- the transport
 
@@ -82,8 +82,8 @@ transport_by all (Some a) is =
     transport_read (value_refusal requested_transport_kind 4 4 a) a.value
     ∙ ap (option_and_then protocol_transport) (number_of_kind 1 requested_transport_kind a (found requested_transport_kind all a is).passes)
 
-pub transport_same : (bytes : List ℕ) → transport_asked bytes ≡ option_and_then protocol_transport (number_shown 1 requested_transport_kind bytes)
-transport_same bytes = transport_by (shown bytes) (first_shown requested_transport_kind bytes) refl
+pub transport_same : (bytes : List ℕ) → transport_requested bytes ≡ option_and_then protocol_transport (number_visible 1 requested_transport_kind bytes)
+transport_same bytes = transport_by (visible bytes) (first_visible requested_transport_kind bytes) refl
 
 -- ---- peers
 
@@ -111,20 +111,20 @@ each_same number (a ∷ all) =
           subst (λ (l : List Attr). AreSameOn (peer_in number) (address_in number) l) (sym here) rest
     ]
 
-pub peers_same : (bytes : List ℕ) → peers_told bytes ≡ addresses_shown xor_peer_address_kind bytes
-peers_same bytes = map_same (peer_in (number_at bytes)) (address_in (number_at bytes)) (each_shown xor_peer_address_kind bytes) (each_same (number_at bytes) (shown bytes))
+pub peers_same : (bytes : List ℕ) → peers_reported bytes ≡ addresses_visible xor_peer_address_kind bytes
+peers_same bytes = map_same (peer_in (number_at bytes)) (address_in (number_at bytes)) (each_visible xor_peer_address_kind bytes) (each_same (number_at bytes) (visible bytes))
 
-told_first : (number : ℕ) (all : List Attr) (a : Attr) (peer p : SocketAddr) → IsFound xor_peer_address_kind all a → peer_in number a ≡ Some peer → filter_map (address_in number) (filter (is_of xor_peer_address_kind) all) ≡ p ∷ [] → peer ≡ p
-told_first number all a peer p first told one =
-    let here : address_in number a ≡ Some peer = sym (peer_of_kind number a first.passes) ∙ told in
+decoded_first : (number : ℕ) (all : List Attr) (a : Attr) (peer p : SocketAddr) → IsFound xor_peer_address_kind all a → peer_in number a ≡ Some peer → filter_map (address_in number) (filter (is_of xor_peer_address_kind) all) ≡ p ∷ [] → peer ≡ p
+decoded_first number all a peer p first reported one =
+    let here : address_in number a ≡ Some peer = sym (peer_of_kind number a first.passes) ∙ reported in
     let parts : filter_map (address_in number) (a ∷ first.others) ≡ peer ∷ filter_map (address_in number) first.others = rw here refl in
     let whole : peer ∷ filter_map (address_in number) first.others ≡ p ∷ [] = sym parts ∙ ap (filter_map (address_in number)) (sym first.first) ∙ one in
     Prim.cc whole
 
 peer_by : (number : ℕ) (all : List Attr) (one : Option Attr) (peer p : SocketAddr) → find (is_of xor_peer_address_kind) all ≡ one → option_and_then (peer_in number) one ≡ Some peer → filter_map (address_in number) (filter (is_of xor_peer_address_kind) all) ≡ p ∷ [] → peer ≡ p
-peer_by number all None peer p is told single = absurd (Prim.cc told)
-peer_by number all (Some a) peer p is told single = told_first number all a peer p (found xor_peer_address_kind all a is) told single
+peer_by number all None peer p is reported single = absurd (Prim.cc reported)
+peer_by number all (Some a) peer p is reported single = decoded_first number all a peer p (found xor_peer_address_kind all a is) reported single
 
--- the first peer is the one that a request names, where it names one alone
-pub one_peer : (bytes : List ℕ) (peer p : SocketAddr) → peer_asked bytes ≡ Some peer → addresses_shown xor_peer_address_kind bytes ≡ p ∷ [] → peer ≡ p
-one_peer bytes peer p told single = peer_by (number_at bytes) (shown bytes) (first_shown xor_peer_address_kind bytes) peer p refl told single
+-- The first peer is the one that a request names, if it names exactly one.
+pub one_peer : (bytes : List ℕ) (peer p : SocketAddr) → peer_requested bytes ≡ Some peer → addresses_visible xor_peer_address_kind bytes ≡ p ∷ [] → peer ≡ p
+one_peer bytes peer p reported single = peer_by (number_at bytes) (visible bytes) (first_visible xor_peer_address_kind bytes) peer p refl reported single

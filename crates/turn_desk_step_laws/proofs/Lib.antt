@@ -6,9 +6,9 @@ pub mod Served
 pub mod Signing
 pub mod Stepping
 pub mod Strangers
-pub mod Told
+pub mod Reported
 pub mod Requesting
 pub mod Succeeding
--- What stands above this crate has these through it.
+-- Crates that build on this one reach these proofs through it.
 pub use Rattle.turn_client_proto_messages.proofs as TurnClientProtoMessages
 pub use Rattle.turn_runs_laws.proofs as TurnRunsLaws

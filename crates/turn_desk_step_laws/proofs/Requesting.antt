@@ -1,4 +1,4 @@
--- A client's requests as a desk takes them.
+-- A client's requests as a server core accepts them.
 use Rattle.std.proofs.Common.{◌≡◌, ℕ, Bool, true, false, List, [], ◌∷◌, Option, Some, None, refl, sym, ap, ◌∙◌, subst, inl, inr}
 use Rattle.std.specs.Prelude.{if◌then◌else◌}
 use Rattle.std.specs.List.{flat_map, list_any}
@@ -36,7 +36,7 @@ use Rattle.turn_desk_step_laws.specs.Handshakes.{IsOfServer, user_of}
 
 -- ---- the first request
 
--- an attribute that is no integrity attribute, before others of which none is
+-- An attribute that is no integrity attribute, before others of which none is one.
 none_more : (a : Attr) (rest : List Attr) → algorithm_of a.kind ≡ None → last_algorithm rest ≡ None → last_algorithm (a ∷ rest) ≡ None
 unfolding last_algorithm
 none_more a rest other none = ap (λ (o : Option IntegrityAlgorithm). option_or o (algorithm_of a.kind)) none ∙ other
@@ -50,11 +50,11 @@ none_in_families [] = none_here
 none_in_families (IPV4 ∷ families) = none_in_families families
 none_in_families (IPV6 ∷ families) = none_more _ _ refl (none_in_families families)
 
-none_asked : (families : List AddressFamily) → last_algorithm (families_attributes families) ≡ None
-none_asked [] = none_here
-none_asked (IPV4 ∷ []) = none_here
-none_asked (IPV6 ∷ []) = none_more _ _ refl none_here
-none_asked (a ∷ b ∷ rest) = none_in_families (a ∷ b ∷ rest)
+none_requested : (families : List AddressFamily) → last_algorithm (families_attributes families) ≡ None
+none_requested [] = none_here
+none_requested (IPV4 ∷ []) = none_here
+none_requested (IPV6 ∷ []) = none_more _ _ refl none_here
+none_requested (a ∷ b ∷ rest) = none_in_families (a ∷ b ∷ rest)
 
 module _ (auth : Client) (transport : TransportType) (families : List AddressFamily) (number : ℕ) where
   abbrev first : TurnRequest
@@ -63,7 +63,7 @@ module _ (auth : Client) (transport : TransportType) (families : List AddressFam
   abbrev own : List Attr
   own = request_attributes first number
 
-  -- it shows its own attributes
+  -- The request shows its own attributes.
   shows_own : attributes_of (request_type first) number (request_calls auth first number) ≡ own
   unfolding attributes_after
   shows_own = ordinary_then (request_type first) number own [] []
@@ -72,7 +72,7 @@ module _ (auth : Client) (transport : TransportType) (families : List AddressFam
   none_own =
       none_more (lifetime_attribute allocation_lifetime) (transport_attribute transport ∷ dont_fragment_attribute ∷ families_attributes families) refl
       (none_more (transport_attribute transport) (dont_fragment_attribute ∷ families_attributes families) refl
-      (none_more dont_fragment_attribute (families_attributes families) refl (none_asked families)))
+      (none_more dont_fragment_attribute (families_attributes families) refl (none_requested families)))
 
   pub is_served_first : IsReadAs (request_type first) number (attributes_of (request_type first) number (request_calls auth first number)) (request_text auth first number) → IsServed (request_text auth first number)
   is_served_first read = record { message = read.message; request = ap class_of read.kind; method = inl (inl (ap method_of read.kind)) }
@@ -82,12 +82,12 @@ module _ (auth : Client) (transport : TransportType) (families : List AddressFam
 
 -- ---- a signed request
 
--- the user whom the client claims to be
+-- The user that the client claims to be.
 named : (realm name : List ℕ) (hidden : Bool) → IsClaimedName realm (if hidden then None else Some name) (if hidden then Some (userhash_of name realm) else None) name
 named realm name true = refl
 named realm name false = refl
 
--- a list of one algorithm that needs no list is of Sha1, and so is the choice
+-- If the algorithms need no list, the only one is Sha1, and so is the choice.
 own_choice : (algorithms : List IntegrityAlgorithm) (choice : IntegrityAlgorithm) → needs_password_algorithms algorithms ≡ false → list_any (is_same_algorithm choice) algorithms ≡ true → choice ≡ Sha1
 own_choice [] choice none among = absurd (Prim.cc among)
 own_choice (Sha1 ∷ []) Sha1 none among = refl
@@ -99,7 +99,7 @@ own_choice (Sha1 ∷ b ∷ rest) choice none among = absurd (Prim.cc none)
 own_choice (Sha256 ∷ b ∷ rest) choice none among = absurd (Prim.cc none)
 own_choice (Sha512 ∷ b ∷ rest) choice none among = absurd (Prim.cc none)
 
--- what is claimed of algorithms fits
+-- What is claimed of algorithms is consistent.
 fits : (algorithms : List IntegrityAlgorithm) (choice : IntegrityAlgorithm) (offered : Option (List ℕ)) (claim : Claimed) (needs : Bool) → needs_password_algorithms algorithms ≡ needs → offered ≡ (if needs then Some (list_of algorithms) else None)
     → list_any (is_same_algorithm choice) algorithms ≡ true → claim.algorithms ≡ offered → claim.algorithm ≡ option_map (λ (list : List ℕ). number_by choice) offered → AreConsistent algorithms claim choice
 fits algorithms choice offered claim true needs is among list one =
@@ -107,9 +107,9 @@ fits algorithms choice offered claim true needs is among list one =
 fits algorithms choice offered claim false needs is among list one =
     inl (record { list = list ∙ is; choice = one ∙ ap (option_map (λ (l : List ℕ). number_by choice)) is; own = own_choice algorithms choice needs among; among = among })
 
-pub as_asked : (server : Server) (from : SocketAddr) (auth : Client) (s : Standing) (bytes : List ℕ) → claimed bytes ≡ own_claim auth.anonymous_username s → IsRight bytes (standing_key s) → IsOfServer server from s
+pub as_requested : (server : Server) (from : SocketAddr) (auth : Client) (s : Standing) (bytes : List ℕ) → claimed bytes ≡ own_claim auth.anonymous_username s → IsRight bytes (standing_key s) → IsOfServer server from s
     → IsOfUser server s.challenge.nonce bytes (user_of s)
-as_asked server from auth s bytes claims right own =
+as_requested server from auth s bytes claims right own =
     let hidden = hides_name auth.anonymous_username s.challenge.nonce in
     record {
       present = own.present;
@@ -128,7 +128,7 @@ as_asked server from auth s bytes claims right own =
 
 -- ---- the ALLOCATE
 
--- a desk serves it
+-- A server core serves the request.
 pub is_served : (auth : Client) (transport : TransportType) (families : List AddressFamily) (number : ℕ)
     → IsReadAs (request_type (Allocate transport families)) number (attributes_of (request_type (Allocate transport families)) number (request_calls auth (Allocate transport families) number)) (request_text auth (Allocate transport families) number)
     → IsServed (request_text auth (Allocate transport families) number)

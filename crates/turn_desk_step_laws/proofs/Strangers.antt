@@ -1,4 +1,4 @@
--- A request that is not signed, from an address for which a desk keeps nothing, is challenged.
+-- A server core challenges a request that is not signed, from an address for which it stores nothing.
 use Rattle.std.specs.Prelude.{◌≢◌, MatchOption, cond, nat_lt}
 use Rattle.std.proofs.Common.{◌≡◌, ℕ, Bool, true, false, if◌then◌else◌, List, Option, Some, None, refl, sym, ap, ◌∙◌, subst, inl, inr}
 use Rattle.std.proofs.lemmas.Bool.{lt-ltb}
@@ -11,12 +11,12 @@ use Rattle.rand_core.specs.Stream.{Stream}
 use Rattle.turn_desk_core.specs.StunTypesWire.declared.algorithm.IntegrityAlgorithm.{IntegrityAlgorithm}
 use Rattle.turn_desk_core.specs.StunTypesBase.SocketAddrs.{socket_addr_cmp, socket_addr_cmp_total}
 use Rattle.turn_desk_core.specs.StunTypesWire.Types.{is_response_class}
-use Rattle.turn_client_proto_messages.proofs.StunProtoAuth.NonceLemmas.{features_told-nonce_text}
+use Rattle.turn_client_proto_messages.proofs.StunProtoAuth.NonceLemmas.{features_in-nonce_text}
 use Rattle.turn_client_proto_messages.specs.StunProtoAuth.Claims.{claimed}
 use Rattle.turn_desk_core.specs.StunProtoVerify.Judgement.{HasWrongDigest, IsRefused, algorithms_refusal, claim_refusal, integrity_refusal, is_response, judgement, nonce_refusal, parts_refusal, user_refusal}
 use Rattle.turn_desk_core.specs.StunProtoVerify.Knowledge.{Knowledge}
-use Rattle.turn_desk_core.specs.StunTypesBase.Moments.{moment_after}
-use Rattle.turn_client_proto_messages.specs.StunProtoAuth.Nonce.{features_offered, features_told}
+use Rattle.turn_desk_core.specs.StunTypesBase.Times.{time_after}
+use Rattle.turn_client_proto_messages.specs.StunProtoAuth.Nonce.{features_offered, features_in}
 use Rattle.turn_desk_core.specs.StunProtoServer.Server.{Client, Server, has_standing_nonce, is_standing, new_client, nonce_at, refreshed, set_outcome, with_new_nonce, with_outcome}
 use Rattle.turn_desk_core.specs.StunProtoVerify.declared.error.LongTermServerAuthError.{LongTermServerAuthError}
 use Rattle.turn_desk_core.specs.StunProtoVerify.declared.error.LongTermServerAuthError.TheVariants.{Unauthorized, BadRequest}
@@ -29,11 +29,11 @@ use Rattle.turn_desk_core.specs.Steps.{IsAnswer, IsChallenge, IsVerdict, unvalid
 use Rattle.turn_desk_core.specs.Verdicts.{verdict_on}
 use Rattle.turn_desk_step_laws.specs.Challenged.{HasSameSettings, IsFirstChallenge, challenge_of}
 use Rattle.turn_desk_core.proofs.StunProtoServer.Named.{inside}
-use Rattle.turn_desk_step_laws.proofs.Told.{challenge_read, takes_own}
+use Rattle.turn_desk_step_laws.proofs.Reported.{challenge_read, takes_own}
 
 -- ---- why it is refused
 
--- without an integrity attribute, a request is unauthorized, whatever is known
+-- A request without an integrity attribute is unauthorized, whatever is known.
 unsigned_judged : (known : Knowledge) (bytes : List ℕ) → is_response bytes ≡ false → (claimed bytes).integrity ≡ None → judgement known bytes ≡ Some Unauthorized
 unfolding judgement claim_refusal
 unsigned_judged known bytes request unsigned =
@@ -50,10 +50,10 @@ unauthorized known bytes error served unsigned is =
 not_bad : (error : LongTermServerAuthError) → error ≡ Unauthorized → error ≢ BadRequest
 not_bad error is bad = let p : ◌≡◌ {A = LongTermServerAuthError} Unauthorized BadRequest = sym is ∙ bad in Prim.cc p
 
--- ---- what is kept
+-- ---- what is stored
 
 abbrev client_of : ℕ → List ℕ → Client
-client_of now nonce = record { nonce = nonce; drawn = now; outcome = None }
+client_of now nonce = record { nonce = nonce; generated = now; outcome = None }
 
 put_there : (clients : map.FinMap socket_addr_cmp Client) (from : SocketAddr) (c : Client) → map.get (map.insert clients from c) from ≡ Some c
 put_there clients from c =
@@ -61,24 +61,24 @@ put_there clients from c =
     map.get-insert socket_addr_cmp_total clients from c from ∙ ap (λ b. cond b (Some c) (map.get clients from)) same
 
 module _ (old : Server) (from : SocketAddr) (now : ℕ) (stream : Stream) (none : map.get old.clients from ≡ None) where
-  abbrev drawn : Client
-  drawn = new_client old now stream
+  abbrev transmitted : Client
+  transmitted = new_client old now stream
 
   abbrev clients : map.FinMap socket_addr_cmp Client
-  clients = map.insert old.clients from drawn
+  clients = map.insert old.clients from transmitted
 
   draws : refreshed old from now stream ≡ with_new_nonce old from now stream
   draws = ap (λ (b : Bool). if b then old else with_new_nonce old from now stream) (ap (is_standing old.nonce_expiry now) none)
 
-  keeps_drawn : map.get (with_outcome (refreshed old from now stream) from None).clients from ≡ Some drawn
-  keeps_drawn =
+  keeps_transmitted : map.get (with_outcome (refreshed old from now stream) from None).clients from ≡ Some transmitted
+  keeps_transmitted =
       ap (λ (s : Server). map.get (with_outcome s from None).clients from) draws
-      ∙ (ap (λ (found : Option Client). map.get (set_outcome clients from None found) from) (put_there old.clients from drawn)
-      ∙ put_there clients from drawn)
+      ∙ (ap (λ (found : Option Client). map.get (set_outcome clients from None found) from) (put_there old.clients from transmitted)
+      ∙ put_there clients from transmitted)
 
 -- ---- settings
 
--- a drawing and an outcome change no user and no setting
+-- A new nonce and an outcome change no user and no setting.
 settings_stay : (old new : Server) (from : SocketAddr) (now : ℕ) (stream : Stream) → new ≡ with_outcome (refreshed old from now stream) from None → HasSameSettings old new
 settings_stay old new from now stream is =
     subst (λ (s : Server). HasSameSettings old s) (sym is)
@@ -95,25 +95,25 @@ module _ (old new : State) (from : SocketAddr) (bytes reply : List ℕ) (now : �
       let r = refreshed old.auth from now stream in
       let error = unauthorized (known_of r from is.judged.refused.found) bytes is.error served unsigned is.judged.refused.refused in
       let party : Party = unvalidated_party old.auth is.nonce in
-      let made = drawn old.auth from now stream none in
-      let kept : map.get new.auth.clients from ≡ Some made = ap (λ (s : Server). map.get s.clients from) is.judged.after ∙ keeps_drawn old.auth from now stream none in
-      let same : made.nonce ≡ is.nonce = inside (sym (ap (option_map (λ (c : Client). c.nonce)) kept) ∙ is.kept) in
-      let features : features_told is.nonce ≡ features_offered old.auth.algorithms old.auth.anonymous_username =
-      ap features_told (sym same) ∙ features_told-nonce_text (features_offered old.auth.algorithms old.auth.anonymous_username) _ in
+      let made = transmitted old.auth from now stream none in
+      let stored : map.get new.auth.clients from ≡ Some made = ap (λ (s : Server). map.get s.clients from) is.judged.after ∙ keeps_transmitted old.auth from now stream none in
+      let same : made.nonce ≡ is.nonce = inside (sym (ap (option_map (λ (c : Client). c.nonce)) stored) ∙ is.stored) in
+      let features : features_in is.nonce ≡ features_offered old.auth.algorithms old.auth.anonymous_username =
+      ap features_in (sym same) ∙ features_in-nonce_text (features_offered old.auth.algorithms old.auth.anonymous_username) _ in
       let settings = settings_stay old.auth new.auth from now stream is.judged.after in
       record {
-        told = challenge_of party;
-        shown = challenge_read old new from bytes reply now stream served is (not_bad is.error error);
+        reported = challenge_of party;
+        visible = challenge_read old new from bytes reply now stream served is (not_bad is.error error);
         number = is.read.number;
         realm = refl;
         features = features;
         takes_own = λ algorithm. takes_own party algorithm (ap (λ f. f.password_algorithms) features);
         list = refl;
-        kept = kept ∙ ap (λ (n : List ℕ). Some (client_of now n)) same;
-        stands = λ later before.
-            ap (λ (o : Option Client). is_standing new.auth.nonce_expiry later o) kept
-            ∙ ap (λ (e : ℕ). nat_lt later (moment_after now e)) settings.nonce_expiry
-            ∙ lt-ltb later (moment_after now old.auth.nonce_expiry) before;
+        stored = stored ∙ ap (λ (n : List ℕ). Some (client_of now n)) same;
+        occurs = λ later before.
+            ap (λ (o : Option Client). is_standing new.auth.nonce_expiry later o) stored
+            ∙ ap (λ (e : ℕ). nat_lt later (time_after now e)) settings.nonce_expiry
+            ∙ lt-ltb later (time_after now old.auth.nonce_expiry) before;
         settings = settings;
         granted = is.granted;
       }

@@ -1,12 +1,12 @@
--- The success by which a desk grants an allocation, as the client reads it.
+-- The success response by which a server core grants an allocation, as the client reads it.
 use Rattle.std.specs.Prelude.{◌&&◌}
 use Rattle.std.proofs.Common.{◌≡◌, ℕ, List, None, if◌then◌else◌, ap, subst, sym}
 use Rattle.std.specs.declared.net.socket_addr.SocketAddr.{SocketAddr}
 use Rattle.turn_client_proto_messages.specs.StunTypesIntegrity.Integrity.{Validates}
 use Rattle.turn_desk_core.specs.StunTypesWire.declared.class.MessageClass.{MessageClass}
 use Rattle.turn_desk_core.specs.StunTypesBase.declared.transport.TransportType.{TransportType}
-use Rattle.turn_client_proto_messages.specs.StunProtoClient.Challenges.{challenge_shown, is_challenge_code, is_error, told_of}
-use Rattle.turn_client_proto_messages.specs.StunProtoAuth.Claims.{claimed, code_shown}
+use Rattle.turn_client_proto_messages.specs.StunProtoClient.Challenges.{challenge_visible, is_challenge_code, is_error, reported_of}
+use Rattle.turn_client_proto_messages.specs.StunProtoAuth.Claims.{claimed, code_visible}
 use Rattle.turn_client_proto_messages.specs.StunProtoClient.Client.{Standing, standing_key}
 use Rattle.turn_client_proto_messages.specs.StunProtoClient.Digests.{IsRight}
 use Rattle.turn_desk_core.specs.StunProtoVerify.Judgement.{user_key}
@@ -22,5 +22,5 @@ module _ (old new : State) (from : SocketAddr) (bytes reply : List ℕ) (transpo
     validates = subst (λ (r : List ℕ). Validates reply (user_key r s.account.username s.account.password s.challenge.choice) s.challenge.choice is.text) (sym own.realm) is.valid;
   }
 
-  pub no_challenge : challenge_shown reply ≡ None
-  no_challenge = ap (λ (c : MessageClass). if is_error c && is_challenge_code (code_shown reply) then told_of (claimed reply) else None) is.success
+  pub no_challenge : challenge_visible reply ≡ None
+  no_challenge = ap (λ (c : MessageClass). if is_error c && is_challenge_code (code_visible reply) then reported_of (claimed reply) else None) is.success

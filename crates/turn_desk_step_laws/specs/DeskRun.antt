@@ -1,4 +1,4 @@
--- A desk's steps in the words of a run.
+-- A server core's steps in the terms of a run.
 use Rattle.std.specs.Prelude.{◌≡◌, ℕ, ◌<◌, ◌^◌, List, map, Option, Some, MatchOption}
 use Rattle.std.specs.List.{AllByRecursion}
 use Rattle.std.specs.declared.net.socket_addr.SocketAddr.{SocketAddr}
@@ -17,52 +17,53 @@ use Rattle.turn_desk_core.specs.Steps.{IsAnswer, IsGranted, key_at}
 use Rattle.turn_runs_laws.specs.TurnRuns.Messages.{Grant}
 use Rattle.turn_runs_laws.specs.TurnRuns.Words.{DeskWords}
 
--- bytes came from an address at a moment, and the desk may have replied
+-- Bytes came from an address at a time, and the server core may have replied.
 pub record DeskCall : Type 0 where
   pub before : State
   pub source : SocketAddr
   pub bytes : List ℕ
   pub now : ℕ
-  -- the random words from which a nonce is drawn
+  -- The random words from which a nonce is generated.
   pub stream : Stream
   pub decision : Decision
   pub reply : Option (List ℕ)
   pub after : State
 
--- each address is read back from a success response with this number
-abbrev pub AreTold : ℕ → List SocketAddr → Type 0
-AreTold number relayed = AllByRecursion (λ addr. address_in number (relayed_attribute number addr) ≡ Some addr) relayed
+-- Each address is decoded unchanged from a success response with this transaction ID.
+abbrev pub AreReported : ℕ → List SocketAddr → Type 0
+AreReported transaction_id relayed = AllByRecursion (λ addr. address_in transaction_id (relayed_attribute transaction_id addr) ≡ Some addr) relayed
 
--- what is decided can be told in a response with this number: addresses without flow information and
--- scope, and numbers of four bytes
-abbrev pub CanBeTold : ℕ → Decision → Type 0
-CanBeTold number (by.Allocate relayed lifetime) = AreTold number relayed × (lifetime < 2 ^ 32)
-CanBeTold number (by.Refresh lifetime) = lifetime < 2 ^ 32
-CanBeTold number (by.Connect connection) = connection < 2 ^ 32
-CanBeTold number _ = Unit {0}
+-- A response with this transaction ID can carry what is decided: its addresses have no flow information and
+-- no scope, and its numbers fit into four bytes.
+abbrev pub CanBeReported : ℕ → Decision → Type 0
+CanBeReported transaction_id (by.Allocate relayed lifetime) = AreReported transaction_id relayed × (lifetime < 2 ^ 32)
+CanBeReported transaction_id (by.Refresh lifetime) = lifetime < 2 ^ 32
+CanBeReported transaction_id (by.Connect connection) = connection < 2 ^ 32
+CanBeReported transaction_id _ = Unit {0}
 
--- a reply to bytes, by the contract of `Desk::handle`
+-- The reply is one that the contract of `Desk::handle` allows.
 pub record IsReplied (d : DeskCall) (reply : List ℕ) : Type 0 where
   pub are_bytes : AreBytes reply
   pub served : IsServed d.bytes
   pub answer : IsAnswer d.before d.source d.bytes d.now d.stream d.decision reply d.after
 
--- what the desk did is what the contract of `Desk::handle` says, memory aside
+-- The server core did what the contract of `Desk::handle` says, and did not run out of memory. What arrived
+-- are bytes, and a response can carry the decision. Without a reply, the state is unchanged.
 pub record IsHandled (d : DeskCall) : Type 0 where
   pub are_bytes : AreBytes d.bytes
-  pub told : CanBeTold (number_at d.bytes) d.decision
+  pub reported : CanBeReported (number_at d.bytes) d.decision
   pub outcome : MatchOption d.reply (d.after ≡ d.before) (IsReplied d)
 
--- the request was accepted as a user's: the desk keeps that user's key for its source, and the bytes
--- validate under it
+-- The server core accepted the request as a user's: it replied, and it has stored this key as that of the
+-- user at the source address.
 pub record IsAccepted (d : DeskCall) (key : List ℕ) (algorithm : IntegrityAlgorithm) : Type 0 where
   pub reply : List ℕ
   pub replied : d.reply ≡ Some reply
-  pub kept : key_at d.after.auth d.source ≡ Some (record { bytes = key; algorithm = algorithm })
+  pub stored : key_at d.after.auth d.source ≡ Some (record { bytes = key; algorithm = algorithm })
 
--- a grant, as far as a run tells it
-abbrev pub told_grant : granted.Grant → Grant
-told_grant g = record {
+-- A grant, as far as a run describes it.
+abbrev pub reported_grant : granted.Grant → Grant
+reported_grant g = record {
   method = g.method.0;
   number = g.number;
   from = g.from;
@@ -74,12 +75,12 @@ told_grant g = record {
   connection = g.connection;
 }
 
--- a grant that the desk made in this step, with all that its contract says of one
+-- The server core made this grant in this step, by its contract.
 pub record IsMade (d : DeskCall) (grant : Grant) : Type 0 where
   pub reply : List ℕ
   pub replied : d.reply ≡ Some reply
   pub made : granted.Grant
-  pub told : grant ≡ told_grant made
+  pub reported : grant ≡ reported_grant made
   pub granted_by : IsGranted d.before d.source d.bytes d.now d.stream d.decision reply made
 
 abbrev pub desk_words : DeskWords DeskCall
@@ -89,7 +90,7 @@ desk_words = record {
   realm = λ d. d.before.auth.realm;
   reply = λ d. d.reply;
   ValidatedWith = IsAccepted;
-  recorded = λ d. map told_grant d.before.grants;
-  records = λ d. map told_grant d.after.grants;
+  recorded = λ d. map reported_grant d.before.grants;
+  records = λ d. map reported_grant d.after.grants;
   IsGranted = IsMade;
 }

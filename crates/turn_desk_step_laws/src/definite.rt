@@ -1,6 +1,6 @@
-//! What a desk does is determined (RFC 8489, RFC 8656): of one state, one request that names no two of
-//! the desk's users, one moment, one decision and one stream of random words makes one reply and one
-//! state. The functions here do nothing; each contract is a law.
+//! What a server core does is determined (RFC 8489, RFC 8656). One state, one request that doesn't
+//! name two users, one time, one decision and one stream of random words determine the reply and
+//! the new state. The functions here do nothing; each contract is a theorem.
 
 ghost use Rattle.std.specs.Prelude.{◌≡◌, ℕ, List};
 ghost use Rattle.std.specs.declared.net.socket_addr.SocketAddr.{SocketAddr};
@@ -11,10 +11,10 @@ ghost use Rattle.turn_desk_core.specs.declared.decision.Decision.{Decision};
 ghost use Rattle.turn_desk_core.specs.State.{State};
 ghost use Rattle.turn_desk_core.specs.Steps.{IsAnswer};
 
-/// One request: the reply, and what the desk is then, are one, where the request names no two
-/// users. That is so where it shows a USERNAME, and where no two users have the same hash in the
-/// realm (RFC 8489, section 14.4). Where two have, the contract leaves open which of them a hash
-/// names.
+/// If a request doesn't name two users, only one reply to it and one new state are possible. The
+/// premise holds if the request shows a USERNAME, or if no two users have the same hash in the
+/// realm (RFC 8489, section 14.4). If two users have the same hash, the contract leaves open which
+/// of them a hash names.
 pub fn answering_is_definite()
     ensures { (old one other : State) (from : SocketAddr) (bytes reply again : List ℕ) (now : ℕ)
         (stream : Stream) (decision : Decision)
@@ -24,7 +24,8 @@ pub fn answering_is_definite()
         → (reply ≡ again) × (one ≡ other) }
 {}
 
-/// An answer changes no user: where no two have the same hash, no two have it afterwards.
+/// If no two users have the same hash before a request is answered, no two have the same hash
+/// afterwards: answering changes no user.
 pub fn hashes_differ_still()
     ensures { (old new : State) (from : SocketAddr) (bytes reply : List ℕ) (now : ℕ)
         (stream : Stream) (decision : Decision)

@@ -1,4 +1,5 @@
-//! Laws: each call of a desk is a step of a run, and how a desk comes to grant an allocation.
+//! Theorems: each call of a server core is a step of a run, and how a server core comes to grant an
+//! allocation.
 #![tactic(auto)]
 
 pub mod challenged;

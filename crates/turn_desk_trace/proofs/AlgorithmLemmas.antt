@@ -15,20 +15,20 @@ use Rattle.turn_desk_trace.specs.Algorithms.{AreAlgorithms, IsAnother, algorithm
 abbrev is_comma : ℕ → Bool
 is_comma b = eqb b 44
 
--- the algorithm of a word
-told : List ℕ → IntegrityAlgorithm
-told (s ∷ h ∷ a ∷ digit ∷ rest) = if eqb digit 49 then Sha1 else if eqb digit 50 then Sha256 else Sha512
-told word = Sha1
+-- The algorithm of a word.
+reported : List ℕ → IntegrityAlgorithm
+reported (s ∷ h ∷ a ∷ digit ∷ rest) = if eqb digit 49 then Sha1 else if eqb digit 50 then Sha256 else Sha512
+reported word = Sha1
 
-told_again : (a : IntegrityAlgorithm) → told (algorithm_word a) ≡ a
-unfolding told
-told_again Sha1 = refl
-told_again Sha256 = refl
-told_again Sha512 = refl
+decoded_again : (a : IntegrityAlgorithm) → reported (algorithm_word a) ≡ a
+unfolding reported
+decoded_again Sha1 = refl
+decoded_again Sha256 = refl
+decoded_again Sha512 = refl
 
--- each has a word of its own
+-- Two algorithms with equal words are equal.
 own_word : (a b : IntegrityAlgorithm) → algorithm_word a ≡ algorithm_word b → a ≡ b
-own_word a b same = sym (told_again a) ∙ ap told same ∙ told_again b
+own_word a b same = sym (decoded_again a) ∙ ap reported same ∙ decoded_again b
 
 first_same : {A : Type 0} {x y : A} {xs ys : List A} → x ∷ xs ≡ y ∷ ys → x ≡ y
 first_same p = Prim.cc p
@@ -36,7 +36,7 @@ first_same p = Prim.cc p
 rest_same : {A : Type 0} {x y : A} {xs ys : List A} → x ∷ xs ≡ y ∷ ys → xs ≡ ys
 rest_same p = Prim.cc p
 
--- algorithms whose words begin with those of others begin with these
+-- If the words of some algorithms begin with the words of others, the algorithms begin with those others.
 record Begins (before : List IntegrityAlgorithm) (name : List ℕ) (all : List IntegrityAlgorithm) : Type 0 where
   algorithm : IntegrityAlgorithm
   more : List IntegrityAlgorithm
@@ -48,16 +48,16 @@ begins [] name rest [] is = absurd (Prim.cc is)
 begins [] name rest (a ∷ all) is = record { algorithm = a; more = all; named = first_same is; whole = refl }
 begins (b ∷ before) name rest [] is = absurd (Prim.cc is)
 begins (b ∷ before) name rest (a ∷ all) is =
-    let behind = begins before name rest all (rest_same is) in
+    let following = begins before name rest all (rest_same is) in
     let same : b ≡ a = own_word b a (first_same is) in
     record {
-      algorithm = behind.algorithm;
-      more = behind.more;
-      named = behind.named;
-      whole = ap (λ (x : IntegrityAlgorithm). x ∷ before ++ behind.algorithm ∷ behind.more) same ∙ ap (λ (l : List IntegrityAlgorithm). a ∷ l) behind.whole;
+      algorithm = following.algorithm;
+      more = following.more;
+      named = following.named;
+      whole = ap (λ (x : IntegrityAlgorithm). x ∷ before ++ following.algorithm ∷ following.more) same ∙ ap (λ (l : List IntegrityAlgorithm). a ∷ l) following.whole;
     }
 
--- where a name names none that is new, there are no such algorithms
+-- If a name is not that of a new algorithm, no list of algorithms has these names.
 pub none_named : (before : List IntegrityAlgorithm) (name : List ℕ) (rest words : List (List ℕ)) → map algorithm_word before ++ name ∷ rest ≡ words → ((all : List IntegrityAlgorithm) → IsAnother before name all → ⊥) → (all : List IntegrityAlgorithm) → AreAlgorithms words all → ⊥
 none_named before name rest words parts none all are =
     let b = begins before name rest all (parts ∙ are.0) in
@@ -76,7 +76,7 @@ nested : (one two three : List (List ℕ)) → (one ++ two) ++ three ≡ one ++ 
 nested [] two three = refl
 nested (w ∷ one) two three = ap (λ (l : List (List ℕ)). w ∷ l) (nested one two three)
 
--- one more word, and one more algorithm
+-- One more word gives one more algorithm.
 pub words_and : (before all : List IntegrityAlgorithm) (name : List ℕ) (rest words : List (List ℕ)) → map algorithm_word before ++ name ∷ rest ≡ words → IsAnother before name all → map algorithm_word all ++ rest ≡ words
 words_and before all name rest words parts next =
     ap (λ (l : List IntegrityAlgorithm). map algorithm_word l ++ rest) next.whole
@@ -87,16 +87,16 @@ words_and before all name rest words parts next =
 pub still_distinct : (before all : List IntegrityAlgorithm) (name : List ℕ) → IsDistinct is_same_algorithm before → IsAnother before name all → IsDistinct is_same_algorithm all
 still_distinct before all name d next = subst (λ (l : List IntegrityAlgorithm). IsDistinct is_same_algorithm l) (sym next.whole) (more_distinct before next.algorithm d next.new)
 
--- ---- pieces
+-- ---- chunks
 
 none_cut : (s : List ℕ) → position_or_len is_comma s ≡ length s → slice_split is_comma s ≡ s ∷ []
 none_cut s whole = slice_split_none is_comma s (λ k e m. fails_before_first is_comma s k e (omega (arith, whole, m)))
 
-pub cut_pieces : (s : List ℕ) (r : Option (Bor (List ℕ) × Bor (List ℕ)))
+pub cut_chunks : (s : List ℕ) (r : Option (Bor (List ℕ) × Bor (List ℕ)))
     → MatchOption r (position_or_len is_comma s ≡ length s) (λ x. (x.0.now ≡ before_first is_comma s) × (x.1.now ≡ after_first is_comma s) × (position_or_len is_comma s < length s))
     → MatchOption r (slice_split is_comma s ≡ s ∷ []) (λ x. slice_split is_comma s ≡ x.0.now ∷ slice_split is_comma x.1.now)
-cut_pieces s None is = none_cut s is
-cut_pieces s (Some x) is =
+cut_chunks s None is = none_cut s is
+cut_chunks s (Some x) is =
     slice_split_first is_comma s 0 is.2 ∙ (ap (λ (l : List ℕ). l ∷ slice_split is_comma (after_first is_comma s)) (sym is.0) ∙ ap (λ (l : List ℕ). x.0.now ∷ slice_split is_comma l) (sym is.1))
 
 pub cut_shorter : (s : List ℕ) (r : Option (Bor (List ℕ) × Bor (List ℕ)))
@@ -108,7 +108,7 @@ cut_shorter s (Some x) is =
     let size = length-drop (position_or_len is_comma s + 1) s in
     subst (λ (l : List ℕ). length l < length s) (sym is.1) (omega (arith, size, within))
 
--- the last name decides
+-- The last name decides.
 pub by_last : (before : List IntegrityAlgorithm) (name : List ℕ) (words : List (List ℕ)) (result : Option (List IntegrityAlgorithm)) → map algorithm_word before ++ name ∷ [] ≡ words → IsDistinct is_same_algorithm before
     → MatchOption result ((all : List IntegrityAlgorithm) → ¬ (IsAnother before name all)) (λ all. IsAnother before name all)
     → MatchOption result ((all : List IntegrityAlgorithm) → ¬ (AreAlgorithms words all)) (AreAlgorithms words)

@@ -1,4 +1,4 @@
--- What `parse` and `try_from` answer, as the number that a word spells.
+-- What `parse` and `try_from` return, as the number that a word spells.
 use Rattle.std.proofs.Common.{ℕ, ◌≡◌, ◌<◌, ◌≤◌, ◌≢◌, ◌^◌, ◌-◌, Bool, List, length, get_or, true, false, refl, sym, ◌∙◌, ap, arith}
 use Rattle.std.specs.Prelude.{Some, None, Result, Ok, Err, ◌&&◌, nat_lt, nat_le, if◌then◌else◌}
 use Rattle.std.specs.Result.{OkIff, result_ok}
@@ -28,14 +28,14 @@ number_is true true false d x n h = cc
 number_is true false c d x n h = cc
 number_is false b c d x n h = cc
 
--- a word of digits within the bounds
+-- A word of digits whose number is within the bounds.
 pub number_within_yes : (least most : ℕ) (word : List ℕ) → all_ascii_digits word ≡ true → 0 < length word
     → least ≤ digits_value 10 word → digits_value 10 word ≤ most → number_within least most word ≡ Some (digits_value 10 word)
 unfolding number_within
 number_within_yes least most word digits some above below =
     number_yes _ _ _ _ _ digits (lt-ltb _ _ some) (le-leb _ _ above) (le-leb _ _ below)
 
--- any other word
+-- Any other word.
 pub number_within_no : (least most : ℕ) (word : List ℕ)
     → ¬ ((all_ascii_digits word ≡ true) × (0 < length word) × (least ≤ digits_value 10 word) × (digits_value 10 word ≤ most))
     → number_within least most word ≡ None
@@ -61,31 +61,31 @@ number_parsed word (Ok x) h =
     ap (λ n. Some n) h.1 ∙ sym (number_within_yes 0 (2 ^ 64 - 1) word h.0.0 h.0.1 (omega arith) (omega arith))
 number_parsed word (Err e) h = sym (number_within_no 0 (2 ^ 64 - 1) word (λ q. h (q.0, q.1, omega arith)))
 
--- `parse` at 64 bits, of a word that begins with no plus
+-- `parse` with 64 bits, for a word that does not begin with a plus.
 pub parse_number : {E : Type 0} (word : List ℕ) (r : Result ℕ E) → ParsesUnsigned 64 10 word r → get_or word 0 0 ≢ 43
     → result_ok r ≡ number_within 0 (2 ^ 64 - 1) word
 parse_number word r h plain = number_parsed word r (parse_plain own 64 word r h plain)
 
--- a word that begins with a plus is no number
+-- A word that begins with a plus is not a number.
 pub plus_number : (least most : ℕ) (word : List ℕ) → get_or word 0 0 ≡ 43 → number_within least most word ≡ None
 plus_number least most word plus =
     number_within_no least most word (λ q. not_in_digits own word 43 q.0 (λ r. omega arith) 0 q.1 plus)
 
--- what is no number within wide bounds is none within narrower ones
+-- A word without a number within wide bounds has none within narrower ones.
 pub none_narrower : (wide least most : ℕ) (word : List ℕ) → number_within 0 wide word ≡ None → most ≤ wide
     → number_within least most word ≡ None
 none_narrower wide least most word none narrower = number_within_no least most word (λ q.
     let found : number_within 0 wide word ≡ Some (digits_value 10 word) =
     number_within_yes 0 wide word q.0 q.1 (omega arith) (omega arith) in cc)
 
--- a number within wide bounds that lies within narrower ones
+-- A number within wide bounds that is also within narrower ones.
 pub narrow_inside : (wide least most : ℕ) (word : List ℕ) (n : ℕ) → number_within 0 wide word ≡ Some n → least ≤ n → n ≤ most
     → number_within least most word ≡ Some n
 narrow_inside wide least most word n found above below =
     let parts = number_within_is 0 wide word n found in
     number_within_yes least most word parts.0 parts.1 (omega arith) (omega arith) ∙ ap (λ m. Some m) parts.2
 
--- a number within wide bounds that lies outside of narrower ones
+-- A number within wide bounds that is outside narrower ones.
 pub narrow_below : (wide least most : ℕ) (word : List ℕ) (n : ℕ) → number_within 0 wide word ≡ Some n → n < least
     → number_within least most word ≡ None
 narrow_below wide least most word n found outside =
@@ -98,5 +98,5 @@ narrow_above wide least most word n found outside =
     let parts = number_within_is 0 wide word n found in
     number_within_no least most word (λ q. omega arith)
 
--- a number as it is written
+-- The rules for a number as it is written.
 pub ruleset parsed = (parse_number, plus_number)

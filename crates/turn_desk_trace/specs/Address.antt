@@ -1,9 +1,9 @@
--- Addresses of a trace.
+-- The addresses of a trace.
 use Rattle.std.specs.Prelude.{ℕ, List, [], ◌∷◌}
 use Rattle.std.specs.Net.Grammar.{IsSocketText}
 use Rattle.std.specs.declared.net.socket_addr.SocketAddr.{SocketAddr}
 
--- the texts, one or two, spell these transport addresses in their order
+-- The one or two texts spell these transport addresses, in order.
 abbrev pub AreAddresses : List (List ℕ) → List SocketAddr → Type 0
 AreAddresses (text ∷ []) (a ∷ []) = IsSocketText text a
 AreAddresses (text ∷ second ∷ []) (a ∷ b ∷ []) = IsSocketText text a × IsSocketText second b

@@ -1,4 +1,4 @@
--- Decisions of a trace.
+-- The decisions of a trace.
 use Rattle.std.specs.Prelude.{ℕ, ◌≡◌, ◌-◌, ◌^◌, ◌==◌, List, [], ◌∷◌, codes, Some}
 use Rattle.std.specs.List.{slice_split}
 use Rattle.turn_desk_core.specs.declared.decision.Decision.{Decision}
@@ -7,11 +7,11 @@ use Rattle.turn_desk_trace.specs.Address.{AreAddresses}
 use Rattle.turn_desk_trace.specs.TraceNumbers.{number_within}
 use Rattle.stun_types_wire.specs.Registry.{greatest_code, least_code}
 
--- the word spells a number of 32 bits
+-- The word spells a 32-bit number.
 abbrev pub IsU32 : List ℕ → ℕ → Type 0
 IsU32 word n = number_within 0 (2 ^ 32 - 1) word ≡ Some n
 
--- a name and a number spell the decision
+-- The name and the number spell the decision.
 abbrev pub IsNumbered : List ℕ → List ℕ → Decision → Type 0
 IsNumbered name word (Refuse code) = (name ≡ codes "refuse") × (number_within least_code greatest_code word ≡ Some code)
 IsNumbered name word (Allocate addresses lifetime) = ⊥
@@ -19,7 +19,7 @@ IsNumbered name word (Refresh lifetime) = (name ≡ codes "refresh") × IsU32 wo
 IsNumbered name word (Connect number) = (name ≡ codes "connect") × IsU32 word number
 IsNumbered name word Grant = ⊥
 
--- addresses and a lifetime spell the decision
+-- The addresses and the lifetime spell the decision.
 abbrev pub IsAllocate : List ℕ → List ℕ → Decision → Type 0
 IsAllocate addresses_word lifetime_word (Refuse code) = ⊥
 IsAllocate addresses_word lifetime_word (Allocate addresses lifetime) =
@@ -28,7 +28,7 @@ IsAllocate addresses_word lifetime_word (Refresh lifetime) = ⊥
 IsAllocate addresses_word lifetime_word (Connect number) = ⊥
 IsAllocate addresses_word lifetime_word Grant = ⊥
 
--- the words spell the decision
+-- The words spell the decision.
 abbrev pub IsDecision : List (List ℕ) → Decision → Type 0
 IsDecision [] decision = ⊥
 IsDecision (name ∷ []) decision = (name ≡ codes "grant") × (decision ≡ Grant)

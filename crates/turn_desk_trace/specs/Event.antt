@@ -1,4 +1,4 @@
--- Event lines of a trace.
+-- The event lines of a trace.
 use Rattle.std.specs.Prelude.{ℕ, ◌≡◌, List, [], ◌∷◌, ◌⊎◌, Option, Some, None, codes}
 use Rattle.std.specs.Net.Grammar.{IsIpText, IsSocketText}
 use Rattle.std.specs.declared.net.ip_addr.IpAddr.{IpAddr}
@@ -13,18 +13,18 @@ use Rattle.turn_desk_trace.specs.Bytes.{named_bytes}
 use Rattle.turn_desk_trace.specs.Decision.{IsDecision, IsU32}
 use Rattle.turn_desk_trace.specs.TraceNumbers.{number, seed_of}
 
--- the words are one, and it spells this moment
-abbrev pub IsMoment : List (List ℕ) → ℕ → Type 0
-IsMoment [] moment = ⊥
-IsMoment (now ∷ []) moment = number now ≡ Some moment
-IsMoment (now ∷ more ∷ rest) moment = ⊥
+-- There is one word, and it spells this time.
+abbrev pub IsTime : List (List ℕ) → ℕ → Type 0
+IsTime [] time = ⊥
+IsTime (now ∷ []) time = number now ≡ Some time
+IsTime (now ∷ more ∷ rest) time = ⊥
 
--- there is no word, and the moment is the start
-abbrev pub IsNoMoment : List (List ℕ) → ℕ → Type 0
-IsNoMoment [] moment = moment ≡ 0
-IsNoMoment (word ∷ rest) moment = ⊥
+-- There is no word, and the time is 0.
+abbrev pub IsNoTime : List (List ℕ) → ℕ → Type 0
+IsNoTime [] time = time ≡ 0
+IsNoTime (word ∷ rest) time = ⊥
 
--- the words are two, and they spell this transport and this IP address
+-- There are two words, and they spell this transport and this IP address.
 abbrev pub IsPlacedIp : List (List ℕ) → TransportType → IpAddr → Type 0
 IsPlacedIp [] transport ip = ⊥
 IsPlacedIp (a ∷ []) transport ip = ⊥
@@ -32,7 +32,7 @@ IsPlacedIp (name ∷ address ∷ []) transport ip =
     (name ≡ transport_word transport) × IsIpText address ip
 IsPlacedIp (a ∷ b ∷ more ∷ rest) transport ip = ⊥
 
--- the words are two, and they spell this transport and this transport address
+-- There are two words, and they spell this transport and this transport address.
 abbrev pub IsPlacedSocket : List (List ℕ) → TransportType → SocketAddr → Type 0
 IsPlacedSocket [] transport socket = ⊥
 IsPlacedSocket (a ∷ []) transport socket = ⊥
@@ -40,65 +40,66 @@ IsPlacedSocket (name ∷ address ∷ []) transport socket =
     (name ≡ transport_word transport) × IsSocketText address socket
 IsPlacedSocket (a ∷ b ∷ more ∷ rest) transport socket = ⊥
 
--- the words behind `permission` spell a moment, and this transport and this IP address
+-- The words after `permission` spell this time, this transport and this IP address.
 abbrev pub IsPermission : List (List ℕ) → TransportType → IpAddr → ℕ → Type 0
-IsPermission [] transport ip moment = ⊥
-IsPermission (now ∷ rest) transport ip moment = (number now ≡ Some moment) × IsPlacedIp rest transport ip
+IsPermission [] transport ip time = ⊥
+IsPermission (now ∷ rest) transport ip time = (number now ≡ Some time) × IsPlacedIp rest transport ip
 
--- the words behind `bind` spell a moment, and this transport and this transport address
+-- The words after `bind` spell this time, this transport and this transport address.
 abbrev pub IsBind : List (List ℕ) → TransportType → SocketAddr → ℕ → Type 0
-IsBind [] transport peer moment = ⊥
-IsBind (now ∷ rest) transport peer moment = (number now ≡ Some moment) × IsPlacedSocket rest transport peer
+IsBind [] transport peer time = ⊥
+IsBind (now ∷ rest) transport peer time = (number now ≡ Some time) × IsPlacedSocket rest transport peer
 
--- the words behind `connect` spell a moment and this transport address
+-- The words after `connect` spell this time and this transport address.
 abbrev pub IsConnect : List (List ℕ) → SocketAddr → ℕ → Type 0
-IsConnect [] peer moment = ⊥
-IsConnect (now ∷ []) peer moment = ⊥
-IsConnect (now ∷ address ∷ []) peer moment = (number now ≡ Some moment) × IsSocketText address peer
-IsConnect (now ∷ address ∷ more ∷ rest) peer moment = ⊥
+IsConnect [] peer time = ⊥
+IsConnect (now ∷ []) peer time = ⊥
+IsConnect (now ∷ address ∷ []) peer time = (number now ≡ Some time) × IsSocketText address peer
+IsConnect (now ∷ address ∷ more ∷ rest) peer time = ⊥
 
--- the word spells the own address of a socket, or that there is none
+-- The word spells the local address of a socket, or is `none`.
 abbrev pub IsSocket : List ℕ → Option SocketAddr → Type 0
 IsSocket word None = word ≡ codes "none"
 IsSocket word (Some here) = IsSocketText word here
 
--- the words behind `socket` spell a moment, a number, a peer and a socket
+-- The words after `socket` spell this time, this connection ID, this peer and this socket.
 abbrev pub IsAllocated : List (List ℕ) → ℕ → SocketAddr → Option SocketAddr → ℕ → Type 0
-IsAllocated (now ∷ id ∷ address ∷ local ∷ []) connection peer here moment =
-    (number now ≡ Some moment) × IsU32 id connection × IsSocketText address peer × IsSocket local here
-IsAllocated words connection peer here moment = ⊥
+IsAllocated (now ∷ id ∷ address ∷ local ∷ []) connection peer here time =
+    (number now ≡ Some time) × IsU32 id connection × IsSocketText address peer × IsSocket local here
+IsAllocated words connection peer here time = ⊥
 
--- the words behind `closed` spell a moment, an own address and that of the other side
+-- The words after `closed` spell this time, this local address and this remote address.
 abbrev pub IsClosed : List (List ℕ) → (here there : SocketAddr) → ℕ → Type 0
-IsClosed (now ∷ local ∷ remote ∷ []) here there moment =
-    (number now ≡ Some moment) × IsSocketText local here × IsSocketText remote there
-IsClosed words here there moment = ⊥
+IsClosed (now ∷ local ∷ remote ∷ []) here there time =
+    (number now ≡ Some time) × IsSocketText local here × IsSocketText remote there
+IsClosed words here there time = ⊥
 
--- a name and the words behind it spell a call of the client at a moment; one that sends bytes is spelled below
+-- The name and the words after it spell a call of the client at this time. `IsSend` defines this for the call
+-- that sends bytes.
 abbrev pub IsCall : List ℕ → List (List ℕ) → ClientCall → ℕ → Type 0
-IsCall name rest Poll moment = (name ≡ codes "poll") × IsMoment rest moment
-IsCall name rest PollEvent moment = (name ≡ codes "event") × IsNoMoment rest moment
-IsCall name rest Delete moment = (name ≡ codes "delete") × IsMoment rest moment
-IsCall name rest (CreatePermission transport ip) moment =
-    (name ≡ codes "permission") × IsPermission rest transport ip moment
-IsCall name rest (HavePermission transport ip) moment =
-    (name ≡ codes "have") × IsPlacedIp rest transport ip × (moment ≡ 0)
-IsCall name rest (Permissions transport socket) moment =
-    (name ≡ codes "permissions") × IsPlacedSocket rest transport socket × (moment ≡ 0)
-IsCall name rest (BindChannel transport peer) moment =
-    (name ≡ codes "bind") × IsBind rest transport peer moment
-IsCall name rest (TcpConnect peer) moment = (name ≡ codes "connect") × IsConnect rest peer moment
-IsCall name rest (AllocatedTcpSocket connection peer here) moment =
-    (name ≡ codes "socket") × IsAllocated rest connection peer here moment
-IsCall name rest (TcpClosed here there) moment = (name ≡ codes "closed") × IsClosed rest here there moment
-IsCall name rest Connections moment = (name ≡ codes "connections") × IsNoMoment rest moment
-IsCall name rest Channels moment = (name ≡ codes "channels") × IsNoMoment rest moment
-IsCall name rest (SendTo transport to bytes) moment = ⊥
-IsCall name rest PollRecv moment = (name ≡ codes "recv") × IsMoment rest moment
-IsCall name rest ProtocolError moment = (name ≡ codes "error") × IsNoMoment rest moment
-IsCall name rest RelayedAddresses moment = (name ≡ codes "relayed") × IsNoMoment rest moment
+IsCall name rest Poll time = (name ≡ codes "poll") × IsTime rest time
+IsCall name rest PollEvent time = (name ≡ codes "event") × IsNoTime rest time
+IsCall name rest Delete time = (name ≡ codes "delete") × IsTime rest time
+IsCall name rest (CreatePermission transport ip) time =
+    (name ≡ codes "permission") × IsPermission rest transport ip time
+IsCall name rest (HavePermission transport ip) time =
+    (name ≡ codes "have") × IsPlacedIp rest transport ip × (time ≡ 0)
+IsCall name rest (Permissions transport socket) time =
+    (name ≡ codes "permissions") × IsPlacedSocket rest transport socket × (time ≡ 0)
+IsCall name rest (BindChannel transport peer) time =
+    (name ≡ codes "bind") × IsBind rest transport peer time
+IsCall name rest (TcpConnect peer) time = (name ≡ codes "connect") × IsConnect rest peer time
+IsCall name rest (AllocatedTcpSocket connection peer here) time =
+    (name ≡ codes "socket") × IsAllocated rest connection peer here time
+IsCall name rest (TcpClosed here there) time = (name ≡ codes "closed") × IsClosed rest here there time
+IsCall name rest Connections time = (name ≡ codes "connections") × IsNoTime rest time
+IsCall name rest Channels time = (name ≡ codes "channels") × IsNoTime rest time
+IsCall name rest (SendTo transport to bytes) time = ⊥
+IsCall name rest PollRecv time = (name ≡ codes "recv") × IsTime rest time
+IsCall name rest ProtocolError time = (name ≡ codes "error") × IsNoTime rest time
+IsCall name rest RelayedAddresses time = (name ≡ codes "relayed") × IsNoTime rest time
 
--- the words, of which the last ones are a decision, spell bytes that reach the desk
+-- The words, of which the last ones are a decision, spell the event that bytes reach the server core.
 abbrev pub IsToDeskOf : List (List ℕ) → List ℕ → List ℕ → List ℕ → List ℕ → List (List ℕ) → Event → Type 0
 IsToDeskOf answers now from bytes seed decision (ToDesk b f n d s) =
     (number now ≡ Some n) × IsSocketText from f × (named_bytes answers bytes ≡ Some b.items)
@@ -107,19 +108,19 @@ IsToDeskOf answers now from bytes seed decision (ToClient b f t n) = ⊥
 IsToDeskOf answers now from bytes seed decision (Draw n) = ⊥
 IsToDeskOf answers now from bytes seed decision (Call call n) = ⊥
 
--- a moment, a source and the words behind them spell bytes that reach the desk
+-- A time, a source and the words after them spell the event that bytes reach the server core.
 abbrev pub IsToDeskFrom : List (List ℕ) → List ℕ → List ℕ → List (List ℕ) → Event → Type 0
 IsToDeskFrom answers now from [] event = ⊥
 IsToDeskFrom answers now from (a ∷ []) event = ⊥
 IsToDeskFrom answers now from (bytes ∷ seed ∷ decision) event = IsToDeskOf answers now from bytes seed decision event
 
--- the words behind `todesk` spell the event, after these answers
+-- The words after `todesk` spell the event, given these earlier results.
 abbrev pub IsToDesk : List (List ℕ) → List (List ℕ) → Event → Type 0
 IsToDesk answers [] event = ⊥
 IsToDesk answers (a ∷ []) event = ⊥
 IsToDesk answers (now ∷ from ∷ rest) event = IsToDeskFrom answers now from rest event
 
--- the words spell bytes that reach the client
+-- The words spell the event that bytes reach the client.
 abbrev pub IsToClientOf : List (List ℕ) → List ℕ → List ℕ → List ℕ → List ℕ → Event → Type 0
 IsToClientOf answers now from to bytes (ToClient b f t n) =
     (number now ≡ Some n) × IsSocketText from f × IsSocketText to t
@@ -128,35 +129,35 @@ IsToClientOf answers now from to bytes (ToDesk b f n d s) = ⊥
 IsToClientOf answers now from to bytes (Draw n) = ⊥
 IsToClientOf answers now from to bytes (Call call n) = ⊥
 
--- a moment, a source and the words behind them spell bytes that reach the client
+-- A time, a source and the words after them spell the event that bytes reach the client.
 abbrev pub IsToClientFrom : List (List ℕ) → List ℕ → List ℕ → List (List ℕ) → Event → Type 0
 IsToClientFrom answers now from [] event = ⊥
 IsToClientFrom answers now from (a ∷ []) event = ⊥
 IsToClientFrom answers now from (to ∷ bytes ∷ []) event = IsToClientOf answers now from to bytes event
 IsToClientFrom answers now from (a ∷ b ∷ more ∷ rest) event = ⊥
 
--- the words behind `toclient` spell the event, after these answers
+-- The words after `toclient` spell the event, given these earlier results.
 abbrev pub IsToClient : List (List ℕ) → List (List ℕ) → Event → Type 0
 IsToClient answers [] event = ⊥
 IsToClient answers (a ∷ []) event = ⊥
 IsToClient answers (now ∷ from ∷ rest) event = IsToClientFrom answers now from rest event
 
--- the words behind `send` spell bytes that the client is to send to a peer at a moment, after these answers
+-- The words after `send` spell the call that sends bytes to a peer at this time, given these earlier results.
 abbrev pub IsSend : List (List ℕ) → List (List ℕ) → ClientCall → ℕ → Type 0
-IsSend answers (now ∷ name ∷ to ∷ bytes ∷ []) (SendTo transport peer sent) moment =
-    (number now ≡ Some moment) × (name ≡ transport_word transport) × IsSocketText to peer
+IsSend answers (now ∷ name ∷ to ∷ bytes ∷ []) (SendTo transport peer sent) time =
+    (number now ≡ Some time) × (name ≡ transport_word transport) × IsSocketText to peer
     × (named_bytes answers bytes ≡ Some sent.items)
-IsSend answers words call moment = ⊥
+IsSend answers words call time = ⊥
 
--- a name and the words behind it spell the event, after these answers
+-- The name and the words after it spell the event, given these earlier results.
 abbrev pub IsEventOf : List (List ℕ) → List ℕ → List (List ℕ) → Event → Type 0
-IsEventOf answers name rest (Call call moment) =
-    IsCall name rest call moment ⊎ ((name ≡ codes "send") × IsSend answers rest call moment)
-IsEventOf answers name rest (Draw moment) = (name ≡ codes "draw") × IsMoment rest moment
+IsEventOf answers name rest (Call call time) =
+    IsCall name rest call time ⊎ ((name ≡ codes "send") × IsSend answers rest call time)
+IsEventOf answers name rest (Draw time) = (name ≡ codes "draw") × IsTime rest time
 IsEventOf answers name rest (ToClient b f t n) = (name ≡ codes "toclient") × IsToClient answers rest (ToClient b f t n)
 IsEventOf answers name rest (ToDesk b f n d s) = (name ≡ codes "todesk") × IsToDesk answers rest (ToDesk b f n d s)
 
--- the words spell the event, after these answers
+-- The words spell the event, given these earlier results.
 abbrev pub IsEvent : List (List ℕ) → List (List ℕ) → Event → Type 0
 IsEvent answers [] event = ⊥
 IsEvent answers (name ∷ rest) event = IsEventOf answers name rest event

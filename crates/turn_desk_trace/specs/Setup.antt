@@ -1,4 +1,4 @@
--- Setup lines of a trace.
+-- The setup lines of a trace.
 use Rattle.std.specs.Prelude.{ℕ, ◌≡◌, ◌≤◌, ◌*◌, ◌==◌, List, [], ◌∷◌, length, codes, Some}
 use Rattle.std.specs.Duration.{as_nanos}
 use Rattle.std.specs.List.{slice_split}
@@ -22,99 +22,100 @@ use Rattle.turn_desk_trace.specs.declared.setup.Setup.{Setup}
 use Rattle.turn_desk_trace.specs.declared.setup.Setup.TheVariants.{Desk, User, Rto, Client}
 use Rattle.turn_desk_trace.specs.declared.setup.TheConstants.{MAX_REALM, MAX_USERNAME}
 
--- the word for the families
+-- The word for the address families.
 abbrev pub families_word : Families → List ℕ
 families_word V4 = codes "4"
 families_word V6 = codes "6"
 families_word V4AndV6 = codes "4,6"
 families_word V6AndV4 = codes "6,4"
 
--- the families themselves, in the order in which the word names them
+-- The list of the address families, in the order in which the word names them.
 abbrev pub families_in_order : Families → List AddressFamily
 families_in_order V4 = IPV4 ∷ []
 families_in_order V6 = IPV6 ∷ []
 families_in_order V4AndV6 = IPV4 ∷ IPV6 ∷ []
 families_in_order V6AndV4 = IPV6 ∷ IPV4 ∷ []
 
--- the word for the anonymity
+-- The word for the anonymity setting.
 abbrev pub anonymity_word : Feature → List ℕ
 anonymity_word Auto = codes "auto"
 anonymity_word Required = codes "required"
 anonymity_word Disabled = codes "disabled"
 
--- a millisecond, in nanoseconds
+-- A millisecond, in nanoseconds.
 abbrev pub millisecond : ℕ
 millisecond = 1_000_000
 
--- the word spells a number of milliseconds, which the duration lasts
+-- The word spells the duration in milliseconds.
 abbrev pub IsMillis : List ℕ → Duration → Type 0
 IsMillis word duration = option_map (λ millis. millis * millisecond) (number word) ≡ Some (as_nanos duration)
 
--- the words behind `desk` spell a desk of that realm and those settings
+-- The words after `desk` spell a server core with that realm and those settings.
 abbrev pub IsDesk : List (List ℕ) → Setup → Type 0
 IsDesk (realm ∷ algorithms ∷ anonymity ∷ []) (Desk r a b) =
     (r.now ≡ realm) × (length realm ≤ MAX_REALM) × AreAlgorithms (slice_split (λ b. b == 44) algorithms) a
     × (anonymity ≡ anonymity_word b)
 IsDesk words setup = ⊥
 
--- the words behind `user` spell a user of that name and password
+-- The words after `user` spell a user with that name and password.
 abbrev pub IsUser : List (List ℕ) → Setup → Type 0
 IsUser (name ∷ password ∷ []) (User n p) = (n.now ≡ name) × (length name ≤ MAX_USERNAME) × (p.now ≡ password)
 IsUser words setup = ⊥
 
--- the words spell how long requests wait: first, at most, how many there are, and last
+-- The words spell the retransmission timeouts of requests: the first one, the maximum, the number of
+-- transmissions, and the last one.
 abbrev pub IsRtoOf : List ℕ → List ℕ → List ℕ → List ℕ → Setup → Type 0
 IsRtoOf initial most count last (Desk r a b) = ⊥
 IsRtoOf initial most count last (User n p) = ⊥
 IsRtoOf initial most count last (Rto i m n l) = IsMillis initial i × IsMillis most m × IsU32 count n × IsMillis last l
 IsRtoOf initial most count last (Client by over settings) = ⊥
 
--- the first two waits and the words behind them spell how long requests wait
+-- The first two timeouts and the words after them spell the retransmission timeouts of requests.
 abbrev pub IsRtoWith : List ℕ → List ℕ → List (List ℕ) → Setup → Type 0
 IsRtoWith initial most (count ∷ last ∷ []) setup = IsRtoOf initial most count last setup
 IsRtoWith initial most words setup = ⊥
 
--- the words behind `rto` spell how long requests wait
+-- The words after `rto` spell the retransmission timeouts of requests.
 abbrev pub IsRto : List (List ℕ) → Setup → Type 0
 IsRto (initial ∷ most ∷ rest) setup = IsRtoWith initial most rest setup
 IsRto words setup = ⊥
 
--- the words spell the settings of a client at those addresses
+-- The words spell the settings of a client with those addresses.
 pub record IsClientOf (local remote families algorithms anonymity name password seed : List ℕ)
     (client : ClientSetup) : Type 0 where
   pub here : IsSocketText local client.local
   pub server : IsSocketText remote client.remote
-  pub asked : families ≡ families_word client.families
+  pub requested : families ≡ families_word client.families
   pub supported : AreAlgorithms (slice_split (λ b. b == 44) algorithms) client.algorithms
   pub hidden : anonymity ≡ anonymity_word client.anonymity
   pub user : client.name.now ≡ name
   pub bound : length name ≤ MAX_USERNAME
   pub secret : client.password.now ≡ password
-  pub drawn : seed_of seed ≡ Some client.seed
+  pub transmitted : seed_of seed ≡ Some client.seed
 
--- the words behind the settings spell a client at those addresses with those settings
+-- The first five words and the words after them spell the settings of a client.
 abbrev pub IsClientWith : List ℕ → List ℕ → List ℕ → List ℕ → List ℕ → List (List ℕ) → ClientSetup → Type 0
 IsClientWith local remote families algorithms anonymity (name ∷ password ∷ seed ∷ []) client =
     IsClientOf local remote families algorithms anonymity name password seed client
 IsClientWith local remote families algorithms anonymity words client = ⊥
 
--- the words behind the transport of the allocation spell a client at those addresses
+-- The two addresses and the words after the transport of the allocation spell the settings of a client.
 abbrev pub IsClientAt : List ℕ → List ℕ → List (List ℕ) → ClientSetup → Type 0
 IsClientAt local remote (families ∷ algorithms ∷ anonymity ∷ words) client =
     IsClientWith local remote families algorithms anonymity words client
 IsClientAt local remote words client = ⊥
 
--- over UDP no allocation over TCP can be asked for (RFC 6062, section 4.1)
+-- A client over UDP can't request an allocation over TCP (RFC 6062, section 4.1).
 abbrev pub CanAsk : (by over : TransportType) → Type 0
 CanAsk Udp Tcp = ⊥
 CanAsk Udp Udp = Unit {0}
 CanAsk Tcp over = Unit {0}
 
--- two words name the transport between a client and the server, and that between the server and the peers
+-- The two words name the transport between client and server, and the one between server and peers.
 abbrev pub AreTransports : List ℕ → List ℕ → TransportType → TransportType → Type 0
 AreTransports first second by over = (first ≡ transport_word by) × (second ≡ transport_word over) × CanAsk by over
 
--- the words behind `client` spell the client
+-- The words after `client` spell the client.
 abbrev pub IsClientBy : List ℕ → List ℕ → List ℕ → List ℕ → List (List ℕ) → Setup → Type 0
 IsClientBy by local remote over words (Desk r a b) = ⊥
 IsClientBy by local remote over words (User n p) = ⊥
@@ -125,14 +126,14 @@ abbrev pub IsClient : List (List ℕ) → Setup → Type 0
 IsClient (by ∷ local ∷ remote ∷ over ∷ words) setup = IsClientBy by local remote over words setup
 IsClient words setup = ⊥
 
--- a name and the words behind it spell the setup line
+-- The name and the words after it spell the setup line.
 abbrev pub IsSetupOf : List ℕ → List (List ℕ) → Setup → Type 0
 IsSetupOf name rest (Desk r a b) = (name ≡ codes "desk") × IsDesk rest (Desk r a b)
 IsSetupOf name rest (User n p) = (name ≡ codes "user") × IsUser rest (User n p)
 IsSetupOf name rest (Rto i m n l) = (name ≡ codes "rto") × IsRto rest (Rto i m n l)
 IsSetupOf name rest (Client by over settings) = (name ≡ codes "client") × IsClient rest (Client by over settings)
 
--- the words spell the setup line
+-- The words spell the setup line.
 abbrev pub IsSetup : List (List ℕ) → Setup → Type 0
 IsSetup [] setup = ⊥
 IsSetup (name ∷ rest) setup = IsSetupOf name rest setup

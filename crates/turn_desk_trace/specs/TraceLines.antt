@@ -1,4 +1,4 @@
--- Lines of a trace.
+-- The lines of a trace.
 use Rattle.std.specs.Prelude.{ℕ, ◌≡◌, ◌⊎◌, List, true}
 use Rattle.line_io.specs.Cut.{says_nothing}
 use Rattle.line_io.specs.LineWords.{AreWords}
@@ -7,17 +7,17 @@ use Rattle.turn_desk_trace.specs.declared.line.Line.TheVariants.{Setup, Event}
 use Rattle.turn_desk_trace.specs.Event.{IsEvent}
 use Rattle.turn_desk_trace.specs.Setup.{IsSetup}
 
--- the words spell the line, after these answers
+-- The words spell the line, given these earlier results.
 abbrev pub IsLineOf : List (List ℕ) → List (List ℕ) → Line → Type 0
 IsLineOf answers words (Setup setup) = IsSetup words setup
 IsLineOf answers words (Event event) = IsEvent answers words event
 
--- the words of the text spell the line
+-- The words of the text spell the line.
 pub record IsLine (answers : List (List ℕ)) (text : List ℕ) (line : Line) : Type 0 where
   pub words : List (List ℕ)
   pub parted : AreWords text words
   pub spelled : IsLineOf answers words line
 
--- the line says nothing, or can be read after some answers
+-- The line is blank or a comment, or it can be read, given some earlier results.
 abbrev pub IsReadable : List ℕ → Type 0
 IsReadable text = (says_nothing text ≡ true) ⊎ ((answers : List (List ℕ)) × (line : Line) × IsLine answers text line)

@@ -1,4 +1,4 @@
-//! Addresses of a trace, as std reads and prints them, and their transports.
+//! The addresses of a trace, in the notation of `std`, and their transports.
 
 ghost use Rattle.std.specs.Prelude.{◌≡◌, ◌≢◌, [], ◌∷◌, List, Err, IfOk, MatchOption, ◌==◌, map};
 ghost use Rattle.std.specs.List.{slice_split};
@@ -10,15 +10,15 @@ ghost use Rattle.turn_desk_trace.specs.Address.{AreAddresses};
 ghost use Rattle.turn_desk_event.specs.Printed.{transport_word};
 
 use line_io::refusal::LineError;
-use line_io::word::pieces;
+use line_io::word::chunks;
 use std::alloc::Global;
 use std::net::{IpAddr, SocketAddr};
 use stun_types_base::list::ListOf;
 use stun_types_base::memory::NoMemory;
 use stun_types_base::transport::TransportType;
 
-/// The transport address that a word spells, as `192.0.2.1:3478` or `[2001:db8::1]:3478`. None
-/// where it spells none.
+/// Reads a transport address, such as `192.0.2.1:3478` or `[2001:db8::1]:3478`. Returns `None` for
+/// any other word.
 pub fn read_address(word: &str) -> Option<SocketAddr>
     ensures { MatchOption result ((a : SocketAddr) → ¬ (IsSocketText word.now a))
         (IsSocketText word.now) }
@@ -26,14 +26,14 @@ pub fn read_address(word: &str) -> Option<SocketAddr>
     word.parse::<SocketAddr>().ok()
 }
 
-/// The IP address that a word spells, as `192.0.2.1` or `2001:db8::1`. None where it spells none.
+/// Reads an IP address, such as `192.0.2.1` or `2001:db8::1`. Returns `None` for any other word.
 pub fn read_ip(word: &str) -> Option<IpAddr>
     ensures { MatchOption result ((a : IpAddr) → ¬ (IsIpText word.now a)) (IsIpText word.now) }
 {
     word.parse::<IpAddr>().ok()
 }
 
-/// The transport that a word names. None where it names none.
+/// Reads the name of a transport. Returns `None` for any other word.
 pub fn read_transport(word: &str) -> Option<TransportType>
     ensures { MatchOption result ((t : TransportType) → word.now ≢ transport_word t)
         (λ t. word.now ≡ transport_word t) }
@@ -45,19 +45,23 @@ pub fn read_transport(word: &str) -> Option<TransportType>
     }
 }
 
-/// One transport address, or two with a comma between. Two of one family are read: whether they
-/// fit a request is for the desk to say. Refused with `Bad` where the word spells none, and with
-/// `NoMemory` where memory is refused.
+/// Reads one transport address, or two separated by a comma. It accepts two addresses of one
+/// family; the server core decides whether they fit a request.
+///
+/// # Errors
+///
+/// - `Bad`: the word is neither.
+/// - `NoMemory`: an allocation failed.
 pub fn read_addresses(alloc: Global, word: &str) -> Result<ListOf<SocketAddr>, LineError>
     ensures ok { IfOk result (AreAddresses (slice_split (λ b. b == 44) word.now)) }
     ensures bad { result ≡ Err LineError.Bad → (addresses : List SocketAddr)
         → ¬ (AreAddresses (slice_split (λ b. b == 44) word.now) addresses) }
 {
-    let words = pieces(alloc, word, ',')?;
+    let words = chunks(alloc, word, ',')?;
     listed_addresses(alloc, words.as_slice())
 }
 
-/// The addresses that one word or two spell.
+/// Reads a list of one or two words, each an address.
 fn listed_addresses(alloc: Global, words: &[&str]) -> Result<ListOf<SocketAddr>, LineError>
     ensures ok { IfOk result (AreAddresses (map (λ x. x.now) words.now)) }
     ensures bad { result ≡ Err LineError.Bad → (addresses : List SocketAddr)

@@ -1,4 +1,4 @@
-//! Integrity algorithms of a trace: their names, with commas between.
+//! The integrity algorithms of a trace: names separated by commas.
 
 ghost use Rattle.std.specs.Prelude.{◌≡◌, ◌≢◌, ◌∷◌, [], ◌==◌, ◌<◌, List, IfSome, MatchOption, length};
 ghost use Rattle.std.specs.List.{slice_split};
@@ -8,7 +8,7 @@ ghost use Rattle.turn_desk_trace.specs.Algorithms.{AreAlgorithms, IsAnother, alg
 use stun_proto_auth::supported::SupportedIntegrity;
 use stun_types_wire::algorithm::IntegrityAlgorithm;
 
-/// The algorithm that a word names. None where it names none.
+/// Reads the name of an algorithm. Returns `None` for any other word.
 pub fn read_algorithm(word: &str) -> Option<IntegrityAlgorithm>
     ensures { MatchOption result ((a : IntegrityAlgorithm) → word.now ≢ algorithm_word a)
         (λ a. word.now ≡ algorithm_word a) }
@@ -21,8 +21,8 @@ pub fn read_algorithm(word: &str) -> Option<IntegrityAlgorithm>
     }
 }
 
-/// The algorithms that a word names, one or several with commas between. None where it names none, and
-/// where it names one twice.
+/// Reads one or more names of algorithms, separated by commas. Returns `None` if a name is unknown
+/// or appears twice.
 pub fn read_algorithms(word: &str) -> Option<SupportedIntegrity>
     ensures { MatchOption result ((algorithms : List IntegrityAlgorithm)
         → ¬ (AreAlgorithms (slice_split (λ b. b == 44) word.now) algorithms))
@@ -37,9 +37,9 @@ pub fn read_algorithms(word: &str) -> Option<SupportedIntegrity>
     with_named(algorithms, left)
 }
 
-/// What is before the first comma of a word, and what is behind it. None where there is no comma.
+/// Splits a word at its first comma. Returns `None` if there is no comma.
 fn cut(word: &str) -> Option<(&str, &str)>
-    ensures pieces { MatchOption result
+    ensures chunks { MatchOption result
         (slice_split (λ b. b == 44) word.now ≡ word.now ∷ [])
         (λ parts. slice_split (λ b. b == 44) word.now
         ≡ parts.0.now ∷ slice_split (λ b. b == 44) parts.1.now) }
@@ -48,8 +48,8 @@ fn cut(word: &str) -> Option<(&str, &str)>
     word.split_once(',')
 }
 
-/// The algorithms that were named before, and another one last, which the word names. None where it names
-/// none, or one of those.
+/// Appends the algorithm with this name to the algorithms before it. Returns `None` if the name is
+/// unknown, or its algorithm is among those.
 fn with_named(before: Option<SupportedIntegrity>, name: &str) -> Option<SupportedIntegrity>
     ensures { MatchOption result ((algorithms : List IntegrityAlgorithm)
         → ¬ (IsAnother (listed before) name.now algorithms)) (IsAnother (listed before) name.now) }

@@ -1,4 +1,5 @@
-//! BYTES: parts joined by `+`, each lower case hex or bytes that an earlier event line answered.
+//! BYTES: parts joined by `+`, each either lower-case hex or bytes from the result of an earlier
+//! event line.
 
 ghost use Rattle.std.specs.Prelude.{◌≡◌, Some, None, Err, IfOk, OnOk, map};
 ghost use Rattle.std.specs.Option.{option_copied};
@@ -10,16 +11,20 @@ use crate::named::Named;
 use crate::number::read_u64;
 use line_io::lower_hex::{decode_lower, is_no_bytes};
 use line_io::refusal::LineError;
-use line_io::word::pieces;
+use line_io::word::chunks;
 use std::alloc::Global;
 use stun_types_base::memory::NoMemory;
 
-/// The bytes that a BYTES word names: `-` is no bytes, and else its parts, which `+` joins, give
-/// theirs in their order. A part that names no bytes makes the word bad. All bytes are read, however
-/// many: a word that names a long answer again and again takes memory for each time.
+/// Reads a BYTES word. `-` stands for no bytes. Any other word consists of parts joined by `+`, and
+/// gives the bytes of its parts in order.
 ///
-/// `answers` are those of the event lines so far, the first of them first. Where memory is refused,
-/// `NoMemory`.
+/// `answers` are the results of the event lines so far, the first line's first. The number of bytes
+/// is not limited: a word that names a long result several times allocates memory for each time.
+///
+/// # Errors
+///
+/// - `Bad`: a part names no bytes.
+/// - `NoMemory`: an allocation failed.
 pub fn read_bytes(alloc: Global, word: &str, answers: &[Named]) -> Result<Vec<u8>, LineError>
     ensures ok { IfOk result (λ bytes. named_bytes answers.now word.now ≡ Some bytes.items) }
     ensures bad { result ≡ Err LineError.Bad → named_bytes answers.now word.now ≡ None }
@@ -27,11 +32,11 @@ pub fn read_bytes(alloc: Global, word: &str, answers: &[Named]) -> Result<Vec<u8
     if is_no_bytes(word) {
         return Ok(Vec::new(alloc));
     }
-    let parts = pieces(alloc, word, '+')?;
+    let parts = chunks(alloc, word, '+')?;
     join_parts(alloc, parts.as_slice(), answers)
 }
 
-/// The bytes that the parts of a word name, in the order of the parts.
+/// Returns the bytes that the parts of a word name, in the order of the parts.
 fn join_parts(alloc: Global, parts: &[&str], answers: &[Named]) -> Result<Vec<u8>, LineError>
     ensures ok { IfOk result (λ bytes. joined (map (λ x. part_bytes answers.now x.now) parts.now)
         ≡ Some bytes.items) }
@@ -64,7 +69,7 @@ fn push_part(
     }
 }
 
-/// Appends the bytes that a part names by what stands behind its `@`.
+/// Appends the bytes of a part that names a result; `reference` is the part after its `@`.
 fn push_answered(
     alloc: Global,
     bytes: &mut Vec<u8>,
@@ -75,14 +80,14 @@ fn push_answered(
         ≡ Some bytes.new.items) }
     ensures bad { result ≡ Err LineError.Bad → answered_part answers.now reference.now ≡ None }
 {
-    let words = pieces(alloc, reference, ':')?;
+    let words = chunks(alloc, reference, ':')?;
     match answered_bytes(words.as_slice(), answers) {
         Some(named) => push_some(bytes, named),
         None => Err(LineError::Bad),
     }
 }
 
-/// Appends the bytes of a part that is lower case hex.
+/// Appends the bytes of a part in lower-case hex.
 fn push_hex(alloc: Global, bytes: &mut Vec<u8>, part: &str) -> Result<(), LineError>
     ensures ok { OnOk result (prepend bytes.old.items (some_bytes (hex_bytes part.now))
         ≡ Some bytes.new.items) }
@@ -92,7 +97,7 @@ fn push_hex(alloc: Global, bytes: &mut Vec<u8>, part: &str) -> Result<(), LineEr
     push_some(bytes, decoded.as_slice())
 }
 
-/// Appends bytes that a part named. Where they are none, the part named nothing.
+/// Appends the bytes that a part named. Fails with `Bad` if there are none.
 fn push_some(bytes: &mut Vec<u8>, named: &[u8]) -> Result<(), LineError>
     ensures ok { OnOk result (prepend bytes.old.items (some_bytes (Some named.now))
         ≡ Some bytes.new.items) }
@@ -105,7 +110,7 @@ fn push_some(bytes: &mut Vec<u8>, named: &[u8]) -> Result<(), LineError>
     Ok(())
 }
 
-/// The bytes that `k` or `k:a:b` names, from the words between the colons.
+/// Returns the bytes that `k` or `k:a:b` names; `words` are the words between the colons.
 #[tactic(auto, unfolding(crate::specs::Bytes::reference_bytes))]
 fn answered_bytes<'a>(words: &[&str], answers: &'a [Named]) -> Option<&'a [u8]>
     ensures { option_copied result ≡ reference_bytes answers.entry.now
@@ -118,7 +123,7 @@ fn answered_bytes<'a>(words: &[&str], answers: &'a [Named]) -> Option<&'a [u8]>
     }
 }
 
-/// What an event line answered, event lines counted from 1.
+/// Returns the result bytes of an event line. Event lines are counted from 1.
 fn whole_answer<'a>(event: &str, answers: &'a [Named]) -> Option<&'a [u8]>
     ensures { option_copied result ≡ answer_of answers.entry.now (number event.now) }
 {
@@ -134,7 +139,8 @@ fn whole_answer<'a>(event: &str, answers: &'a [Named]) -> Option<&'a [u8]>
     }
 }
 
-/// A range of what an event line answered: from one place up to, not including, another.
+/// Returns a range of the result bytes of an event line: from index `from` up to, not including,
+/// index `to`.
 fn answer_range<'a>(event: &str, from: &str, to: &str, answers: &'a [Named]) -> Option<&'a [u8]>
     ensures { option_copied result ≡ range_of (answer_of answers.entry.now (number event.now))
         (number from.now) (number to.now) }

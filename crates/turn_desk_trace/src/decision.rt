@@ -1,4 +1,4 @@
-//! Decisions of a trace: what the desk is told of a request.
+//! The decisions of a trace: the application's decision on a request.
 
 ghost use Rattle.std.specs.Prelude.{◌≡◌, Err, IfOk, MatchOption, map};
 ghost use Rattle.turn_desk_core.specs.declared.decision.Decision.{Decision};
@@ -10,8 +10,12 @@ use line_io::refusal::LineError;
 use std::alloc::Global;
 use turn_desk_core::decision::Decision;
 
-/// The decision that the last words of a line spell. Refused with `Bad` where they spell none, and
-/// with `NoMemory` where memory is refused.
+/// Reads a decision from the last words of a line.
+///
+/// # Errors
+///
+/// - `Bad`: the words are not a decision.
+/// - `NoMemory`: an allocation failed.
 pub fn read_decision(alloc: Global, words: &[&str]) -> Result<Decision, LineError>
     ensures ok { IfOk result (IsDecision (map (λ x. x.now) words.now)) }
     ensures bad { result ≡ Err LineError.Bad → (decision : Decision)
@@ -28,7 +32,7 @@ pub fn read_decision(alloc: Global, words: &[&str]) -> Result<Decision, LineErro
     }
 }
 
-/// `allocate ADDR LIFETIME`, with two addresses with a comma between.
+/// Reads `allocate ADDR LIFETIME`, where ADDR is one address, or two separated by a comma.
 fn read_allocate(alloc: Global, addresses: &str, lifetime: &str) -> Result<Decision, LineError>
     ensures ok { IfOk result (IsAllocate addresses.now lifetime.now) }
     ensures bad { result ≡ Err LineError.Bad → (decision : Decision)
@@ -46,7 +50,7 @@ fn read_allocate(alloc: Global, addresses: &str, lifetime: &str) -> Result<Decis
     }
 }
 
-/// A decision that is a name and a number.
+/// Reads a decision that consists of a name and a number.
 fn read_numbered(name: &str, number: &str) -> Option<Decision>
     ensures { MatchOption result ((decision : Decision)
         → ¬ (IsNumbered name.now number.now decision)) (IsNumbered name.now number.now) }

@@ -1,4 +1,4 @@
-//! Event lines: what happens to the client or to the desk.
+//! Event lines: what happens to the client or to the server core.
 
 ghost use Rattle.std.specs.Prelude.{◌≡◌, ℕ, Err, IfOk, MatchOption, Option, map};
 ghost use Rattle.std.specs.declared.net.ip_addr.IpAddr.{IpAddr};
@@ -6,7 +6,7 @@ ghost use Rattle.std.specs.declared.net.socket_addr.SocketAddr.{SocketAddr};
 ghost use Rattle.stun_types_base.specs.declared.transport.TransportType.{TransportType};
 ghost use Rattle.turn_desk_event.specs.declared.event.ClientCall.{ClientCall};
 ghost use Rattle.turn_desk_event.specs.declared.event.Event.{Event};
-ghost use Rattle.turn_desk_trace.specs.Event.{IsBind, IsCall, IsEvent, IsMoment, IsNoMoment, IsPermission, IsPlacedIp, IsPlacedSocket, IsSend, IsToClient, IsToClientFrom, IsToClientOf, IsToDesk, IsToDeskFrom, IsToDeskOf, IsConnect, IsAllocated, IsClosed, IsSocket};
+ghost use Rattle.turn_desk_trace.specs.Event.{IsBind, IsCall, IsEvent, IsTime, IsNoTime, IsPermission, IsPlacedIp, IsPlacedSocket, IsSend, IsToClient, IsToClientFrom, IsToClientOf, IsToDesk, IsToDeskFrom, IsToDeskOf, IsConnect, IsAllocated, IsClosed, IsSocket};
 
 use crate::address::{read_address, read_ip, read_transport};
 use crate::bytes::read_bytes;
@@ -20,8 +20,12 @@ use stun_types_base::instant::Instant;
 use stun_types_base::transport::TransportType;
 use turn_desk_event::event::{ClientCall, Event};
 
-/// The event that some words spell. `answers` are those of the event lines so far. Refused with
-/// `Bad` where the words spell none, and with `NoMemory` where memory is refused.
+/// Reads an event. `answers` are the results of the event lines so far.
+///
+/// # Errors
+///
+/// - `Bad`: the words are not an event.
+/// - `NoMemory`: an allocation failed.
 pub fn read_event(alloc: Global, words: &[&str], answers: &[Named]) -> Result<Event, LineError>
     ensures ok { IfOk result (IsEvent answers.now (map (λ x. x.now) words.now)) }
     ensures bad { result ≡ Err LineError.Bad → (event : Event)
@@ -34,7 +38,7 @@ pub fn read_event(alloc: Global, words: &[&str], answers: &[Named]) -> Result<Ev
             Ok((call, now)) => Ok(Event::Call(call, now)),
             Err(error) => Err(error),
         },
-        ["draw", rest @ ..] => match read_moment(rest) {
+        ["draw", rest @ ..] => match read_time(rest) {
             Some(now) => Ok(Event::Draw(now)),
             None => Err(LineError::Bad),
         },
@@ -46,7 +50,7 @@ pub fn read_event(alloc: Global, words: &[&str], answers: &[Named]) -> Result<Ev
     }
 }
 
-/// The event of a line that begins with `todesk`, from the words behind it.
+/// Reads the words after `todesk`.
 fn read_to_desk(alloc: Global, words: &[&str], answers: &[Named]) -> Result<Event, LineError>
     ensures ok { IfOk result (IsToDesk answers.now (map (λ x. x.now) words.now)) }
     ensures bad { result ≡ Err LineError.Bad → (event : Event)
@@ -58,7 +62,7 @@ fn read_to_desk(alloc: Global, words: &[&str], answers: &[Named]) -> Result<Even
     }
 }
 
-/// The event in which bytes reach the desk at a moment and from a source, from the words behind those.
+/// Reads the words after the time and the source of a `todesk` line.
 fn read_to_desk_from(
     alloc: Global,
     now: &str,
@@ -79,8 +83,7 @@ fn read_to_desk_from(
     }
 }
 
-/// The event in which bytes reach the desk, from the words that spell it, of which the last ones are a
-/// decision.
+/// Reads the event of a `todesk` line, one word for each field; the last words are the decision.
 fn to_desk(
     alloc: Global,
     now: &str,
@@ -121,7 +124,7 @@ fn to_desk(
     }
 }
 
-/// The event of a line that begins with `toclient`, from the words behind it.
+/// Reads the words after `toclient`.
 fn read_to_client(alloc: Global, words: &[&str], answers: &[Named]) -> Result<Event, LineError>
     ensures ok { IfOk result (IsToClient answers.now (map (λ x. x.now) words.now)) }
     ensures bad { result ≡ Err LineError.Bad → (event : Event)
@@ -133,8 +136,7 @@ fn read_to_client(alloc: Global, words: &[&str], answers: &[Named]) -> Result<Ev
     }
 }
 
-/// The event in which bytes reach the client at a moment and from a source, from the words behind
-/// those.
+/// Reads the words after the time and the source of a `toclient` line.
 fn read_to_client_from(
     alloc: Global,
     now: &str,
@@ -153,7 +155,7 @@ fn read_to_client_from(
     }
 }
 
-/// The event in which bytes reach the client, from the four words that spell it.
+/// Reads the event of a `toclient` line, one word for each of its four fields.
 fn to_client(
     alloc: Global,
     now: &str,
@@ -186,7 +188,7 @@ fn to_client(
     }
 }
 
-/// The call of the client, and its moment, that the words behind `send` spell.
+/// Reads the words after `send`. Returns the call and its time.
 fn read_send(
     alloc: Global,
     words: &[&str],
@@ -194,8 +196,8 @@ fn read_send(
 ) -> Result<(ClientCall, Instant), LineError>
     ensures ok { IfOk result (λ called. IsSend answers.now (map (λ x. x.now) words.now)
         called.0 called.1) }
-    ensures bad { result ≡ Err LineError.Bad → (call : ClientCall) (moment : ℕ)
-        → ¬ (IsSend answers.now (map (λ x. x.now) words.now) call moment) }
+    ensures bad { result ≡ Err LineError.Bad → (call : ClientCall) (time : ℕ)
+        → ¬ (IsSend answers.now (map (λ x. x.now) words.now) call time) }
 {
     let [now, transport, to, bytes] = words else {
         return Err(LineError::Bad);
@@ -218,17 +220,17 @@ fn read_send(
     }
 }
 
-/// The call of the client, and its moment, that a name and the words behind it spell; but one that
-/// sends bytes.
+/// Reads any call of the client except `send`, from its name and the words after it. Returns the
+/// call and its time.
 fn read_call(name: &str, words: &[&str]) -> Option<(ClientCall, Instant)>
-    ensures { MatchOption result ((call : ClientCall) (moment : ℕ)
-        → ¬ (IsCall name.now (map (λ x. x.now) words.now) call moment))
+    ensures { MatchOption result ((call : ClientCall) (time : ℕ)
+        → ¬ (IsCall name.now (map (λ x. x.now) words.now) call time))
         (λ called. IsCall name.now (map (λ x. x.now) words.now) called.0 called.1) }
 {
     match name {
-        "poll" => Some((ClientCall::Poll, read_moment(words)?)),
-        "event" => Some((ClientCall::PollEvent, read_no_moment(words)?)),
-        "delete" => Some((ClientCall::Delete, read_moment(words)?)),
+        "poll" => Some((ClientCall::Poll, read_time(words)?)),
+        "event" => Some((ClientCall::PollEvent, read_no_time(words)?)),
+        "delete" => Some((ClientCall::Delete, read_time(words)?)),
         "permission" => {
             let (transport, ip, now) = read_permission(words)?;
             Some((ClientCall::CreatePermission(transport, ip), now))
@@ -251,7 +253,7 @@ fn read_call(name: &str, words: &[&str]) -> Option<(ClientCall, Instant)>
             let (transport, peer, now) = read_bind(words)?;
             Some((ClientCall::BindChannel(transport, peer), now))
         }
-        "channels" => Some((ClientCall::Channels, read_no_moment(words)?)),
+        "channels" => Some((ClientCall::Channels, read_no_time(words)?)),
         "connect" => {
             let (peer, now) = read_connect(words)?;
             Some((ClientCall::TcpConnect(peer), now))
@@ -264,18 +266,18 @@ fn read_call(name: &str, words: &[&str]) -> Option<(ClientCall, Instant)>
             let (local, remote, now) = read_closed(words)?;
             Some((ClientCall::TcpClosed(local, remote), now))
         }
-        "connections" => Some((ClientCall::Connections, read_no_moment(words)?)),
-        "recv" => Some((ClientCall::PollRecv, read_moment(words)?)),
-        "error" => Some((ClientCall::ProtocolError, read_no_moment(words)?)),
-        "relayed" => Some((ClientCall::RelayedAddresses, read_no_moment(words)?)),
+        "connections" => Some((ClientCall::Connections, read_no_time(words)?)),
+        "recv" => Some((ClientCall::PollRecv, read_time(words)?)),
+        "error" => Some((ClientCall::ProtocolError, read_no_time(words)?)),
+        "relayed" => Some((ClientCall::RelayedAddresses, read_no_time(words)?)),
         _ => None,
     }
 }
 
-/// The moment that the last word of a line spells, where no other word is left.
-fn read_moment(words: &[&str]) -> Option<Instant>
-    ensures { MatchOption result ((moment : ℕ) → ¬ (IsMoment (map (λ x. x.now) words.now) moment))
-        (IsMoment (map (λ x. x.now) words.now)) }
+/// Reads the time of a call from a list of one word. Returns `None` for any other words.
+fn read_time(words: &[&str]) -> Option<Instant>
+    ensures { MatchOption result ((time : ℕ) → ¬ (IsTime (map (λ x. x.now) words.now) time))
+        (IsTime (map (λ x. x.now) words.now)) }
 {
     match words {
         [now] => match read_u64(now) {
@@ -286,10 +288,10 @@ fn read_moment(words: &[&str]) -> Option<Instant>
     }
 }
 
-/// The start, where no word is left: the moment of a call that is made at none.
-fn read_no_moment(words: &[&str]) -> Option<Instant>
-    ensures { MatchOption result ((moment : ℕ) → ¬ (IsNoMoment (map (λ x. x.now) words.now) moment))
-        (IsNoMoment (map (λ x. x.now) words.now)) }
+/// Returns time 0, for a call that has no time argument. Returns `None` if a word is left.
+fn read_no_time(words: &[&str]) -> Option<Instant>
+    ensures { MatchOption result ((time : ℕ) → ¬ (IsNoTime (map (λ x. x.now) words.now) time))
+        (IsNoTime (map (λ x. x.now) words.now)) }
 {
     match words {
         [] => Some(Instant::from_nanos(0)),
@@ -297,11 +299,10 @@ fn read_no_moment(words: &[&str]) -> Option<Instant>
     }
 }
 
-/// The transport, the IP address and the moment of a line that begins with `permission`, from the
-/// words behind it.
+/// Reads the words after `permission`: a time, a transport and an IP address.
 fn read_permission(words: &[&str]) -> Option<(TransportType, IpAddr, Instant)>
-    ensures { MatchOption result ((transport : TransportType) (ip : IpAddr) (moment : ℕ)
-        → ¬ (IsPermission (map (λ x. x.now) words.now) transport ip moment))
+    ensures { MatchOption result ((transport : TransportType) (ip : IpAddr) (time : ℕ)
+        → ¬ (IsPermission (map (λ x. x.now) words.now) transport ip time))
         (λ read. IsPermission (map (λ x. x.now) words.now) read.0 read.1 read.2) }
 {
     match words {
@@ -313,11 +314,10 @@ fn read_permission(words: &[&str]) -> Option<(TransportType, IpAddr, Instant)>
     }
 }
 
-/// The transport, the transport address and the moment of a line that begins with `bind`, from the
-/// words behind it.
+/// Reads the words after `bind`: a time, a transport and a transport address.
 fn read_bind(words: &[&str]) -> Option<(TransportType, SocketAddr, Instant)>
-    ensures { MatchOption result ((transport : TransportType) (peer : SocketAddr) (moment : ℕ)
-        → ¬ (IsBind (map (λ x. x.now) words.now) transport peer moment))
+    ensures { MatchOption result ((transport : TransportType) (peer : SocketAddr) (time : ℕ)
+        → ¬ (IsBind (map (λ x. x.now) words.now) transport peer time))
         (λ read. IsBind (map (λ x. x.now) words.now) read.0 read.1 read.2) }
 {
     match words {
@@ -331,10 +331,10 @@ fn read_bind(words: &[&str]) -> Option<(TransportType, SocketAddr, Instant)>
     }
 }
 
-/// The transport address and the moment of a line that begins with `connect`, from the words behind it.
+/// Reads the words after `connect`: a time and a transport address.
 fn read_connect(words: &[&str]) -> Option<(SocketAddr, Instant)>
-    ensures { MatchOption result ((peer : SocketAddr) (moment : ℕ)
-        → ¬ (IsConnect (map (λ x. x.now) words.now) peer moment))
+    ensures { MatchOption result ((peer : SocketAddr) (time : ℕ)
+        → ¬ (IsConnect (map (λ x. x.now) words.now) peer time))
         (λ read. IsConnect (map (λ x. x.now) words.now) read.0 read.1) }
 {
     match words {
@@ -346,7 +346,7 @@ fn read_connect(words: &[&str]) -> Option<(SocketAddr, Instant)>
     }
 }
 
-/// The own address of a socket, or that there is none.
+/// Reads the local address of a socket, or `none`.
 fn read_socket(word: &str) -> Option<Option<SocketAddr>>
     ensures { MatchOption result ((here : Option SocketAddr) → ¬ (IsSocket word.now here))
         (IsSocket word.now) }
@@ -360,12 +360,11 @@ fn read_socket(word: &str) -> Option<Option<SocketAddr>>
     }
 }
 
-/// The number, the peer, the socket and the moment of a line that begins with `socket`, from the
-/// words behind it.
+/// Reads the words after `socket`: a time, a connection ID, a peer and a socket.
 fn read_allocated(words: &[&str]) -> Option<(u32, SocketAddr, Option<SocketAddr>, Instant)>
     ensures { MatchOption result
-        ((id : ℕ) (peer : SocketAddr) (here : Option SocketAddr) (moment : ℕ)
-        → ¬ (IsAllocated (map (λ x. x.now) words.now) id peer here moment))
+        ((id : ℕ) (peer : SocketAddr) (here : Option SocketAddr) (time : ℕ)
+        → ¬ (IsAllocated (map (λ x. x.now) words.now) id peer here time))
         (λ read. IsAllocated (map (λ x. x.now) words.now) read.0 read.1 read.2 read.3) }
 {
     match words {
@@ -377,11 +376,10 @@ fn read_allocated(words: &[&str]) -> Option<(u32, SocketAddr, Option<SocketAddr>
     }
 }
 
-/// The own address, that of the other side and the moment of a line that begins with `closed`, from
-/// the words behind it.
+/// Reads the words after `closed`: a time, the local address and the remote address.
 fn read_closed(words: &[&str]) -> Option<(SocketAddr, SocketAddr, Instant)>
-    ensures { MatchOption result ((here there : SocketAddr) (moment : ℕ)
-        → ¬ (IsClosed (map (λ x. x.now) words.now) here there moment))
+    ensures { MatchOption result ((here there : SocketAddr) (time : ℕ)
+        → ¬ (IsClosed (map (λ x. x.now) words.now) here there time))
         (λ read. IsClosed (map (λ x. x.now) words.now) read.0 read.1 read.2) }
 {
     match words {
@@ -393,7 +391,7 @@ fn read_closed(words: &[&str]) -> Option<(SocketAddr, SocketAddr, Instant)>
     }
 }
 
-/// The transport and the IP address that the last two words of a line spell.
+/// Reads a transport and an IP address from the last two words of a line.
 fn read_placed_ip(words: &[&str]) -> Option<(TransportType, IpAddr)>
     ensures { MatchOption result ((transport : TransportType) (ip : IpAddr)
         → ¬ (IsPlacedIp (map (λ x. x.now) words.now) transport ip))
@@ -408,7 +406,7 @@ fn read_placed_ip(words: &[&str]) -> Option<(TransportType, IpAddr)>
     }
 }
 
-/// The transport and the transport address that the last two words of a line spell.
+/// Reads a transport and a transport address from the last two words of a line.
 fn read_placed_socket(words: &[&str]) -> Option<(TransportType, SocketAddr)>
     ensures { MatchOption result ((transport : TransportType) (socket : SocketAddr)
         → ¬ (IsPlacedSocket (map (λ x. x.now) words.now) transport socket))

@@ -1,9 +1,9 @@
-//! The lines of a trace, as they are read. `docs/TRACE.md` has the language.
+//! Reading the lines of a trace. `docs/TRACE.md` describes the language.
 //!
 //! The words of a line are read as numbers ([`number`]), addresses ([`address`]), algorithms
-//! ([`algorithms`]), bytes ([`bytes`]), decisions ([`decision`]), setup lines ([`setup`]) and events
-//! ([`event`]), and then as a [`line`]. The bytes of an answer, which later lines name, are kept as
-//! [`named`].
+//! ([`algorithms`]), bytes ([`bytes`]), decisions ([`decision`]), setup lines ([`setup`]) and
+//! events ([`event`]), and the whole as a [`line`]. [`named`] stores the bytes of a result, which
+//! later lines can name.
 #![tactic(auto)]
 
 pub mod address;

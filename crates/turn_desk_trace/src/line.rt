@@ -15,15 +15,18 @@ use turn_desk_event::event::Event;
 /// A line of a trace.
 #[derive(Debug, Drop)]
 pub enum Line<'a> {
-    /// A line that stands before the events.
+    /// A line that comes before the events.
     Setup(Setup<'a>),
-    /// A line that is answered.
+    /// A line that has a result.
     Event(Event),
 }
 
-/// Reads a line, of which the line feed is no part. `answers` are those of the event lines so far.
-/// Refused with `Bad` where it is no line of the language, and with `NoMemory` where memory is
-/// refused.
+/// Reads a line, without its line feed. `answers` are the results of the event lines so far.
+///
+/// # Errors
+///
+/// - `Bad`: the line is not in the language.
+/// - `NoMemory`: an allocation failed.
 pub fn read_line<'a>(
     alloc: Global,
     line: &'a [u8],
@@ -37,7 +40,7 @@ pub fn read_line<'a>(
     spell(alloc, words.as_slice(), answers)
 }
 
-/// The line that some words spell.
+/// Reads a line from its words.
 fn spell<'a>(alloc: Global, words: &[&'a str], answers: &[Named]) -> Result<Line<'a>, LineError>
     ensures ok { IfOk result (IsLineOf answers.entry.now (map (λ x. x.now) words.entry.now)) }
     ensures bad { result ≡ Err LineError.Bad → (read : Line)

@@ -1,4 +1,4 @@
-//! The bytes of an answer, which a later line names by `@k`.
+//! The bytes of a result, which a later line names by `@k`.
 
 ghost use Rattle.std.specs.Prelude.{◌≡◌, IfOk};
 ghost use Rattle.std.specs.Option.{option_copied};
@@ -8,8 +8,8 @@ use std::alloc::{AllocError, Global};
 use std::marker::Model;
 use turn_desk_event::answer::Answer;
 
-/// The bytes that an event line was answered, which a later line names by `@k`. No bytes stand for
-/// an answer that has none.
+/// The bytes of an event line's result, which a later line names by `@k`. The bytes are empty for a
+/// result that has none.
 #[derive(Debug, Drop)]
 pub struct Named {
     bytes: Vec<u8>,
@@ -24,14 +24,18 @@ impl Model for Named {
 }
 
 impl Named {
-    /// These bytes.
+    /// Stores these bytes.
     pub fn new(bytes: Vec<u8>) -> Self
         ensures { result ≡ bytes.items }
     {
         Named { bytes }
     }
 
-    /// A copy of the bytes of an answer. Where memory is refused, `AllocError`.
+    /// Stores a copy of the bytes of a result.
+    ///
+    /// # Errors
+    ///
+    /// - `AllocError`: an allocation failed.
     pub fn of(alloc: Global, answer: &Answer) -> Result<Self, AllocError>
         ensures { IfOk result (λ named. named ≡ named_by answer.now) }
     {
@@ -41,7 +45,7 @@ impl Named {
         }
     }
 
-    /// The bytes.
+    /// Returns the bytes.
     pub fn as_slice(&self) -> &[u8]
         ensures { result.now ≡ self.now }
     {
@@ -49,8 +53,8 @@ impl Named {
     }
 }
 
-/// The bytes of an answer: those of a reply, those that a client sends, and the payload of a peer.
-/// None for any other answer, which has none.
+/// Returns the bytes of a result: those of a reply, those that the client transmits, or a peer's
+/// payload. Any other result has no bytes and gives `None`.
 pub fn answered_bytes(answer: &Answer) -> Option<&[u8]>
     ensures { option_copied result ≡ answered_bytes answer.now }
 {

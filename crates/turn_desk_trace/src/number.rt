@@ -1,4 +1,4 @@
-//! Numbers of a trace: decimal digits alone, with no sign; zeros may lead.
+//! The numbers of a trace: decimal digits only, without a sign; leading zeros are allowed.
 
 ghost use Rattle.std.specs.Prelude.{◌≡◌, ◌-◌, ◌^◌, ◌≤◌, IfSome};
 ghost use Rattle.turn_desk_trace.specs.TraceNumbers.{number_within, seed_of};
@@ -12,11 +12,11 @@ pub const LEAST_CODE: u16 = registry::MIN_ERROR_CODE;
 /// The greatest error code that a decision may have.
 pub const GREATEST_CODE: u16 = registry::MAX_ERROR_CODE;
 
-/// How many bytes the seed of a ChaCha20 generator has.
+/// The length of a ChaCha20 generator's seed, in bytes.
 pub const SEED_LENGTH: usize = 32;
 
-/// The number that a word of digits alone spells in decimal. None where another character stands
-/// in the word, where there is no digit, and for 2^64 and more.
+/// Reads a decimal number. Returns `None` if the word is empty, contains a character that is not a
+/// digit, or spells 2^64 or more.
 #[tactic(auto, using(crate::proofs::NumberLemmas::parsed))]
 pub fn read_u64(word: &str) -> Option<u64>
     ensures { result ≡ number_within 0 (2 ^ 64 - 1) word.now }
@@ -27,7 +27,7 @@ pub fn read_u64(word: &str) -> Option<u64>
     word.parse::<u64>().ok()
 }
 
-/// The number that a word of digits alone spells in decimal, where it lies within bounds.
+/// Reads a decimal number. Returns `None` if it is not within the bounds, which are included.
 fn read_within(word: &str, least: u64, most: u64) -> Option<u64>
     ensures value { result ≡ number_within least most word.now }
     ensures within { IfSome result (λ n. (least ≤ n) × (n ≤ most)) }
@@ -44,7 +44,7 @@ fn read_within(word: &str, least: u64, most: u64) -> Option<u64>
     Some(number)
 }
 
-/// The number that a word of digits alone spells in decimal; none also for 2^32 and more.
+/// Reads a decimal number below 2^32. Returns `None` for any other word.
 pub fn read_u32(word: &str) -> Option<u32>
     ensures { result ≡ number_within 0 (2 ^ 32 - 1) word.now }
 {
@@ -52,8 +52,8 @@ pub fn read_u32(word: &str) -> Option<u32>
     Some(number as u32)
 }
 
-/// The seed of a ChaCha20 generator: [`SEED_LENGTH`] bytes that are all the number that a word
-/// spells, 0 to 255. None where the word spells none of these.
+/// Reads the seed of a ChaCha20 generator: a number from 0 to 255, which is the value of all
+/// [`SEED_LENGTH`] bytes. Returns `None` for any other word.
 pub fn read_seed(word: &str) -> Option<[u8; SEED_LENGTH]>
     ensures { result ≡ seed_of word.now }
 {
@@ -61,7 +61,7 @@ pub fn read_seed(word: &str) -> Option<[u8; SEED_LENGTH]>
     Some([seed as u8; SEED_LENGTH])
 }
 
-/// An error code: 300 to 699 (RFC 8489, section 14.8). None where the word spells none of these.
+/// Reads an error code, 300 to 699 (RFC 8489, section 14.8). Returns `None` for any other word.
 pub fn read_code(word: &str) -> Option<u16>
     ensures { result ≡ number_within least_code greatest_code word.now }
 {

@@ -1,4 +1,4 @@
-//! Setup lines: what stands before the events.
+//! Setup lines: the lines before the events.
 
 ghost use Rattle.std.specs.Prelude.{◌≡◌, ◌≢◌, MatchOption, map};
 ghost use Rattle.std.specs.declared.time.Duration.{Duration};
@@ -19,13 +19,13 @@ use stun_proto_auth::supported::SupportedIntegrity;
 use stun_types_base::transport::TransportType;
 use stun_types_wire::registry;
 
-/// The most bytes of a realm (RFC 8489, section 14.9).
+/// The maximum length of a realm, in bytes (RFC 8489, section 14.9).
 pub const MAX_REALM: usize = registry::MAX_TEXT_LENGTH;
 
-/// The most bytes of a user's name (RFC 8489, section 14.3).
+/// The maximum length of a user's name, in bytes (RFC 8489, section 14.3).
 pub const MAX_USERNAME: usize = registry::MAX_USERNAME_LENGTH;
 
-/// The families of the addresses that a client asks for, in their order.
+/// The address families that a client requests, in order.
 #[derive(Clone, Copy, Debug, PartialEq, Eq)]
 pub enum Families {
     /// `4`
@@ -38,16 +38,16 @@ pub enum Families {
     V6AndV4,
 }
 
-/// The settings of a client, but for its transports.
+/// The settings of a client, except its transports.
 #[derive(Clone, Copy, Debug)]
 pub struct Client<'a> {
-    /// The own address.
+    /// The client's address.
     pub local: SocketAddr,
     /// The server's address.
     pub remote: SocketAddr,
-    /// The families of the addresses that it asks for.
+    /// The address families that it requests.
     pub families: Families,
-    /// The algorithms that it supports, in their order.
+    /// The algorithms that it supports, in order.
     pub algorithms: SupportedIntegrity,
     /// Whether it hides the user's name.
     pub anonymity: Anonymity,
@@ -55,53 +55,52 @@ pub struct Client<'a> {
     pub name: &'a str,
     /// The user's password.
     pub password: &'a str,
-    /// The seed of the ChaCha20 generator whose words it draws.
+    /// The seed of the ChaCha20 generator that supplies its random words.
     pub seed: [u8; SEED_LENGTH],
 }
 
-/// A line that stands before the events.
+/// A line that comes before the events.
 #[derive(Debug, Drop)]
 pub enum Setup<'a> {
-    /// `desk REALM ALGS ANON`: there is a desk, with no user yet.
+    /// `desk REALM ALGS ANON`: adds a server core, without users.
     Desk {
         /// Its realm, at most [`MAX_REALM`] bytes.
         realm: &'a str,
-        /// The algorithms that it supports, in their order.
+        /// The algorithms that it supports, in order.
         algorithms: SupportedIntegrity,
-        /// Whether it offers to take names in hashed form.
+        /// Whether it offers to accept hashed user names.
         anonymity: Anonymity,
     },
-    /// `user NAME PASSWORD`: the desk knows this user.
+    /// `user NAME PASSWORD`: adds a user to the server core.
     User {
         /// The user's name, at most [`MAX_USERNAME`] bytes.
         name: &'a str,
         /// The user's password.
         password: &'a str,
     },
-    /// `rto INITIAL MAX N FINAL`: how long each request of the client waits for its response.
+    /// `rto INITIAL MAX N FINAL`: sets the retransmission timeouts of the client's requests.
     Rto {
-        /// The wait behind the first transmission, in whole milliseconds.
+        /// The timeout after the first transmission, in whole milliseconds.
         initial: Duration,
-        /// The longest wait but the last, in whole milliseconds.
+        /// The maximum of all timeouts but the last, in whole milliseconds.
         max: Duration,
-        /// How often a request is sent in all.
+        /// The number of transmissions of a request.
         retransmits: u32,
-        /// The wait behind the last transmission, in whole milliseconds.
+        /// The timeout after the last transmission, in whole milliseconds.
         last: Duration,
     },
-    /// `client BY LOCAL REMOTE OVER FAMILIES ALGS ANON NAME PASSWORD SEED`: there is a client.
+    /// `client BY LOCAL REMOTE OVER FAMILIES ALGS ANON NAME PASSWORD SEED`: adds a client.
     Client {
         /// The transport between the client and the server.
         by: TransportType,
-        /// The transport between the server and the peers that the client asks for: UDP, where it speaks
-        /// with the server by UDP.
+        /// The requested transport between the server and the peers. It is UDP if `by` is UDP.
         over: TransportType,
         /// Its other settings.
         settings: Client<'a>,
     },
 }
 
-/// The setup line that some words spell. None where they spell none.
+/// Reads a setup line. Returns `None` for any other words.
 pub fn read_setup<'a>(words: &[&'a str]) -> Option<Setup<'a>>
     ensures { MatchOption result ((setup : Setup)
         → ¬ (IsSetup (map (λ x. x.now) words.entry.now) setup))
@@ -116,7 +115,7 @@ pub fn read_setup<'a>(words: &[&'a str]) -> Option<Setup<'a>>
     }
 }
 
-/// The setup line that begins with `desk`, from the words behind it.
+/// Reads the words after `desk`.
 fn read_desk<'a>(words: &[&'a str]) -> Option<Setup<'a>>
     ensures { MatchOption result ((setup : Setup)
         → ¬ (IsDesk (map (λ x. x.now) words.entry.now) setup))
@@ -138,7 +137,7 @@ fn read_desk<'a>(words: &[&'a str]) -> Option<Setup<'a>>
     }
 }
 
-/// The setup line that begins with `user`, from the words behind it.
+/// Reads the words after `user`.
 fn read_user<'a>(words: &[&'a str]) -> Option<Setup<'a>>
     ensures { MatchOption result ((setup : Setup)
         → ¬ (IsUser (map (λ x. x.now) words.entry.now) setup))
@@ -153,7 +152,7 @@ fn read_user<'a>(words: &[&'a str]) -> Option<Setup<'a>>
     Some(Setup::User { name, password })
 }
 
-/// The setup line that begins with `rto`, from the words behind it.
+/// Reads the words after `rto`.
 fn read_rto<'a>(words: &[&'a str]) -> Option<Setup<'a>>
     ensures { MatchOption result ((setup : Setup)
         → ¬ (IsRto (map (λ x. x.now) words.entry.now) setup))
@@ -165,7 +164,7 @@ fn read_rto<'a>(words: &[&'a str]) -> Option<Setup<'a>>
     }
 }
 
-/// The setup line that begins with `rto` and two waits, from the words behind those.
+/// Reads the words after the first two timeouts of an `rto` line.
 fn read_rto_with<'a>(initial: &str, max: &str, words: &[&str]) -> Option<Setup<'a>>
     ensures { MatchOption result ((setup : Setup)
         → ¬ (IsRtoWith initial.now max.now (map (λ x. x.now) words.now) setup))
@@ -177,7 +176,7 @@ fn read_rto_with<'a>(initial: &str, max: &str, words: &[&str]) -> Option<Setup<'
     }
 }
 
-/// The waits of a client's requests, from the four words that spell them.
+/// Reads the setting of an `rto` line, one word for each of its four fields.
 fn read_waits<'a>(initial: &str, max: &str, retransmits: &str, last: &str) -> Option<Setup<'a>>
     ensures { MatchOption result ((setup : Setup)
         → ¬ (IsRtoOf initial.now max.now retransmits.now last.now setup))
@@ -191,7 +190,7 @@ fn read_waits<'a>(initial: &str, max: &str, retransmits: &str, last: &str) -> Op
     })
 }
 
-/// The duration of which a word spells the milliseconds.
+/// Reads a duration in milliseconds.
 fn read_millis(word: &str) -> Option<Duration>
     ensures { MatchOption result ((duration : Duration) → ¬ (IsMillis word.now duration))
         (IsMillis word.now) }
@@ -202,7 +201,7 @@ fn read_millis(word: &str) -> Option<Duration>
     }
 }
 
-/// The setup line that begins with `client`, from the words behind it.
+/// Reads the words after `client`.
 fn read_client<'a>(words: &[&'a str]) -> Option<Setup<'a>>
     ensures { MatchOption result ((setup : Setup)
         → ¬ (IsClient (map (λ x. x.now) words.entry.now) setup))
@@ -218,8 +217,8 @@ fn read_client<'a>(words: &[&'a str]) -> Option<Setup<'a>>
     }
 }
 
-/// The transports that two words name: that between a client and the server, and that between the server and
-/// the peers, which is UDP where the first is. None where they name none.
+/// Reads two names of transports: the one between client and server, and the one between server and
+/// peers. Returns `None` if a name is unknown, or the first is UDP and the second is not.
 fn read_transports(by: &str, over: &str) -> Option<(TransportType, TransportType)>
     ensures { MatchOption result ((b o : TransportType) → ¬ (AreTransports by.now over.now b o))
         (λ read. AreTransports by.now over.now read.0 read.1) }
@@ -231,7 +230,8 @@ fn read_transports(by: &str, over: &str) -> Option<(TransportType, TransportType
     }
 }
 
-/// The client between two addresses, from the words behind the transport of its allocation.
+/// Reads the settings of a client between two addresses; `words` are those after the transport of
+/// its allocation.
 fn read_client_at<'a>(local: &str, remote: &str, words: &[&'a str]) -> Option<Client<'a>>
     ensures { MatchOption result ((client : Client)
         → ¬ (IsClientAt local.now remote.now (map (λ x. x.now) words.entry.now) client))
@@ -245,7 +245,8 @@ fn read_client_at<'a>(local: &str, remote: &str, words: &[&'a str]) -> Option<Cl
     }
 }
 
-/// The client between two addresses with some settings, from the words behind those.
+/// Reads the settings of a client of which the first five words are given; `words` are those after
+/// them.
 fn read_client_with<'a>(
     local: &str,
     remote: &str,
@@ -268,7 +269,7 @@ fn read_client_with<'a>(
     }
 }
 
-/// The client that some words spell, each for one of its settings.
+/// Reads the settings of a client, one word for each.
 fn client_of<'a>(
     local: &str,
     remote: &str,
@@ -300,7 +301,7 @@ fn client_of<'a>(
     })
 }
 
-/// The families that a word names: one, or both in either order. None where it names none.
+/// Reads address families: one, or both in either order. Returns `None` for any other word.
 pub fn read_families(word: &str) -> Option<Families>
     ensures { MatchOption result ((f : Families) → word.now ≢ families_word f)
         (λ f. word.now ≡ families_word f) }
@@ -314,7 +315,7 @@ pub fn read_families(word: &str) -> Option<Families>
     }
 }
 
-/// The anonymity that a word names. None where it names none.
+/// Reads the name of an anonymity setting. Returns `None` for any other word.
 pub fn read_anonymity(word: &str) -> Option<Anonymity>
     ensures { MatchOption result ((a : Feature) → word.now ≢ anonymity_word a)
         (λ a. word.now ≡ anonymity_word a) }

@@ -1,4 +1,4 @@
--- What a line says by its first word: whether it sets up, and whether an event is the client's.
+-- What the first word of a line says: whether it is a setup line, and whether its event is for the client.
 use Rattle.std.proofs.Common.{ℕ, ◌≡◌, Bool, true, false, not, List, [], ◌∷◌, inl, inr, refl, sym, ap, subst, ◌∙◌}
 use Rattle.std.specs.Prelude.{◌==◌, ◌||◌, ◌&&◌, Option, Some, None, is_some}
 use Rattle.line_io.proofs.WordLemmas.{same_words}
@@ -18,7 +18,7 @@ use Rattle.turn_desk_world.specs.Model.{World}
 use Rattle.turn_desk_world.specs.Progress.{Progress, can_happen, can_happen_now, is_of_client, world_of}
 use Rattle.turn_desk_world.specs.Replay.{IsBadLine, can_stand}
 
--- the first and the third letter of a word
+-- The first and the third letter of a word.
 abbrev first : List ℕ → ℕ
 first [] = 0
 first (a ∷ rest) = a
@@ -29,7 +29,7 @@ third (a ∷ []) = 0
 third (a ∷ b ∷ []) = 0
 third (a ∷ b ∷ c ∷ rest) = c
 
--- which of the words are `desk`, `rto`, `client` and `user`; and which is not `todesk`
+-- Whether a word that begins a line is `desk`, `rto`, `client` or `user`, and whether it is not `todesk`.
 abbrev sets_up : List ℕ → Bool
 sets_up name = (third name == 115) || ((third name == 111) && (first name == 114)) || (third name == 105) || ((third name == 101) && (first name == 117))
 
@@ -42,55 +42,55 @@ setup_name name rest (User n p) is = ap sets_up is.0
 setup_name name rest (Rto i m n l) is = ap sets_up is.0
 setup_name name rest (Client by over settings) is = ap sets_up is.0
 
-call_name : (name : List ℕ) (rest : List (List ℕ)) (call : ClientCall) (moment : ℕ) → IsCall name rest call moment
+call_name : (name : List ℕ) (rest : List (List ℕ)) (call : ClientCall) (time : ℕ) → IsCall name rest call time
     → (sets_up name ≡ false) × (is_client name ≡ true)
-call_name name rest Poll moment is = (ap sets_up is.0, ap is_client is.0)
-call_name name rest PollEvent moment is = (ap sets_up is.0, ap is_client is.0)
-call_name name rest Delete moment is = (ap sets_up is.0, ap is_client is.0)
-call_name name rest (CreatePermission transport ip) moment is = (ap sets_up is.0, ap is_client is.0)
-call_name name rest (HavePermission transport ip) moment is = (ap sets_up is.0, ap is_client is.0)
-call_name name rest (Permissions transport socket) moment is = (ap sets_up is.0, ap is_client is.0)
-call_name name rest (BindChannel transport peer) moment is = (ap sets_up is.0, ap is_client is.0)
-call_name name rest (TcpConnect peer) moment is = (ap sets_up is.0, ap is_client is.0)
-call_name name rest (AllocatedTcpSocket connection peer here) moment is = (ap sets_up is.0, ap is_client is.0)
-call_name name rest (TcpClosed here there) moment is = (ap sets_up is.0, ap is_client is.0)
-call_name name rest Connections moment is = (ap sets_up is.0, ap is_client is.0)
-call_name name rest Channels moment is = (ap sets_up is.0, ap is_client is.0)
-call_name name rest (SendTo transport to bytes) moment is = absurd is
-call_name name rest PollRecv moment is = (ap sets_up is.0, ap is_client is.0)
-call_name name rest ProtocolError moment is = (ap sets_up is.0, ap is_client is.0)
-call_name name rest RelayedAddresses moment is = (ap sets_up is.0, ap is_client is.0)
+call_name name rest Poll time is = (ap sets_up is.0, ap is_client is.0)
+call_name name rest PollEvent time is = (ap sets_up is.0, ap is_client is.0)
+call_name name rest Delete time is = (ap sets_up is.0, ap is_client is.0)
+call_name name rest (CreatePermission transport ip) time is = (ap sets_up is.0, ap is_client is.0)
+call_name name rest (HavePermission transport ip) time is = (ap sets_up is.0, ap is_client is.0)
+call_name name rest (Permissions transport socket) time is = (ap sets_up is.0, ap is_client is.0)
+call_name name rest (BindChannel transport peer) time is = (ap sets_up is.0, ap is_client is.0)
+call_name name rest (TcpConnect peer) time is = (ap sets_up is.0, ap is_client is.0)
+call_name name rest (AllocatedTcpSocket connection peer here) time is = (ap sets_up is.0, ap is_client is.0)
+call_name name rest (TcpClosed here there) time is = (ap sets_up is.0, ap is_client is.0)
+call_name name rest Connections time is = (ap sets_up is.0, ap is_client is.0)
+call_name name rest Channels time is = (ap sets_up is.0, ap is_client is.0)
+call_name name rest (SendTo transport to bytes) time is = absurd is
+call_name name rest PollRecv time is = (ap sets_up is.0, ap is_client is.0)
+call_name name rest ProtocolError time is = (ap sets_up is.0, ap is_client is.0)
+call_name name rest RelayedAddresses time is = (ap sets_up is.0, ap is_client is.0)
 
 event_name : (answers : List (List ℕ)) (name : List ℕ) (rest : List (List ℕ)) (event : Happening)
     → IsEventOf answers name rest event → (sets_up name ≡ false) × (is_client name ≡ is_of_client event)
-event_name answers name rest (Call call moment) is = elim is [
-  | inl plain ↦ call_name name rest call moment plain
+event_name answers name rest (Call call time) is = elim is [
+  | inl plain ↦ call_name name rest call time plain
   | inr send ↦ (ap sets_up send.0, ap is_client send.0)
 ]
-event_name answers name rest (Draw moment) is = (ap sets_up is.0, ap is_client is.0)
+event_name answers name rest (Draw time) is = (ap sets_up is.0, ap is_client is.0)
 event_name answers name rest (ToClient b f t n) is = (ap sets_up is.0, ap is_client is.0)
 event_name answers name rest (ToDesk b f n d s) is = (ap sets_up is.0, ap is_client is.0)
 
--- in a world two events of one side may happen alike
+-- Of two events for the same side, both can happen in a simulation or neither can.
 alike : (world : Option World) (one other : Happening) → is_of_client one ≡ is_of_client other
     → can_happen_now world one ≡ can_happen_now world other
 alike None one other same = refl
 alike (Some world) one other same = ap (λ b. not b || is_some world.client) same
 
-none_stands : (p : Progress) (event : Happening) (line : Line) (words : List (List ℕ)) → IsEvent p.named words event
+none_is_active : (p : Progress) (event : Happening) (line : Line) (words : List (List ℕ)) → IsEvent p.named words event
     → IsLineOf p.named words line → can_happen p event ≡ false → can_stand p line ≡ false
-none_stands p event line [] is other never = absurd is
-none_stands p event (Setup setup) (name ∷ rest) is other never =
+none_is_active p event line [] is other never = absurd is
+none_is_active p event (Setup setup) (name ∷ rest) is other never =
     absurd (let both : true ≡ false = sym (setup_name name rest setup other) ∙ (event_name p.named name rest event is).0 in cc)
-none_stands p event (Event read) (name ∷ rest) is other never =
+none_is_active p event (Event read) (name ∷ rest) is other never =
     alike (world_of p) read event
     (sym (event_name p.named name rest read other).1 ∙ (event_name p.named name rest event is).1) ∙ never
 
--- a line that says something and spells an event that can't happen is a bad line
+-- A line that is not skipped and spells an event that can't happen is bad.
 pub spelled_in_vain : (p : Progress) (text : List ℕ) (event : Happening) → says_nothing text ≡ false
     → IsLine p.named text (Event event) → can_happen p event ≡ false → IsBadLine p text
 spelled_in_vain p text event says is never = record {
   says = says;
-  none = λ line spelled. none_stands p event line is.words is.spelled
+  none = λ line spelled. none_is_active p event line is.words is.spelled
       (subst (λ words. IsLineOf p.named words line) (same_words text spelled.words is.words spelled.parted is.parted) spelled.spelled) never;
 }

@@ -6,7 +6,7 @@ use Rattle.std.specs.Prelude.{Option, Some, None, Result, Ok, Err, OnOk}
 use Rattle.std.specs.Io.KnownBytes.{Appends}
 use Rattle.std.proofs.lemmas.List.{append_assoc, append-nil}
 use Rattle.line_io.proofs.AppendLemmas.{appends_on}
-use Rattle.line_io.specs.Cut.{lines_behind, lines_of}
+use Rattle.line_io.specs.Cut.{lines_after, lines_of}
 use Rattle.line_io.specs.Stop.{bad_text, status_of, stop_text}
 use Rattle.line_io.specs.declared.status.Status.{Status}
 use Rattle.line_io.specs.declared.status.Status.TheVariants.{Done, BadTrace, NoMemory, Fault}
@@ -15,34 +15,34 @@ use Rattle.line_io.specs.declared.stop.Stop.TheVariants as stop
 use Rattle.turn_desk_world.specs.Progress.{Progress}
 use Rattle.turn_desk_world.specs.Replay.{Bad, Ended, IsLineDone, IsReplay, IsStopped, Lacking, More, Prints, start}
 
--- what is left, behind what was printed, is the replay of all the lines
-abbrev pub GoesOn : List (List ℕ) → List ℕ → Progress → ℕ → List (List ℕ) → Type 0
-GoesOn all printed p number lines =
-    (behind : List ℕ) (status : Status) → IsReplay p number lines behind status → IsReplay start 1 all (printed ++ behind) status
+-- The replay of the lines that are left, after what was printed, completes the replay of all lines.
+abbrev pub Continues : List (List ℕ) → List ℕ → Progress → ℕ → List (List ℕ) → Type 0
+Continues all printed p number lines =
+    (following : List ℕ) (status : Status) → IsReplay p number lines following status → IsReplay start 1 all (printed ++ following) status
 
--- what was printed, and what is left
-abbrev pub Stands : List (List ℕ) → Option (List ℕ) → Option (List ℕ) → Progress → ℕ → List (List ℕ) → Type 0
-Stands all old new p number lines = (printed : List ℕ) × Appends old new printed × GoesOn all printed p number lines
+-- What was printed, and the lines that are left complete it.
+abbrev pub IsReachable : List (List ℕ) → Option (List ℕ) → Option (List ℕ) → Progress → ℕ → List (List ℕ) → Type 0
+IsReachable all old new p number lines = (printed : List ℕ) × Appends old new printed × Continues all printed p number lines
 
--- a line was done, and others stand behind it
-pub goes_on : (all : List (List ℕ)) (printed : List ℕ) (p : Progress) (number : ℕ) (lines rest : List (List ℕ)) (line here : List ℕ) (q : Progress)
-    → GoesOn all printed p number lines → lines ≡ line ∷ rest → IsLineDone p line here q → GoesOn all (printed ++ here) q (number + 1) rest
-goes_on all printed p number lines rest line here q on cut done behind status left =
-    let more : IsReplay p number lines (here ++ behind) status =
-    subst (λ (l : List (List ℕ)). IsReplay p number l (here ++ behind) status) (sym cut) (More p number line here q rest behind status done left) in
-    subst (λ (t : List ℕ). IsReplay start 1 all t status) (sym (append_assoc printed here behind)) (on (here ++ behind) status more)
+-- A line was executed, and others are left after it.
+pub continues : (all : List (List ℕ)) (printed : List ℕ) (p : Progress) (number : ℕ) (lines rest : List (List ℕ)) (line here : List ℕ) (q : Progress)
+    → Continues all printed p number lines → lines ≡ line ∷ rest → IsLineDone p line here q → Continues all (printed ++ here) q (number + 1) rest
+continues all printed p number lines rest line here q on cut done following status left =
+    let more : IsReplay p number lines (here ++ following) status =
+    subst (λ (l : List (List ℕ)). IsReplay p number l (here ++ following) status) (sym cut) (More p number line here q rest following status done left) in
+    subst (λ (t : List ℕ). IsReplay start 1 all t status) (sym (append_assoc printed here following)) (on (here ++ following) status more)
 
--- the last line was done
+-- The last line was executed.
 pub ends : (all : List (List ℕ)) (printed : List ℕ) (p : Progress) (number : ℕ) (lines : List (List ℕ)) (line here : List ℕ) (q : Progress)
-    → GoesOn all printed p number lines → lines ≡ line ∷ [] → IsLineDone p line here q → IsReplay start 1 all (printed ++ here) Done
+    → Continues all printed p number lines → lines ≡ line ∷ [] → IsLineDone p line here q → IsReplay start 1 all (printed ++ here) Done
 ends all printed p number lines line here q on cut done =
     let last : IsReplay p number lines (here ++ []) Done =
     subst (λ (l : List (List ℕ)). IsReplay p number l (here ++ []) Done) (sym cut) (More p number line here q [] [] Done done (Ended q (number + 1))) in
     subst (λ (t : List ℕ). IsReplay start 1 all (printed ++ t) Done) (append-nil here) (on (here ++ []) Done last)
 
--- a line stopped the replay
+-- A line stopped the replay.
 pub stops : (all : List (List ℕ)) (printed : List ℕ) (p : Progress) (number : ℕ) (lines rest : List (List ℕ)) (line : List ℕ) (by : Stop)
-    → GoesOn all printed p number lines → lines ≡ line ∷ rest → status_of by ≢ Fault → IsStopped p number line by
+    → Continues all printed p number lines → lines ≡ line ∷ rest → status_of by ≢ Fault → IsStopped p number line by
     → IsReplay start 1 all (printed ++ stop_text by) (status_of by)
 stops all printed p number lines rest line (stop.BadLine at) on cut fine is =
     let bad : IsReplay p number lines (bad_text number) BadTrace =
@@ -52,36 +52,36 @@ stops all printed p number lines rest line stop.NoMemory on cut fine is = on (st
 stops all printed p number lines rest line stop.Unread on cut fine is = absurd (fine refl)
 stops all printed p number lines rest line stop.Unwritten on cut fine is = absurd (fine refl)
 
--- the same, of what stands behind the line where the text was cut
-pub goes_on_behind : (all : List (List ℕ)) (printed : List ℕ) (p : Progress) (number : ℕ) (lines : List (List ℕ)) (line here : List ℕ) (q : Progress)
+-- A line was executed, and others are left in the text after its line feed.
+pub continues_after : (all : List (List ℕ)) (printed : List ℕ) (p : Progress) (number : ℕ) (lines : List (List ℕ)) (line here : List ℕ) (q : Progress)
     (after : Option (Bor (List ℕ))) (text : Bor (List ℕ))
-    → GoesOn all printed p number lines → lines ≡ line ∷ lines_behind (option_copied after) → IsLineDone p line here q → after ≡ Some text
-    → GoesOn all (printed ++ here) q (number + 1) (lines_of text.now)
-goes_on_behind all printed p number lines line here q after text on cut done some =
-    goes_on all printed p number lines (lines_of text.now) line here q on
-    (cut ∙ ap (λ (a : Option (Bor (List ℕ))). line ∷ lines_behind (option_copied a)) some) done
+    → Continues all printed p number lines → lines ≡ line ∷ lines_after (option_copied after) → IsLineDone p line here q → after ≡ Some text
+    → Continues all (printed ++ here) q (number + 1) (lines_of text.now)
+continues_after all printed p number lines line here q after text on cut done some =
+    continues all printed p number lines (lines_of text.now) line here q on
+    (cut ∙ ap (λ (a : Option (Bor (List ℕ))). line ∷ lines_after (option_copied a)) some) done
 
-pub ends_behind : (all : List (List ℕ)) (printed : List ℕ) (p : Progress) (number : ℕ) (lines : List (List ℕ)) (line here : List ℕ) (q : Progress)
+pub ends_after : (all : List (List ℕ)) (printed : List ℕ) (p : Progress) (number : ℕ) (lines : List (List ℕ)) (line here : List ℕ) (q : Progress)
     (after : Option (Bor (List ℕ)))
-    → GoesOn all printed p number lines → lines ≡ line ∷ lines_behind (option_copied after) → IsLineDone p line here q → after ≡ None
+    → Continues all printed p number lines → lines ≡ line ∷ lines_after (option_copied after) → IsLineDone p line here q → after ≡ None
     → IsReplay start 1 all (printed ++ here) Done
-ends_behind all printed p number lines line here q after on cut done none =
+ends_after all printed p number lines line here q after on cut done none =
     ends all printed p number lines line here q on
-    (cut ∙ ap (λ (a : Option (Bor (List ℕ))). line ∷ lines_behind (option_copied a)) none) done
+    (cut ∙ ap (λ (a : Option (Bor (List ℕ))). line ∷ lines_after (option_copied a)) none) done
 
--- the line that says why a replay stopped, behind what it had printed
+-- The line that says why a replay stopped comes after what it had printed.
 pub ended : (trace : List ℕ) (by : Stop) (status : Status) (old mid new : Option (List ℕ))
     → (status_of by ≢ Fault → (printed : List ℕ) × Appends old mid printed × IsReplay start 1 (lines_of trace) (printed ++ stop_text by) (status_of by))
     → (status ≢ Fault → status ≡ status_of by) → (status ≢ Fault → Appends mid new (stop_text by)) → Prints trace status old new
 ended trace by status old mid new before is said fine =
     let same : status ≡ status_of by = is fine in
-    let front = before (λ e. fine (same ∙ e)) in (
-      front.0 ++ stop_text by,
-      appends_on old mid new front.0 (stop_text by) front.1 (said fine),
-      subst (λ (s : Status). IsReplay start 1 (lines_of trace) (front.0 ++ stop_text by) s) (sym same) front.2,
+    let head = before (λ e. fine (same ∙ e)) in (
+      head.0 ++ stop_text by,
+      appends_on old mid new head.0 (stop_text by) head.1 (said fine),
+      subst (λ (s : Status). IsReplay start 1 (lines_of trace) (head.0 ++ stop_text by) s) (sym same) head.2,
     )
 
--- what follows where a call went well
+-- What follows from a successful call.
 pub on_ok : {A E : Type 0} (result : Result A E) (P Q : Type 0) → OnOk result P → (P → Q) → OnOk result Q
 on_ok (Ok x) P Q is then = then is
 on_ok (Err e) P Q is then = tt

@@ -6,6 +6,6 @@ use Rattle.turn_desk_trace.specs.declared.line.Line.{Line}
 use Rattle.turn_desk_world.specs.Progress.{Progress}
 use Rattle.turn_desk_world.specs.Replay.{IsBadLine}
 
--- a text that says something and spells no line is a bad line
+-- A text that is not skipped and spells no line is a bad line.
 pub unspelled : (p : Progress) (text : List ℕ) → says_nothing text ≡ false → ((line : Line) → ¬ IsLine p.named text line) → IsBadLine p text
 unspelled p text says never = record { says = says; none = λ line spelled. absurd (never line spelled) }

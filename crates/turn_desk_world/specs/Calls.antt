@@ -1,4 +1,4 @@
--- What a client answers in a world.
+-- The results of a client's calls in a simulation.
 use Rattle.std.specs.Prelude.{◌≡◌, ◌≢◌, ℕ, List, [], ◌∷◌, Option, Some, None, Ok, Err}
 use Rattle.std.specs.Borrow.{Bor}
 use Rattle.std.specs.declared.net.ip_addr.IpAddr.{IpAddr}
@@ -22,14 +22,14 @@ use Rattle.turn_client_proto.specs.Getters.{channels_of, connections_of, has_per
 use Rattle.turn_client_proto.specs.Recv.Receipts.{IsReceived, IsWaitingGiven}
 use Rattle.turn_client_proto.specs.Core.Binding.{IsBindAnswered}
 use Rattle.turn_client_proto.specs.Core.Deleting.{IsDeleteAnswered}
-use Rattle.turn_client_proto.specs.Timers.Drawing.{IsDrawn}
+use Rattle.turn_client_proto.specs.Timers.Drawing.{IsTransmitted}
 use Rattle.turn_client_proto_api.specs.Sent.{sent_of}
 use Rattle.turn_client_proto.specs.Core.Ending.{ended}
 use Rattle.turn_client_proto.specs.Core.Permitting.{IsPermissionAnswered}
 use Rattle.turn_client_proto.specs.Timers.Polling.{IsPolled}
-use Rattle.turn_client_proto.specs.Recv.Kept.{Kept, Leaves, Protocol}
+use Rattle.turn_client_proto.specs.Recv.ClientState.{ClientState, Leaves, Protocol}
 use Rattle.turn_client_proto.specs.PayloadPart.Sending.{IsSendAnswered}
-use Rattle.turn_client_proto.specs.SocketsTold.{IsSocketTold}
+use Rattle.turn_client_proto.specs.SocketsReported.{IsSocketReported}
 use Rattle.turn_desk_event.specs.declared.answer.Answer.{Answer}
 use Rattle.turn_desk_event.specs.declared.answer.Answer.TheVariants as answer
 use Rattle.turn_desk_event.specs.declared.answer.Refusal.TheVariants.{BindChannel as BindRefused, CreatePermission as PermissionRefused, Delete as DeleteRefused, Send as SendRefused, TcpAllocate as SocketRefused, TcpConnect as ConnectRefused}
@@ -38,157 +38,157 @@ use Rattle.turn_desk_event.specs.declared.event.ClientCall.TheVariants.{Poll, Po
 
 -- ---- calls
 
--- `poll`, by its contract
+-- `poll`, by its contract.
 abbrev pub IsPolledAs : Answer → Protocol → ℕ → Protocol → Type 0
-IsPolledAs (answer.Wait moment) old now new = IsPolled old now (poll.WaitUntil moment) new
+IsPolledAs (answer.Wait time) old now new = IsPolled old now (poll.WaitUntil time) new
 IsPolledAs (answer.Socket id socket peer) old now new = IsPolled old now (poll.AllocateTcpSocket id socket peer) new
 IsPolledAs (answer.Close local remote) old now new = IsPolled old now (poll.TcpClose local remote) new
 IsPolledAs answer.Closed old now new = IsPolled old now poll.Closed new
 IsPolledAs _ old now new = ⊥
 
--- `poll_event`
-abbrev pub IsEventTold : Answer → Protocol → Protocol → Type 0
-IsEventTold (answer.Event event) old new =
+-- `poll_event`.
+abbrev pub IsEventReported : Answer → Protocol → Protocol → Type 0
+IsEventReported (answer.Event event) old new =
     (old.events ≡ event ∷ new.events) × (new ≡ record old { events = new.events })
-IsEventTold answer.Nothing old new = (old.events ≡ []) × (new ≡ old)
-IsEventTold _ old new = ⊥
+IsEventReported answer.Nothing old new = (old.events ≡ []) × (new ≡ old)
+IsEventReported _ old new = ⊥
 
--- `delete`; want of memory is no answer
-abbrev pub IsDeleteTold : Answer → Protocol → ℕ → Protocol → Type 0
-IsDeleteTold answer.Done old now new = IsDeleteAnswered old now (Ok tt) new
-IsDeleteTold (answer.Refused (DeleteRefused error)) old now new =
+-- `delete`. Out of memory is not a result.
+abbrev pub IsDeleteReported : Answer → Protocol → ℕ → Protocol → Type 0
+IsDeleteReported answer.Done old now new = IsDeleteAnswered old now (Ok tt) new
+IsDeleteReported (answer.Refused (DeleteRefused error)) old now new =
     IsDeleteAnswered old now (Err error) new × (error ≢ not_deleted.NoMemory)
-IsDeleteTold _ old now new = ⊥
+IsDeleteReported _ old now new = ⊥
 
--- `create_permission`; want of memory is no answer
-abbrev pub IsPermissionTold : Answer → TransportType → IpAddr → Protocol → ℕ → Protocol → Type 0
-IsPermissionTold answer.Done transport ip old now new = IsPermissionAnswered old transport ip now (Ok tt) new
-IsPermissionTold (answer.Refused (PermissionRefused error)) transport ip old now new =
+-- `create_permission`. Out of memory is not a result.
+abbrev pub IsPermissionReported : Answer → TransportType → IpAddr → Protocol → ℕ → Protocol → Type 0
+IsPermissionReported answer.Done transport ip old now new = IsPermissionAnswered old transport ip now (Ok tt) new
+IsPermissionReported (answer.Refused (PermissionRefused error)) transport ip old now new =
     IsPermissionAnswered old transport ip now (Err error) new × (error ≢ not_permitted.NoMemory)
-IsPermissionTold _ transport ip old now new = ⊥
+IsPermissionReported _ transport ip old now new = ⊥
 
--- `have_permission`
-abbrev pub IsHaveTold : Answer → TransportType → IpAddr → Protocol → Protocol → Type 0
-IsHaveTold (answer.Have is) transport ip old new = (is ≡ has_permission transport ip old) × (new ≡ old)
-IsHaveTold _ transport ip old new = ⊥
+-- `have_permission`.
+abbrev pub IsHaveReported : Answer → TransportType → IpAddr → Protocol → Protocol → Type 0
+IsHaveReported (answer.Have is) transport ip old new = (is ≡ has_permission transport ip old) × (new ≡ old)
+IsHaveReported _ transport ip old new = ⊥
 
--- `permissions`
-abbrev pub ArePermissionsTold : Answer → TransportType → SocketAddr → Protocol → Protocol → Type 0
-ArePermissionsTold (answer.Permissions list) transport relayed old new =
+-- `permissions`.
+abbrev pub ArePermissionsReported : Answer → TransportType → SocketAddr → Protocol → Protocol → Type 0
+ArePermissionsReported (answer.Permissions list) transport relayed old new =
     (list.items ≡ permissions_of transport relayed old) × (new ≡ old)
-ArePermissionsTold _ transport relayed old new = ⊥
+ArePermissionsReported _ transport relayed old new = ⊥
 
--- `bind_channel`; want of memory is no answer
-abbrev pub IsBindTold : Answer → TransportType → SocketAddr → Protocol → ℕ → Protocol → Type 0
-IsBindTold answer.Done transport peer old now new = IsBindAnswered old transport peer now (Ok tt) new
-IsBindTold (answer.Refused (BindRefused error)) transport peer old now new =
+-- `bind_channel`. Out of memory is not a result.
+abbrev pub IsBindReported : Answer → TransportType → SocketAddr → Protocol → ℕ → Protocol → Type 0
+IsBindReported answer.Done transport peer old now new = IsBindAnswered old transport peer now (Ok tt) new
+IsBindReported (answer.Refused (BindRefused error)) transport peer old now new =
     IsBindAnswered old transport peer now (Err error) new × (error ≢ not_bound.NoMemory)
-IsBindTold _ transport peer old now new = ⊥
+IsBindReported _ transport peer old now new = ⊥
 
--- `tcp_connect`; want of memory is no answer
-abbrev pub IsConnectTold : Answer → SocketAddr → Protocol → ℕ → Protocol → Type 0
-IsConnectTold answer.Done peer old now new = IsConnectAnswered old peer now (Ok tt) new
-IsConnectTold (answer.Refused (ConnectRefused error)) peer old now new =
+-- `tcp_connect`. Out of memory is not a result.
+abbrev pub IsConnectReported : Answer → SocketAddr → Protocol → ℕ → Protocol → Type 0
+IsConnectReported answer.Done peer old now new = IsConnectAnswered old peer now (Ok tt) new
+IsConnectReported (answer.Refused (ConnectRefused error)) peer old now new =
     IsConnectAnswered old peer now (Err error) new × (error ≢ not_connected.NoMemory)
-IsConnectTold _ peer old now new = ⊥
+IsConnectReported _ peer old now new = ⊥
 
--- `tcp_closed`
-abbrev pub IsClosedTold : Answer → (here there : SocketAddr) → Protocol → Protocol → Type 0
-IsClosedTold answer.Done here there old new = new ≡ after_close here there old
-IsClosedTold _ here there old new = ⊥
+-- `tcp_closed`.
+abbrev pub IsClosedReported : Answer → (here there : SocketAddr) → Protocol → Protocol → Type 0
+IsClosedReported answer.Done here there old new = new ≡ after_close here there old
+IsClosedReported _ here there old new = ⊥
 
--- `connections`
-abbrev pub AreConnectionsTold : Answer → Protocol → Protocol → Type 0
-AreConnectionsTold (answer.Connections list) old new = (list.items ≡ connections_of old) × (new ≡ old)
-AreConnectionsTold _ old new = ⊥
+-- `connections`.
+abbrev pub AreConnectionsReported : Answer → Protocol → Protocol → Type 0
+AreConnectionsReported (answer.Connections list) old new = (list.items ≡ connections_of old) × (new ≡ old)
+AreConnectionsReported _ old new = ⊥
 
--- `channels`
-abbrev pub AreChannelsTold : Answer → Protocol → Protocol → Type 0
-AreChannelsTold (answer.Channels list) old new = (list.items ≡ channels_of old) × (new ≡ old)
-AreChannelsTold _ old new = ⊥
+-- `channels`.
+abbrev pub AreChannelsReported : Answer → Protocol → Protocol → Type 0
+AreChannelsReported (answer.Channels list) old new = (list.items ≡ channels_of old) × (new ≡ old)
+AreChannelsReported _ old new = ⊥
 
--- `send_to`, with its bytes written; want of memory is no answer
-abbrev pub IsSendTold : Answer → TransportType → SocketAddr → List ℕ → Protocol → ℕ → Protocol → Type 0
-IsSendTold (answer.Transmit transmit) transport to bytes old now new =
+-- `send_to`, with its bytes written. Out of memory is not a result.
+abbrev pub IsSendReported : Answer → TransportType → SocketAddr → List ℕ → Protocol → ℕ → Protocol → Type 0
+IsSendReported (answer.Transmit transmit) transport to bytes old now new =
     IsSendAnswered old transport to bytes now (Ok (Some (sent_of transmit))) new
-IsSendTold (answer.Refused (SendRefused error)) transport to bytes old now new =
+IsSendReported (answer.Refused (SendRefused error)) transport to bytes old now new =
     IsSendAnswered old transport to bytes now (Err error) new × (error ≢ not_sent.NoMemory)
-IsSendTold _ transport to bytes old now new = ⊥
+IsSendReported _ transport to bytes old now new = ⊥
 
--- `protocol_error`
-abbrev pub IsEndTold : Answer → Protocol → Protocol → Type 0
-IsEndTold answer.Done old new = new ≡ ended old
-IsEndTold _ old new = ⊥
+-- `protocol_error`.
+abbrev pub IsEndReported : Answer → Protocol → Protocol → Type 0
+IsEndReported answer.Done old new = new ≡ ended old
+IsEndReported _ old new = ⊥
 
--- `relayed_addresses`
-abbrev pub IsRelayedTold : Answer → Protocol → Protocol → Type 0
-IsRelayedTold (answer.Relayed list) old new = (list.items ≡ relayed_of old) × (new ≡ old)
-IsRelayedTold _ old new = ⊥
+-- `relayed_addresses`.
+abbrev pub IsRelayedReported : Answer → Protocol → Protocol → Type 0
+IsRelayedReported (answer.Relayed list) old new = (list.items ≡ relayed_of old) × (new ≡ old)
+IsRelayedReported _ old new = ⊥
 
--- a call of a client that leaves its stream as it is, by its contract
+-- A call of a client that leaves its stream unchanged, by its contract.
 unfoldable pub IsCalled : ClientCall → Answer → Protocol → ℕ → Protocol → Type 0
 IsCalled Poll answer old now new = IsPolledAs answer old now new
-IsCalled PollEvent answer old now new = IsEventTold answer old new
-IsCalled Delete answer old now new = IsDeleteTold answer old now new
-IsCalled (CreatePermission transport ip) answer old now new = IsPermissionTold answer transport ip old now new
-IsCalled (HavePermission transport ip) answer old now new = IsHaveTold answer transport ip old new
-IsCalled (Permissions transport relayed) answer old now new = ArePermissionsTold answer transport relayed old new
-IsCalled (BindChannel transport peer) answer old now new = IsBindTold answer transport peer old now new
-IsCalled (TcpConnect peer) answer old now new = IsConnectTold answer peer old now new
+IsCalled PollEvent answer old now new = IsEventReported answer old new
+IsCalled Delete answer old now new = IsDeleteReported answer old now new
+IsCalled (CreatePermission transport ip) answer old now new = IsPermissionReported answer transport ip old now new
+IsCalled (HavePermission transport ip) answer old now new = IsHaveReported answer transport ip old new
+IsCalled (Permissions transport relayed) answer old now new = ArePermissionsReported answer transport relayed old new
+IsCalled (BindChannel transport peer) answer old now new = IsBindReported answer transport peer old now new
+IsCalled (TcpConnect peer) answer old now new = IsConnectReported answer peer old now new
 IsCalled (AllocatedTcpSocket connection peer here) answer old now new = ⊥
-IsCalled (TcpClosed here there) answer old now new = IsClosedTold answer here there old new
-IsCalled Connections answer old now new = AreConnectionsTold answer old new
-IsCalled Channels answer old now new = AreChannelsTold answer old new
-IsCalled (SendTo transport to bytes) answer old now new = IsSendTold answer transport to bytes.items old now new
+IsCalled (TcpClosed here there) answer old now new = IsClosedReported answer here there old new
+IsCalled Connections answer old now new = AreConnectionsReported answer old new
+IsCalled Channels answer old now new = AreChannelsReported answer old new
+IsCalled (SendTo transport to bytes) answer old now new = IsSendReported answer transport to bytes.items old now new
 IsCalled PollRecv answer old now new = ⊥
-IsCalled ProtocolError answer old now new = IsEndTold answer old new
-IsCalled RelayedAddresses answer old now new = IsRelayedTold answer old new
+IsCalled ProtocolError answer old now new = IsEndReported answer old new
+IsCalled RelayedAddresses answer old now new = IsRelayedReported answer old new
 
--- `poll_recv`; want of memory is no answer
-abbrev pub IsWaitingTold : Answer → Kept → ℕ → Kept → Type 0
-IsWaitingTold (answer.Peer given) old now new = IsWaitingGiven old now (Some given) new
-IsWaitingTold answer.Nothing old now new = IsWaitingGiven old now None new
-IsWaitingTold _ old now new = ⊥
+-- `poll_recv`. Out of memory is not a result.
+abbrev pub IsWaitingReported : Answer → ClientState → ℕ → ClientState → Type 0
+IsWaitingReported (answer.Peer given) old now new = IsWaitingGiven old now (Some given) new
+IsWaitingReported answer.Nothing old now new = IsWaitingGiven old now None new
+IsWaitingReported _ old now new = ⊥
 
--- the client's own connection to the server
+-- The five-tuple of the client's own connection to the server.
 abbrev pub own_tuple : Protocol → Socket5Tuple
 own_tuple p = record { transport = p.agent.transport; from = p.agent.here; to = p.server }
 
--- `allocated_tcp_socket`, told of that connection; want of memory is no answer
-abbrev pub IsSocketTaken : Answer → (connection : ℕ) → SocketAddr → Option SocketAddr → Kept → ℕ → Kept → Type 0
+-- `allocated_tcp_socket` with that five-tuple. Out of memory is not a result.
+abbrev pub IsSocketTaken : Answer → (connection : ℕ) → SocketAddr → Option SocketAddr → ClientState → ℕ → ClientState → Type 0
 IsSocketTaken answer.Done connection peer here old now new =
-    IsSocketTold old connection (own_tuple old.core) peer here now (Ok tt) new
+    IsSocketReported old connection (own_tuple old.core) peer here now (Ok tt) new
 IsSocketTaken (answer.Refused (SocketRefused error)) connection peer here old now new =
-    IsSocketTold old connection (own_tuple old.core) peer here now (Err error) new × (error ≢ not_taken.NoMemory)
+    IsSocketReported old connection (own_tuple old.core) peer here now (Err error) new × (error ≢ not_taken.NoMemory)
 IsSocketTaken _ connection peer here old now new = ⊥
 
--- a call of a client, by its contract
-unfoldable pub IsCallTold : ClientCall → Answer → Kept → ℕ → Kept → Type 0
-IsCallTold PollRecv answer old now new = IsWaitingTold answer old now new
-IsCallTold (AllocatedTcpSocket connection peer here) answer old now new =
+-- A call of a client, by its contract.
+unfoldable pub IsCallReported : ClientCall → Answer → ClientState → ℕ → ClientState → Type 0
+IsCallReported PollRecv answer old now new = IsWaitingReported answer old now new
+IsCallReported (AllocatedTcpSocket connection peer here) answer old now new =
     IsSocketTaken answer connection peer here old now new
-IsCallTold call answer old now new = Leaves (λ p q. IsCalled call answer p now q) old new
+IsCallReported call answer old now new = Leaves (λ p q. IsCalled call answer p now q) old new
 
 -- ---- what is sent, and what comes
 
--- `poll_transmit`, by its contract
-unfoldable pub IsDrawnAs : Answer → Protocol → ℕ → Protocol → Type 0
-IsDrawnAs (answer.Transmit transmit) old now new = IsDrawn old now (Some (sent_of transmit)) new
-IsDrawnAs answer.Nothing old now new = IsDrawn old now None new
-IsDrawnAs _ old now new = ⊥
+-- `poll_transmit`, by its contract.
+unfoldable pub IsTransmittedAs : Answer → Protocol → ℕ → Protocol → Type 0
+IsTransmittedAs (answer.Transmit transmit) old now new = IsTransmitted old now (Some (sent_of transmit)) new
+IsTransmittedAs answer.Nothing old now new = IsTransmitted old now None new
+IsTransmittedAs _ old now new = ⊥
 
--- what is told of bytes that came
-abbrev pub IsTold : TurnRecvRet (Bor (List ℕ)) → Answer → Type 0
-IsTold recv.Handled answer.Handled = Unit {0}
-IsTold (recv.Ignored came) answer.Ignored = Unit {0}
-IsTold (recv.PeerData held) (answer.Peer owned) = owned ≡ record held { place = None }
-IsTold (recv.PeerIcmp t p k c d) (answer.Icmp transport peer kind code report) =
+-- The event's result for what `recv` returns.
+abbrev pub IsReported : TurnRecvRet (Bor (List ℕ)) → Answer → Type 0
+IsReported recv.Handled answer.Handled = Unit {0}
+IsReported (recv.Ignored came) answer.Ignored = Unit {0}
+IsReported (recv.PeerData held) (answer.Peer owned) = owned ≡ record held { index = None }
+IsReported (recv.PeerIcmp t p k c d) (answer.Icmp transport peer kind code report) =
     (transport ≡ t) × (peer ≡ p) × (kind ≡ k) × (code ≡ c) × (report ≡ d)
-IsTold _ _ = ⊥
+IsReported _ _ = ⊥
 
--- bytes came to a client by its own transport, over whichever of its sockets: `recv`, by its contract
-pub record IsFed (answer : Answer) (old : Kept) (bytes : List ℕ) (from to : SocketAddr) (now : ℕ)
-    (new : Kept) : Type 0 where
+-- Bytes reached a client on its own transport, on any of its sockets: `recv`, by its contract.
+pub record IsFed (answer : Answer) (old : ClientState) (bytes : List ℕ) (from to : SocketAddr) (now : ℕ)
+    (new : ClientState) : Type 0 where
   pub are_bytes : AreBytes bytes
   pub came : Transmit (Bor (List ℕ))
   pub bytes_are : came.bytes.now ≡ bytes
@@ -197,4 +197,4 @@ pub record IsFed (answer : Answer) (old : Kept) (bytes : List ℕ) (from to : So
   pub to_is : came.to ≡ to
   pub took : TurnRecvRet (Bor (List ℕ))
   pub received : IsReceived (λ (b : Bor (List ℕ)). b.now) old came now took new
-  pub told : IsTold took answer
+  pub reported : IsReported took answer

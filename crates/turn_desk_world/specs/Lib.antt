@@ -10,7 +10,7 @@ pub mod Progress
 pub mod Replay
 pub mod Settings
 pub mod Wanted
--- What stands above this crate has these through it.
+-- Crates that depend on this one reach these definitions through it.
 pub use Rattle.stun_proto_auth.specs as StunProtoAuth
 pub use Rattle.turn_client_proto.specs.Connection as TurnClientProtoConnection
 pub use Rattle.turn_client_proto.specs.TurnRuns as TurnRuns

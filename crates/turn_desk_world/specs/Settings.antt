@@ -1,4 +1,4 @@
--- What the setup lines of a trace make.
+-- What the setup lines of a trace create.
 use Rattle.std.specs.Prelude.{◌≡◌, ℕ, List, [], Option, Some, None}
 use Rattle.std.specs.Duration.{as_nanos}
 use Rattle.std.specs.FinMap as map
@@ -10,14 +10,14 @@ use Rattle.turn_client_proto_api.specs.TurnTypesFrame.Streams.{alive}
 use Rattle.turn_client_proto.specs.Core.Beginning.{IsNew}
 use Rattle.turn_client_proto.specs.Recv.Control.{Open}
 use Rattle.stun_proto_auth.specs.declared.feature.Feature.{Feature}
-use Rattle.turn_client_proto.specs.Recv.Kept.{Kept, over_udp}
+use Rattle.turn_client_proto.specs.Recv.ClientState.{ClientState, over_udp}
 use Rattle.turn_desk_core.specs.State.{State}
 use Rattle.turn_client_proto_api.specs.Config.{Config, default_config}
 use Rattle.turn_desk_trace.specs.Setup.{families_in_order}
 use Rattle.turn_desk_trace.specs.declared.setup.Client.{Client}
 use Rattle.turn_desk_world.specs.declared.setting.Rto.{Rto}
 
--- a desk of a realm, which knows no user, has heard of no client and has granted nothing; its nonces stand for an hour
+-- A server core for a realm, without users, clients and grants. Its nonces are valid for an hour.
 abbrev pub desk_of : List ℕ → List IntegrityAlgorithm → Feature → State
 desk_of realm algorithms anonymity = record {
   auth = record {
@@ -31,13 +31,13 @@ desk_of realm algorithms anonymity = record {
   grants = [];
 }
 
--- the same desk, which knows a user more
+-- The server core with one more user.
 abbrev pub with_user : State → List ℕ → List ℕ → State
 with_user desk name password = record desk {
   auth = record desk.auth { users = map.insert desk.auth.users name password };
 }
 
--- settings by which each request waits as was said, or as those of a new client do
+-- The settings with these retransmission timeouts, or unchanged if none are given.
 abbrev pub waiting : Option Rto → Config → Config
 waiting None config = config
 waiting (Some rto) config = record config {
@@ -49,7 +49,7 @@ waiting (Some rto) config = record config {
   };
 }
 
--- the settings of a client that asks for an allocation over a transport
+-- The settings of a client that requests an allocation over this transport.
 abbrev pub config_of : TransportType → Client → Option Rto → Config
 config_of over client rto =
     waiting rto (record (default_config (record { username = client.name.now; password = client.password.now })) {
@@ -59,8 +59,8 @@ config_of over client rto =
       anonymous_username = client.anonymity;
     })
 
--- a client over a transport that is new, with these settings: over TCP nothing has come in its stream
-abbrev pub IsNewBy : TransportType → (here server : SocketAddr) → Config → (seed : List ℕ) → Kept → Type 0
+-- A new client over a transport, with these settings. Over TCP its stream has received nothing.
+abbrev pub IsNewBy : TransportType → (here server : SocketAddr) → Config → (seed : List ℕ) → ClientState → Type 0
 IsNewBy Udp here server config seed client = IsNew Udp here server config seed client.core × (client ≡ over_udp client.core)
 IsNewBy Tcp here server config seed client =
     IsNew Tcp here server config seed client.core × (client.control ≡ Open (alive []))

@@ -1,9 +1,9 @@
-//! What reaches a desk.
+//! Events for the server core.
 
 ghost use Rattle.std.specs.Prelude.{IfOk};
 ghost use Rattle.turn_desk_world.specs.Desks.{IsDeskAnswered, words_of};
 
-use crate::typed::{are_bytes, numbers_have_four_bytes};
+use crate::typed::{numbers_have_four_bytes, proof_are_bytes};
 use rand_chacha::ChaCha20Rng;
 use rand_core::SeedableRng;
 use std::net::SocketAddr;
@@ -13,7 +13,7 @@ use turn_desk_core::decision::Decision;
 use turn_desk_core::desk::Desk;
 use turn_desk_event::answer::Answer;
 
-/// Bytes reach a desk, which draws its words from the generator of a seed.
+/// Passes bytes to the server core, which takes its random words from the generator with this seed.
 pub(crate) fn ask(
     desk: &mut Desk,
     bytes: &[u8],
@@ -25,12 +25,12 @@ pub(crate) fn ask(
     ensures { IfOk result (λ answer. IsDeskAnswered answer desk.old bytes.now from now
         decision.now seed desk.new) }
 {
-    are_bytes(bytes);
+    proof_are_bytes(bytes);
     numbers_have_four_bytes(decision);
     let mut words = ChaCha20Rng::from_seed(seed);
     match desk.handle(bytes, from, now, decision, &mut words) {
         Ok(Some(reply)) => {
-            are_bytes(reply.as_slice());
+            proof_are_bytes(reply.as_slice());
             Ok(Answer::Reply(reply))
         }
         Ok(None) => Ok(Answer::Nothing),

@@ -1,12 +1,12 @@
-//! What happens to a client.
+//! Events for the client.
 
 ghost use Rattle.std.specs.Prelude.{◌≡◌, IfOk};
-ghost use Rattle.turn_client_proto.specs.Clients.{kept_of};
-ghost use Rattle.turn_client_proto.specs.Recv.Kept.{Leaves};
-ghost use Rattle.turn_desk_world.specs.Calls.{AreChannelsTold, ArePermissionsTold, IsBindTold, IsCallTold, IsDeleteTold, IsDrawnAs, IsEventTold, IsFed, IsPermissionTold, IsPolledAs, IsRelayedTold, IsSendTold, IsWaitingTold, IsConnectTold, AreConnectionsTold, IsClosedTold, IsSocketTaken};
+ghost use Rattle.turn_client_proto.specs.Clients.{stored_of};
+ghost use Rattle.turn_client_proto.specs.Recv.ClientState.{Leaves};
+ghost use Rattle.turn_desk_world.specs.Calls.{AreChannelsReported, ArePermissionsReported, IsBindReported, IsCallReported, IsDeleteReported, IsTransmittedAs, IsEventReported, IsFed, IsPermissionReported, IsPolledAs, IsRelayedReported, IsSendReported, IsWaitingReported, IsConnectReported, AreConnectionsReported, IsClosedReported, IsSocketTaken};
 ghost use Rattle.turn_desk_world.specs.Runs.{IsAtClient, IsInRange, is_in_range};
 
-use crate::typed::are_bytes;
+use crate::typed::proof_are_bytes;
 use std::alloc::Global;
 use std::marker::Model;
 use std::net::{IpAddr, SocketAddr};
@@ -25,8 +25,8 @@ use turn_client_proto_api::error::{
 use turn_desk_event::answer::{Answer, Refusal};
 use turn_desk_event::event::ClientCall;
 
-/// The client's user calls it at a moment.
-#[tactic(auto, unfolding(crate::specs::Calls::IsCallTold, crate::specs::Calls::IsCalled))]
+/// Makes a call of the client at this time.
+#[tactic(auto, unfolding(crate::specs::Calls::IsCallReported, crate::specs::Calls::IsCalled))]
 fn call(
     alloc: Global,
     client: &mut TurnClient,
@@ -34,7 +34,7 @@ fn call(
     now: Instant,
 ) -> Result<Answer, NoMemory>
     ensures { IfOk result (λ answer.
-        IsCallTold call.now answer (kept_of client.old) now (kept_of client.new)) }
+        IsCallReported call.now answer (stored_of client.old) now (stored_of client.new)) }
 {
     match call {
         ClientCall::Poll => poll(client, now),
@@ -69,13 +69,13 @@ fn call(
     }
 }
 
-/// The client is polled.
+/// Calls `poll`.
 fn poll(client: &mut TurnClient, now: Instant) -> Result<Answer, NoMemory>
     ensures { IfOk result (λ answer.
-        Leaves (λ p q. IsPolledAs answer p now q) (kept_of client.old) (kept_of client.new)) }
+        Leaves (λ p q. IsPolledAs answer p now q) (stored_of client.old) (stored_of client.new)) }
 {
     match client.poll(now) {
-        TurnPollRet::WaitUntil(moment) => Ok(Answer::Wait(moment)),
+        TurnPollRet::WaitUntil(time) => Ok(Answer::Wait(time)),
         TurnPollRet::AllocateTcpSocket {
             id,
             socket,
@@ -97,9 +97,9 @@ fn poll(client: &mut TurnClient, now: Instant) -> Result<Answer, NoMemory>
     }
 }
 
-/// The event that has waited longest.
+/// Calls `poll_event`, which removes the oldest queued event.
 fn poll_event(client: &mut TurnClient) -> Answer
-    ensures { Leaves (IsEventTold result) (kept_of client.old) (kept_of client.new) }
+    ensures { Leaves (IsEventReported result) (stored_of client.old) (stored_of client.new) }
 {
     match client.poll_event() {
         Some(event) => Answer::Event(event),
@@ -107,10 +107,11 @@ fn poll_event(client: &mut TurnClient) -> Answer
     }
 }
 
-/// The client is to delete its allocations.
+/// Calls `delete`.
 fn delete(client: &mut TurnClient, now: Instant) -> Result<Answer, NoMemory>
     ensures { IfOk result (λ answer.
-        Leaves (λ p q. IsDeleteTold answer p now q) (kept_of client.old) (kept_of client.new)) }
+        Leaves (λ p q. IsDeleteReported answer p now q) (stored_of client.old) (stored_of
+        client.new)) }
 {
     match client.delete(now) {
         Ok(()) => Ok(Answer::Done),
@@ -119,7 +120,7 @@ fn delete(client: &mut TurnClient, now: Instant) -> Result<Answer, NoMemory>
     }
 }
 
-/// The client is to ask for a permission.
+/// Calls `create_permission`.
 fn create_permission(
     client: &mut TurnClient,
     transport: TransportType,
@@ -127,8 +128,8 @@ fn create_permission(
     now: Instant,
 ) -> Result<Answer, NoMemory>
     ensures { IfOk result (λ answer.
-        Leaves (λ p q. IsPermissionTold answer transport ip p now q)
-        (kept_of client.old) (kept_of client.new)) }
+        Leaves (λ p q. IsPermissionReported answer transport ip p now q)
+        (stored_of client.old) (stored_of client.new)) }
 {
     match client.create_permission(transport, ip, now) {
         Ok(()) => Ok(Answer::Done),
@@ -137,15 +138,15 @@ fn create_permission(
     }
 }
 
-/// The addresses whose permissions the client shows.
+/// Returns the addresses of the permissions that the client lists.
 fn permissions(
     alloc: Global,
     client: &TurnClient,
     transport: TransportType,
     relayed: SocketAddr,
 ) -> Result<Answer, NoMemory>
-    ensures { IfOk result (λ answer. ArePermissionsTold answer transport relayed
-        (kept_of client.now).core (kept_of client.now).core) }
+    ensures { IfOk result (λ answer. ArePermissionsReported answer transport relayed
+        (stored_of client.now).core (stored_of client.now).core) }
 {
     let mut list = Vec::new(alloc);
     for ip in client.permissions(transport, relayed) {
@@ -154,7 +155,7 @@ fn permissions(
     Ok(Answer::Permissions(list))
 }
 
-/// The client is to ask for a channel.
+/// Calls `bind_channel`.
 fn bind_channel(
     client: &mut TurnClient,
     transport: TransportType,
@@ -162,8 +163,8 @@ fn bind_channel(
     now: Instant,
 ) -> Result<Answer, NoMemory>
     ensures { IfOk result (λ answer.
-        Leaves (λ p q. IsBindTold answer transport peer p now q)
-        (kept_of client.old) (kept_of client.new)) }
+        Leaves (λ p q. IsBindReported answer transport peer p now q)
+        (stored_of client.old) (stored_of client.new)) }
 {
     match client.bind_channel(transport, peer, now) {
         Ok(()) => Ok(Answer::Done),
@@ -172,10 +173,10 @@ fn bind_channel(
     }
 }
 
-/// The client is to ask for a connection.
+/// Calls `tcp_connect`.
 fn tcp_connect(client: &mut TurnClient, peer: SocketAddr, now: Instant) -> Result<Answer, NoMemory>
-    ensures { IfOk result (λ answer. Leaves (λ p q. IsConnectTold answer peer p now q)
-        (kept_of client.old) (kept_of client.new)) }
+    ensures { IfOk result (λ answer. Leaves (λ p q. IsConnectReported answer peer p now q)
+        (stored_of client.old) (stored_of client.new)) }
 {
     match client.tcp_connect(peer, now) {
         Ok(()) => Ok(Answer::Done),
@@ -184,7 +185,7 @@ fn tcp_connect(client: &mut TurnClient, peer: SocketAddr, now: Instant) -> Resul
     }
 }
 
-/// The client is told of the socket for a connection.
+/// Calls `allocated_tcp_socket` with the five-tuple of the client's own connection.
 fn allocated_tcp_socket(
     client: &mut TurnClient,
     id: u32,
@@ -192,8 +193,8 @@ fn allocated_tcp_socket(
     local: Option<SocketAddr>,
     now: Instant,
 ) -> Result<Answer, NoMemory>
-    ensures { IfOk result (λ answer. IsSocketTaken answer id peer local (kept_of client.old) now
-        (kept_of client.new)) }
+    ensures { IfOk result (λ answer. IsSocketTaken answer id peer local (stored_of client.old) now
+        (stored_of client.new)) }
 {
     let own = Socket5Tuple {
         transport: client.transport(),
@@ -207,24 +208,24 @@ fn allocated_tcp_socket(
     }
 }
 
-/// The client is told that a socket was closed.
+/// Calls `tcp_closed`.
 fn tcp_closed(
     client: &mut TurnClient,
     local: SocketAddr,
     remote: SocketAddr,
     now: Instant,
 ) -> Result<Answer, NoMemory>
-    ensures { IfOk result (λ answer. Leaves (IsClosedTold answer local remote)
-        (kept_of client.old) (kept_of client.new)) }
+    ensures { IfOk result (λ answer. Leaves (IsClosedReported answer local remote)
+        (stored_of client.old) (stored_of client.new)) }
 {
     client.tcp_closed(local, remote, now)?;
     Ok(Answer::Done)
 }
 
-/// The data connections that the client shows.
+/// Returns the data connections that the client lists.
 fn connections(alloc: Global, client: &TurnClient) -> Result<Answer, NoMemory>
     ensures { IfOk result (λ answer.
-        AreConnectionsTold answer (kept_of client.now).core (kept_of client.now).core) }
+        AreConnectionsReported answer (stored_of client.now).core (stored_of client.now).core) }
 {
     let mut list = Vec::new(alloc);
     for connection in client.connections() {
@@ -233,10 +234,10 @@ fn connections(alloc: Global, client: &TurnClient) -> Result<Answer, NoMemory>
     Ok(Answer::Connections(list))
 }
 
-/// The channels that the client shows.
+/// Returns the channels that the client lists.
 fn channels(alloc: Global, client: &TurnClient) -> Result<Answer, NoMemory>
     ensures { IfOk result (λ answer.
-        AreChannelsTold answer (kept_of client.now).core (kept_of client.now).core) }
+        AreChannelsReported answer (stored_of client.now).core (stored_of client.now).core) }
 {
     let mut list = Vec::new(alloc);
     for channel in client.channels() {
@@ -245,7 +246,7 @@ fn channels(alloc: Global, client: &TurnClient) -> Result<Answer, NoMemory>
     Ok(Answer::Channels(list))
 }
 
-/// The client is to send bytes to a peer.
+/// Calls `send_to`, and builds the transmit that it returns.
 fn send_to(
     alloc: Global,
     client: &mut TurnClient,
@@ -255,8 +256,8 @@ fn send_to(
     now: Instant,
 ) -> Result<Answer, NoMemory>
     ensures { IfOk result (λ answer.
-        Leaves (λ p q. IsSendTold answer transport peer bytes.now p now q)
-        (kept_of client.old) (kept_of client.new)) }
+        Leaves (λ p q. IsSendReported answer transport peer bytes.now p now q)
+        (stored_of client.old) (stored_of client.new)) }
 {
     match client.send_to(transport, peer, bytes, now) {
         Ok(Some(sent)) => {
@@ -264,17 +265,18 @@ fn send_to(
             let bytes = Data::Owned(DataOwned::from(sent.bytes.into_boxed_slice()));
             Ok(Answer::Transmit(Transmit::new(bytes, sent.transport, sent.from, sent.to)))
         }
-        // What isn't refused is carried.
+        // A call that succeeds always returns a transmit.
         Ok(None) => unreachable!(),
         Err(SendError::NoMemory) => Err(NoMemory),
         Err(error) => Ok(Answer::Refused(Refusal::Send(error))),
     }
 }
 
-/// The client is asked for what waits: bytes of a connection's peer, or else frames of its stream.
+/// Calls `poll_recv`, which returns buffered bytes of a connection's peer, or else a payload from
+/// the client's own stream.
 fn poll_recv(client: &mut TurnClient, now: Instant) -> Result<Answer, NoMemory>
     ensures { IfOk result (λ answer.
-        IsWaitingTold answer (kept_of client.old) now (kept_of client.new)) }
+        IsWaitingReported answer (stored_of client.old) now (stored_of client.new)) }
 {
     match client.poll_recv(now) {
         Ok(Some(given)) => Ok(Answer::Peer(given)),
@@ -283,10 +285,10 @@ fn poll_recv(client: &mut TurnClient, now: Instant) -> Result<Answer, NoMemory>
     }
 }
 
-/// The relayed addresses that the client shows.
+/// Returns the relayed addresses that the client lists.
 fn relayed(alloc: Global, client: &TurnClient) -> Result<Answer, NoMemory>
     ensures { IfOk result (λ answer.
-        IsRelayedTold answer (kept_of client.now).core (kept_of client.now).core) }
+        IsRelayedReported answer (stored_of client.now).core (stored_of client.now).core) }
 {
     let mut list = Vec::new(alloc);
     for relayed in client.relayed_addresses() {
@@ -295,11 +297,12 @@ fn relayed(alloc: Global, client: &TurnClient) -> Result<Answer, NoMemory>
     Ok(Answer::Relayed(list))
 }
 
-/// The client is asked for what it sends.
-#[tactic(auto, unfolding(crate::specs::Calls::IsDrawnAs))]
+/// Calls `poll_transmit`.
+#[tactic(auto, unfolding(crate::specs::Calls::IsTransmittedAs))]
 fn draw(client: &mut TurnClient, now: Instant) -> Result<Answer, NoMemory>
     ensures { IfOk result (λ answer.
-        Leaves (λ p q. IsDrawnAs answer p now q) (kept_of client.old) (kept_of client.new)) }
+        Leaves (λ p q. IsTransmittedAs answer p now q) (stored_of client.old) (stored_of
+        client.new)) }
 {
     match client.poll_transmit(now) {
         Ok(Some(transmit)) => Ok(Answer::Transmit(transmit)),
@@ -308,7 +311,7 @@ fn draw(client: &mut TurnClient, now: Instant) -> Result<Answer, NoMemory>
     }
 }
 
-/// Bytes reach the client by its own transport: over TCP, over whichever of its sockets.
+/// Passes bytes to the client on its own transport. Over TCP they can belong to any of its sockets.
 fn feed(
     alloc: Global,
     client: &mut TurnClient,
@@ -317,10 +320,10 @@ fn feed(
     to: SocketAddr,
     now: Instant,
 ) -> Result<Answer, NoMemory>
-    ensures { IfOk result (λ answer. IsFed answer (kept_of client.old) bytes.now from to now
-        (kept_of client.new)) }
+    ensures { IfOk result (λ answer. IsFed answer (stored_of client.old) bytes.now from to now
+        (stored_of client.new)) }
 {
-    are_bytes(bytes);
+    proof_are_bytes(bytes);
     let transmit = Transmit::new(bytes, client.transport(), from, to);
     match client.recv(transmit, now) {
         TurnRecvRet::Handled => Ok(Answer::Handled),
@@ -346,14 +349,14 @@ fn feed(
     }
 }
 
-/// Whether something happens to a client at a moment.
+/// Returns whether a time is in range for a client: at most `CLIENT_END`.
 fn is_in_range(now: Instant) -> bool
     ensures { result ≡ is_in_range now }
 {
     now.as_nanos() <= CLIENT_END
 }
 
-/// The client's user calls it at a moment, where that is in range.
+/// Makes a call of the client at this time, or returns `OutOfRange` if the time is out of range.
 #[tactic(auto, unfolding(crate::specs::Runs::IsInRange))]
 fn call_in_range(
     alloc: Global,
@@ -362,8 +365,8 @@ fn call_in_range(
     now: Instant,
 ) -> Result<Answer, NoMemory>
     ensures { IfOk result (λ answer.
-        IsInRange now (λ p q. IsCallTold what.now answer p now q)
-        (kept_of client.old) answer (kept_of client.new)) }
+        IsInRange now (λ p q. IsCallReported what.now answer p now q)
+        (stored_of client.old) answer (stored_of client.new)) }
 {
     if !is_in_range(now) {
         return Ok(Answer::OutOfRange);
@@ -371,12 +374,12 @@ fn call_in_range(
     call(alloc, client, what, now)
 }
 
-/// The client is asked for what it sends, where the moment is in range.
+/// Calls `poll_transmit`, or returns `OutOfRange` if the time is out of range.
 #[tactic(auto, unfolding(crate::specs::Runs::IsInRange))]
 fn draw_in_range(client: &mut TurnClient, now: Instant) -> Result<Answer, NoMemory>
     ensures { IfOk result (λ answer.
-        IsInRange now (Leaves (λ p q. IsDrawnAs answer p now q))
-        (kept_of client.old) answer (kept_of client.new)) }
+        IsInRange now (Leaves (λ p q. IsTransmittedAs answer p now q))
+        (stored_of client.old) answer (stored_of client.new)) }
 {
     if !is_in_range(now) {
         return Ok(Answer::OutOfRange);
@@ -384,7 +387,7 @@ fn draw_in_range(client: &mut TurnClient, now: Instant) -> Result<Answer, NoMemo
     draw(client, now)
 }
 
-/// Bytes reach the client, where the moment is in range.
+/// Passes bytes to the client, or returns `OutOfRange` if the time is out of range.
 #[tactic(auto, unfolding(crate::specs::Runs::IsInRange))]
 fn feed_in_range(
     alloc: Global,
@@ -396,7 +399,7 @@ fn feed_in_range(
 ) -> Result<Answer, NoMemory>
     ensures { IfOk result (λ answer.
         IsInRange now (λ p q. IsFed answer p bytes.now from to now q)
-        (kept_of client.old) answer (kept_of client.new)) }
+        (stored_of client.old) answer (stored_of client.new)) }
 {
     if !is_in_range(now) {
         return Ok(Answer::OutOfRange);
@@ -404,7 +407,7 @@ fn feed_in_range(
     feed(alloc, client, bytes, from, to, now)
 }
 
-/// A client, where there is one. Contracts see what it keeps.
+/// A client, if there is one. Contracts see its state.
 #[derive(Debug, Drop)]
 pub(crate) struct Driven {
     pub(crate) alloc: Global,
@@ -414,23 +417,24 @@ pub(crate) struct Driven {
 impl Model for Driven {
     ghost use Rattle.std.specs.Option.{option_map};
     ghost use Rattle.std.specs.Prelude.{Option};
-    ghost use Rattle.turn_client_proto.specs.Clients.{kept_of};
-    ghost use Rattle.turn_client_proto.specs.Recv.Kept.{Kept};
+    ghost use Rattle.turn_client_proto.specs.Clients.{stored_of};
+    ghost use Rattle.turn_client_proto.specs.Recv.ClientState.{ClientState};
     ghost use Rattle.turn_desk_world.specs.Model.{driven_code};
 
-    ghost Value = { Option Kept };
+    ghost Value = { Option ClientState };
 
     ghost coded = { driven_code };
 
-    ghost view = { λ d. option_map kept_of d.client };
+    ghost view = { λ d. option_map stored_of d.client };
 }
 
 impl Driven {
-    /// The client's user calls it at a moment, where there is a client, and the moment is in range.
+    /// Makes a call of the client at this time. Returns `OutOfRange` if there is no client, or the
+    /// time is out of range.
     #[tactic(auto, unfolding(crate::specs::Runs::IsAtClient))]
     pub(crate) fn call(&mut self, what: &ClientCall, now: Instant) -> Result<Answer, NoMemory>
         ensures { IfOk result (λ answer.
-            IsAtClient now (λ p q. IsCallTold what.now answer p now q)
+            IsAtClient now (λ p q. IsCallReported what.now answer p now q)
             self.old answer self.new) }
     {
         let Some(client) = &mut self.client else {
@@ -439,11 +443,12 @@ impl Driven {
         call_in_range(self.alloc, client, what, now)
     }
 
-    /// The client is asked for what it sends, where there is one, and the moment is in range.
+    /// Calls `poll_transmit`. Returns `OutOfRange` if there is no client, or the time is out of
+    /// range.
     #[tactic(auto, unfolding(crate::specs::Runs::IsAtClient))]
     pub(crate) fn draw(&mut self, now: Instant) -> Result<Answer, NoMemory>
         ensures { IfOk result (λ answer.
-            IsAtClient now (Leaves (λ p q. IsDrawnAs answer p now q))
+            IsAtClient now (Leaves (λ p q. IsTransmittedAs answer p now q))
             self.old answer self.new) }
     {
         let Some(client) = &mut self.client else {
@@ -452,7 +457,8 @@ impl Driven {
         draw_in_range(client, now)
     }
 
-    /// Bytes reach the client, where there is one, and the moment is in range.
+    /// Passes bytes to the client. Returns `OutOfRange` if there is no client, or the time is out
+    /// of range.
     #[tactic(auto, unfolding(crate::specs::Runs::IsAtClient))]
     pub(crate) fn feed(
         &mut self,

@@ -1,6 +1,7 @@
-//! A world of one client and one desk, and a network that may hand either of them any bytes at any
-//! moment: events in, their answers out ([`world`]); and the replay of a trace, which lists such events
-//! ([`trace`]). It performs no input or output but by the reader and the writer that it is given.
+//! A simulation of one client and one server core, and a network that may deliver any bytes to
+//! either of them at any time. [`world`] takes events and returns their results; [`trace`] replays
+//! a written list of events. The crate performs no input or output except through the reader and
+//! the writer that it is given.
 #![tactic(auto)]
 
 mod desk;

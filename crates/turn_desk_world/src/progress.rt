@@ -1,4 +1,4 @@
-//! What a replay keeps from line to line, and what a line makes of it.
+//! The state of a replay, and the effect of one line on it.
 
 ghost use Rattle.std.specs.Prelude.{◌≡◌, ◌≤◌, ◌||◌, ◌++◌, ◌∷◌, [], Err, IfOk, OnOk, false, is_some, length, true};
 ghost use Rattle.std.specs.Option.{option_map};
@@ -7,8 +7,8 @@ ghost use Rattle.turn_desk_trace.specs.Answer.{named_by};
 ghost use Rattle.turn_desk_trace.specs.Setup.{CanAsk};
 ghost use Rattle.turn_desk_world.specs.Progress.{IsBounded, IsClientAdded, IsDeskAdded, IsRtoSet, IsRunOfOne, IsSetUp, IsUserAdded, can_happen, can_happen_in, can_set_up, is_of_client, progress_of, world_of};
 ghost use Rattle.turn_desk_world.specs.Replay.{IsBadLine, line_text, start};
-ghost use Rattle.turn_desk_world.specs.Keeping.{IsHappenedKept, IsLineDoneKept, IsToldKept};
-ghost use Rattle.turn_desk_world.specs.Wanted.{is_wanted, kept_if};
+ghost use Rattle.turn_desk_world.specs.Keeping.{IsHappenedStored, IsLineDoneStored, IsReportedStored};
+ghost use Rattle.turn_desk_world.specs.Wanted.{is_wanted, stored_if};
 
 use crate::setting::{Rto, add_user, new_client, new_desk};
 use crate::world::World;
@@ -28,9 +28,13 @@ use turn_desk_trace::line::{Line, read_line};
 use turn_desk_trace::named::Named;
 use turn_desk_trace::setup::{Client, MAX_REALM, MAX_USERNAME, Setup};
 
-/// What a replay keeps from line to line: what the setup lines have made, the world from the first
-/// event on, and for each event line so far the bytes that it was answered, or none where no line can
-/// name them. Contracts see the record `Progress` of `specs/Progress.antt`, by `progress_of`.
+/// The state of a replay between two lines. It holds:
+///
+/// - what the setup lines have created;
+/// - the simulation, from the first event on;
+/// - for each event line so far the bytes of its result, or no bytes if no line can name them.
+///
+/// Contracts see the record `Progress` of `specs/Progress.antt`, by `progress_of`.
 #[derive(Debug, Drop)]
 pub(crate) struct Progress {
     alloc: Global,
@@ -42,8 +46,12 @@ pub(crate) struct Progress {
 }
 
 impl Progress {
-    /// Nothing was said yet. It keeps the allocator, and has room for the answers of so many event
-    /// lines. `NoMemory` where that is refused.
+    /// Returns the state before the first line. It stores the allocator, and has room for the
+    /// results of `lines` event lines.
+    ///
+    /// # Errors
+    ///
+    /// - `NoMemory`: an allocation failed.
     pub(crate) fn new(alloc: Global, lines: usize) -> Result<Self, NoMemory>
         ensures { IfOk result (λ progress. progress_of progress ≡ start) }
     {
@@ -58,16 +66,22 @@ impl Progress {
         })
     }
 
-    /// Does what a line says, where it says something. Answers the line that is printed, where the
-    /// line is an event's. Of its answer the bytes are kept where a later line can name them, as the
-    /// flag in `wanted` says. `Bad` where it spells no line that may stand here; `NoMemory` where
-    /// memory is refused. With either the replay has ended.
+    /// Executes a line; a blank line or a comment does nothing. Returns the line to print if it is
+    /// an event line. The bytes of an event's result are stored if a line can name them, as its
+    /// flag in `wanted` says.
+    ///
+    /// # Errors
+    ///
+    /// After an error the replay has ended.
+    ///
+    /// - `Bad`: the line is not in the language, or is not allowed at this point.
+    /// - `NoMemory`: an allocation failed.
     pub(crate) fn take_line(
         &mut self,
         line: &[u8],
         wanted: &[bool],
     ) -> Result<Option<String>, LineError>
-        ensures done { IfOk result (λ text. IsLineDoneKept wanted.now (progress_of self.old)
+        ensures done { IfOk result (λ text. IsLineDoneStored wanted.now (progress_of self.old)
             line.now (line_text (option_map (λ t. string_bytes t) text)) (progress_of self.new)) }
         ensures bad { result ≡ Err LineError.Bad → IsBadLine (progress_of self.old) line.now }
     {
@@ -79,7 +93,7 @@ impl Progress {
                 Ok(()) => Ok(None),
                 Err(error) => Err(error),
             },
-            Ok(Line::Event(event)) => match self.tell(event, wanted) {
+            Ok(Line::Event(event)) => match self.report(event, wanted) {
                 Ok(text) => Ok(Some(text)),
                 Err(error) => Err(error),
             },
@@ -87,8 +101,14 @@ impl Progress {
         }
     }
 
-    /// Does what a setup line says. `Bad` where it may not stand here: behind an event line; a second
-    /// `desk`, `rto` or `client`; a `user` before the `desk`; an `rto` behind the `client`.
+    /// Executes a setup line.
+    ///
+    /// # Errors
+    ///
+    /// - `Bad`: the line is not allowed at this point. It comes after an event line; it is a second
+    ///   `desk`, `rto` or `client`; it is a `user` before the `desk`; or it is an `rto` after the
+    ///   `client`.
+    /// - `NoMemory`: an allocation failed.
     fn set_up(&mut self, setup: &Setup<'_>) -> Result<(), LineError>
         requires { IsBounded setup.now }
         ensures ok { OnOk result ((can_set_up (progress_of self.old) setup.now ≡ true)
@@ -121,7 +141,7 @@ impl Progress {
         }
     }
 
-    /// Makes the desk. `Bad` where there is one.
+    /// Creates the server core. Fails with `Bad` if there is one, or with `NoMemory`.
     fn add_desk(
         &mut self,
         realm: &str,
@@ -141,7 +161,8 @@ impl Progress {
         Ok(())
     }
 
-    /// Makes a user known to the desk. `Bad` where there is none.
+    /// Adds a user to the server core. Fails with `Bad` if there is no server core, or with
+    /// `NoMemory`.
     fn add_user(&mut self, name: &str, password: &str) -> Result<(), LineError>
         ensures ok { OnOk result (IsUserAdded (progress_of self.old) name.now password.now
             (progress_of self.new)) }
@@ -155,7 +176,8 @@ impl Progress {
         Ok(())
     }
 
-    /// Sets how long each request of the client waits. `Bad` where that was said, or there is a client.
+    /// Sets the retransmission timeouts of the client's requests. Fails with `Bad` if they are set
+    /// already, or there is a client.
     fn set_rto(&mut self, rto: Rto) -> Result<(), LineError>
         ensures ok { OnOk result (IsRtoSet (progress_of self.old) rto (progress_of self.new)) }
         ensures bad { result ≡ Err LineError.Bad
@@ -168,7 +190,7 @@ impl Progress {
         Ok(())
     }
 
-    /// Makes the client. `Bad` where there is one.
+    /// Creates the client. Fails with `Bad` if there is one, or with `NoMemory`.
     fn add_client(
         &mut self,
         by: TransportType,
@@ -191,10 +213,14 @@ impl Progress {
 }
 
 impl Progress {
-    /// Lets an event happen, and answers the line that tells what it was answered. `Bad` where there is
-    /// no desk, or an event of the client comes with no client.
-    fn tell(&mut self, event: Event, wanted: &[bool]) -> Result<String, LineError>
-        ensures ok { IfOk result (λ text. IsToldKept wanted.now (progress_of self.old) event
+    /// Executes an event, and returns the line that prints its result.
+    ///
+    /// # Errors
+    ///
+    /// - `Bad`: there is no server core, or the event is for a client and there is none.
+    /// - `NoMemory`: an allocation failed.
+    fn report(&mut self, event: Event, wanted: &[bool]) -> Result<String, LineError>
+        ensures ok { IfOk result (λ text. IsReportedStored wanted.now (progress_of self.old) event
             (string_bytes text) (progress_of self.new)) }
         ensures bad { result ≡ Err LineError.Bad
             → can_happen (progress_of self.old) event ≡ false }
@@ -204,10 +230,15 @@ impl Progress {
         Ok(text)
     }
 
-    /// Lets an event happen, and answers what it is answered, whose bytes are kept where a later line
-    /// can name them. `Bad` where there is no desk, or an event of the client comes with no client.
+    /// Executes an event, and returns its result. The bytes of the result are stored if a line can
+    /// name them.
+    ///
+    /// # Errors
+    ///
+    /// - `Bad`: there is no server core, or the event is for a client and there is none.
+    /// - `NoMemory`: an allocation failed.
     fn happen(&mut self, event: &Event, wanted: &[bool]) -> Result<Answer, LineError>
-        ensures ok { IfOk result (λ answer. IsHappenedKept wanted.now (progress_of self.old)
+        ensures ok { IfOk result (λ answer. IsHappenedStored wanted.now (progress_of self.old)
             event.now answer (progress_of self.new)) }
         ensures bad { result ≡ Err LineError.Bad
             → can_happen (progress_of self.old) event.now ≡ false }
@@ -224,8 +255,8 @@ impl Progress {
         Ok(answer)
     }
 
-    /// Makes the world of the desk and the client that the setup lines have made, before the first event.
-    /// There is none where there is no desk.
+    /// Before the first event, creates the simulation from the server core and the client that the
+    /// setup lines created. Does nothing if there is no server core.
     fn begin(&mut self)
         ensures world { self.new.world ≡ world_of (progress_of self.old) }
         ensures named { self.new.named.items ≡ self.old.named.items }
@@ -238,7 +269,8 @@ impl Progress {
     }
 }
 
-/// Keeps the bytes of an answer behind those of the answers before: none where no line can name them.
+/// Appends the bytes of a result to those of the results before it, or no bytes if no line can name
+/// them.
 fn keep(
     alloc: Global,
     wanted: &[bool],
@@ -246,26 +278,27 @@ fn keep(
     answer: &Answer,
 ) -> Result<(), NoMemory>
     ensures { OnOk result (named.new.items ≡ named.old.items
-        ++ kept_if (is_wanted wanted.now (length named.old.items)) (named_by answer.now) ∷ []) }
+        ++ stored_if (is_wanted wanted.now (length named.old.items)) (named_by answer.now) ∷ []) }
 {
-    let bytes = kept(alloc, is_wanted(wanted, named.len()), answer)?;
+    let bytes = stored(alloc, is_wanted(wanted, named.len()), answer)?;
     named.push(bytes)?;
     Ok(())
 }
 
-/// Whether a line can name the answer at this place, by its flag.
-fn is_wanted(wanted: &[bool], place: usize) -> bool
-    ensures { result ≡ is_wanted wanted.now place }
+/// Returns the flag at this index: whether a line can name that result. A missing flag counts as
+/// set.
+fn is_wanted(wanted: &[bool], index: usize) -> bool
+    ensures { result ≡ is_wanted wanted.now index }
 {
-    match wanted.get(place) {
+    match wanted.get(index) {
         Some(flag) => *flag,
         None => true,
     }
 }
 
-/// The bytes of an answer where they are wanted, else none.
-fn kept(alloc: Global, wanted: bool, answer: &Answer) -> Result<Named, AllocError>
-    ensures { IfOk result (λ bytes. bytes ≡ kept_if wanted (named_by answer.now)) }
+/// Returns the bytes of a result if they are wanted, and no bytes otherwise.
+fn stored(alloc: Global, wanted: bool, answer: &Answer) -> Result<Named, AllocError>
+    ensures { IfOk result (λ bytes. bytes ≡ stored_if wanted (named_by answer.now)) }
 {
     if wanted {
         Named::of(alloc, answer)
@@ -274,21 +307,21 @@ fn kept(alloc: Global, wanted: bool, answer: &Answer) -> Result<Named, AllocErro
     }
 }
 
-/// Whether an event may happen in a world: where it is the client's, there is a client.
+/// Returns whether an event can happen in a simulation: an event for the client needs a client.
 fn can_happen_in(world: &World, event: &Event) -> bool
     ensures { result ≡ can_happen_in world.now event.now }
 {
     !is_of_client(event) || has_client(world)
 }
 
-/// Whether there is a client in a world.
+/// Returns whether a simulation has a client.
 fn has_client(world: &World) -> bool
     ensures { result ≡ is_some world.now.client }
 {
     world.client().is_some()
 }
 
-/// Whether an event is the client's.
+/// Returns whether an event is for the client.
 fn is_of_client(event: &Event) -> bool
     ensures { result ≡ is_of_client event.now }
 {
@@ -298,7 +331,7 @@ fn is_of_client(event: &Event) -> bool
     }
 }
 
-/// What an event in a world is answered.
+/// Executes one event of a simulation, and returns its result.
 fn run_one(world: &mut World, event: &Event) -> Result<Answer, NoMemory>
     ensures { IfOk result (λ answer. IsRunOfOne world.old event.now answer world.new) }
 {

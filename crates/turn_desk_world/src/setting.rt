@@ -1,9 +1,9 @@
-//! What the setup lines of a trace make: a desk and a client.
+//! What the setup lines of a trace create: a server core and a client.
 
 ghost use Rattle.std.specs.Prelude.{◌≡◌, ◌≢◌, ◌≤◌, [], IfOk, OnErr, OnOk, length};
 ghost use Rattle.std.specs.List.{IsDistinct};
 ghost use Rattle.stun_proto_auth.specs.SupportedAlgorithms.{is_same_algorithm};
-ghost use Rattle.turn_client_proto.specs.Clients.{kept_of};
+ghost use Rattle.turn_client_proto.specs.Clients.{stored_of};
 ghost use Rattle.turn_desk_world.specs.Settings.{config_of, desk_of, IsNewBy, waiting, with_user};
 ghost use Rattle.turn_desk_trace.specs.Setup.{CanAsk, families_in_order};
 
@@ -25,21 +25,21 @@ use turn_desk_core::desk::Desk;
 use turn_desk_trace::setup::{Client, Families, MAX_REALM, MAX_USERNAME};
 use turn_types_attributes::credentials::TurnCredentials;
 
-/// How long each request of a client waits for its response.
+/// The retransmission timeouts of a client's requests.
 #[derive(Clone, Copy, Debug)]
 pub struct Rto {
-    /// The wait behind the first transmission.
+    /// The timeout after the first transmission.
     pub initial: Duration,
-    /// The longest wait but the last.
+    /// The maximum of all timeouts but the last.
     pub max: Duration,
-    /// How often a request is sent in all.
+    /// The number of transmissions of a request.
     pub retransmits: u32,
-    /// The wait behind the last transmission.
+    /// The timeout after the last transmission.
     pub last: Duration,
 }
 
-/// A desk of a realm, which knows no user and has granted nothing. It supports the algorithms that
-/// were named, in their order.
+/// Returns a server core for a realm, without users and grants. It supports these algorithms, in
+/// this order.
 pub(crate) fn new_desk(
     alloc: Global,
     realm: &str,
@@ -56,7 +56,7 @@ pub(crate) fn new_desk(
     Ok(Desk::new(alloc, auth))
 }
 
-/// Has a server support these algorithms in their order, and no other.
+/// Sets the algorithms that a server supports, in this order.
 fn support(auth: &mut LongTermServerAuth, algorithms: &[IntegrityAlgorithm])
     requires never_empty { algorithms.now ≢ [] }
     requires distinct { IsDistinct is_same_algorithm algorithms.now }
@@ -72,7 +72,11 @@ fn support(auth: &mut LongTermServerAuth, algorithms: &[IntegrityAlgorithm])
     }
 }
 
-/// Makes a user known to a desk. Where memory is refused, nothing changes.
+/// Adds a user to a server core.
+///
+/// # Errors
+///
+/// - `NoMemory`: an allocation failed. Nothing changed.
 pub(crate) fn add_user(
     alloc: Global,
     desk: &mut Desk,
@@ -88,8 +92,8 @@ pub(crate) fn add_user(
     desk.auth_mut().add_user(user)
 }
 
-/// A client between these transports, of these settings, whose requests wait so, or as those of a new client
-/// do. Over UDP it asks for an allocation over UDP.
+/// Returns a client with these transports and settings. Its requests have these retransmission
+/// timeouts, or the default ones. A client over UDP requests an allocation over UDP.
 pub(crate) fn new_client(
     alloc: Global,
     by: TransportType,
@@ -100,7 +104,7 @@ pub(crate) fn new_client(
     requires name { length settings.now.name.now ≤ MAX_USERNAME }
     requires over { CanAsk by over }
     ensures { IfOk result (λ client. IsNewBy by settings.now.local settings.now.remote
-        (config_of over settings.now rto) settings.now.seed (kept_of client)) }
+        (config_of over settings.now rto) settings.now.seed (stored_of client)) }
 {
     let config = config_of(alloc, settings, over, rto)?;
     let (local, remote, seed) = (settings.local, settings.remote, settings.seed);
@@ -116,7 +120,7 @@ pub(crate) fn new_client(
     }
 }
 
-/// The settings of a client, whose requests wait so, or as those of a new client do.
+/// Returns the settings of a client, with these retransmission timeouts, or the default ones.
 fn config_of(
     alloc: Global,
     settings: &Client<'_>,
@@ -135,7 +139,7 @@ fn config_of(
     Ok(config)
 }
 
-/// Has the requests of a client wait so, where that was said.
+/// Sets the retransmission timeouts of a client's requests, if there are any to set.
 fn wait(config: &mut TurnConfig, rto: Option<Rto>)
     ensures { config.new ≡ waiting rto config.old }
 {
@@ -144,7 +148,7 @@ fn wait(config: &mut TurnConfig, rto: Option<Rto>)
     }
 }
 
-/// Has a client ask for addresses of these families in their order, and of no other.
+/// Sets the address families that a client requests, in this order.
 fn ask_for(config: &mut TurnConfig, families: Families)
     ensures { config.new ≡ record config.old { families = families_in_order families } }
 {
@@ -162,7 +166,7 @@ fn ask_for(config: &mut TurnConfig, families: Families)
     }
 }
 
-/// Has a client support these algorithms in their order, and no other.
+/// Sets the algorithms that a client supports, in this order.
 fn offer(config: &mut TurnConfig, algorithms: &[IntegrityAlgorithm])
     requires never_empty { algorithms.now ≢ [] }
     requires distinct { IsDistinct is_same_algorithm algorithms.now }

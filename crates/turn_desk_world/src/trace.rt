@@ -6,7 +6,7 @@ ghost use Rattle.line_io.specs.Cut.{lines_of};
 ghost use Rattle.line_io.specs.Input.{TakesAll, TakesAtMost};
 ghost use Rattle.line_io.specs.Stop.{status_of};
 ghost use Rattle.turn_desk_world.specs.Progress.{progress_of};
-ghost use Rattle.turn_desk_world.specs.Keeping.{IsLineDoneKept};
+ghost use Rattle.turn_desk_world.specs.Keeping.{IsLineDoneStored};
 ghost use Rattle.turn_desk_world.specs.Replay.{IsReplayed, IsStopped, Prints, start};
 ghost use Rattle.turn_desk_world.specs.Wanted.{IsCovered};
 
@@ -19,21 +19,27 @@ use line_io::stop::{Stop, flush, print_stop, stop_at};
 use std::alloc::Global;
 use std::io::{Read, Write};
 
-/// Reads a trace whole, does what its lines say, and prints one line for each event line: what the
-/// event was answered. At the first bad line it prints `bad trace: line N`, lines counted from 1; where
-/// memory is refused `no memory`; where the trace can't be read or is too long `read fault`. After a
-/// failed write nothing more is printed.
+/// Reads a whole trace, executes its lines, and prints the result of each event, one line per event
+/// line.
 ///
-/// Beside the trace itself, and the world, it keeps at most 40 bytes for each line of the trace, and
-/// the bytes of those answers that a line of the trace can name.
+/// If the replay stops early, it prints one more line:
+///
+/// - `bad trace: line N` at the first bad line; lines are counted from 1.
+/// - `no memory` if an allocation failed.
+/// - `read fault` if the trace can't be read or is too long.
+///
+/// After a failed write nothing more is printed.
+///
+/// The replay stores the trace, the simulation, at most 40 bytes per line of the trace, and the
+/// bytes of those results that a line of the trace can name.
 pub fn replay<I: Read, O: Write>(alloc: Global, input: &mut I, output: &mut O) -> Status
-    // At most one byte more than the longest trace is taken from the reader.
+    // At most one byte more than the maximum length of a trace is read.
     ensures taken { TakesAtMost (MAX_INPUT + 1) (I.remaining input.old) (I.remaining input.new) }
-    // Where it ended well or at a bad line, the trace is all that the reader had.
+    // If the replay ends well or at a bad line, the trace is everything that the reader had.
     ensures whole { result ≢ Status.Fault → result ≢ Status.NoMemory
         → TakesAll MAX_INPUT (I.remaining input.old) (I.remaining input.new) }
-    // What is printed is the answers to the events of the trace that was taken, one line for each,
-    // and then the line of the status.
+    // The output is the results of the events of the trace that was read, one line each, and then
+    // the line of the status.
     ensures printed { (trace : List ℕ)
         × Consumes (I.remaining input.old) (I.remaining input.new) trace
         × Prints trace result (O.contents output.old) (O.contents output.new) }
@@ -44,7 +50,7 @@ pub fn replay<I: Read, O: Write>(alloc: Global, input: &mut I, output: &mut O) -
     }
 }
 
-/// Reads a trace whole, does what its lines say, and prints what its events are answered.
+/// Reads a whole trace, executes its lines, and prints the results of its events.
 fn replay_input<I: Read, O: Write>(alloc: Global, input: &mut I, output: &mut O) -> Result<(), Stop>
     ensures taken { TakesAtMost (MAX_INPUT + 1) (I.remaining input.old) (I.remaining input.new) }
     ensures whole { result ≢ Err Stop.Unread → result ≢ Err Stop.NoMemory
@@ -60,7 +66,7 @@ fn replay_input<I: Read, O: Write>(alloc: Global, input: &mut I, output: &mut O)
     }
 }
 
-/// Does what the lines of a trace say, and prints what its events are answered.
+/// Executes the lines of a trace, and prints the results of its events.
 fn replay_lines<O: Write>(alloc: Global, trace: &[u8], output: &mut O) -> Result<(), Stop>
     requires { length trace.now ≤ MAX_INPUT }
     ensures { IsReplayed trace.now result (O.contents output.old) (O.contents output.new) }
@@ -71,7 +77,8 @@ fn replay_lines<O: Write>(alloc: Global, trace: &[u8], output: &mut O) -> Result
     }
 }
 
-/// The same, where for each answer a flag tells whether a line can name it.
+/// Executes the lines of a trace, and prints the results of its events. A flag for each result says
+/// whether a line can name it.
 fn replay_wanted<O: Write>(
     alloc: Global,
     trace: &[u8],
@@ -92,7 +99,7 @@ fn replay_wanted<O: Write>(
     }
 }
 
-/// Does what the lines of a trace say from its beginning on, and prints what its events are answered.
+/// Executes the lines of a trace from the first one on, and prints the results of its events.
 fn go_on<O: Write>(
     progress: &mut Progress,
     trace: &[u8],
@@ -101,7 +108,7 @@ fn go_on<O: Write>(
 ) -> Result<(), Stop>
     requires short { length trace.now ≤ MAX_INPUT }
     requires covered { All (IsCovered wanted.now) (lines_of trace.now) }
-    requires begun { progress_of progress.old ≡ start }
+    requires started { progress_of progress.old ≡ start }
     ensures { IsReplayed trace.now result (O.contents output.old) (O.contents output.new) }
 {
     let mut rest = trace;
@@ -119,8 +126,7 @@ fn go_on<O: Write>(
     }
 }
 
-/// Does what one line says, where it says something, and prints what its event is answered, where it
-/// has one.
+/// Executes one line, and prints its result if it is an event line.
 fn replay_line<O: Write>(
     progress: &mut Progress,
     number: usize,
@@ -130,7 +136,7 @@ fn replay_line<O: Write>(
 ) -> Result<(), Stop>
     ensures done { OnOk result ((printed : List ℕ)
         × Appends (O.contents output.old) (O.contents output.new) printed
-        × IsLineDoneKept wanted.now (progress_of progress.old) line.now printed
+        × IsLineDoneStored wanted.now (progress_of progress.old) line.now printed
         (progress_of progress.new)) }
     ensures stopped { IfErr result (λ stop. status_of stop ≢ Status.Fault
         → (O.contents output.new ≡ O.contents output.old)

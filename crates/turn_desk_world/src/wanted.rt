@@ -1,17 +1,21 @@
-//! Which answers the lines of a trace can name: the bytes of the others are not kept.
+//! Which results the lines of a trace can name. The bytes of the others are not stored.
 
 ghost use Rattle.std.specs.Prelude.{◌≡◌, All, IfOk, OnOk, Some, map};
 ghost use Rattle.line_io.specs.Cut.{lines_of};
-ghost use Rattle.turn_desk_world.specs.Wanted.{IsCovered, IsPartCovered, IsWanted, IsWordCovered, StaysWanted, named_place, place_in};
+ghost use Rattle.turn_desk_world.specs.Wanted.{IsCovered, IsPartCovered, IsWanted, IsWordCovered, StaysWanted, named_index, index_in};
 
 use line_io::cut::cut_line;
-use line_io::word::pieces;
+use line_io::word::chunks;
 use std::alloc::{AllocError, Global};
 use turn_desk_trace::number::read_u64;
 
-/// For each event line of a trace, the first of them first, whether a line can name what it is
-/// answered: by `@k`, k the number of the event line. There is a flag for each line of the trace, so
-/// none lacks. Where memory is refused, `AllocError`.
+/// Returns for each event line of a trace, in order, whether a line can name its result by `@k`,
+/// where k is the number of the event line. The list has one flag per line of the trace, so no
+/// event line lacks one.
+///
+/// # Errors
+///
+/// - `AllocError`: an allocation failed.
 pub(crate) fn wanted_answers(alloc: Global, trace: &[u8]) -> Result<Vec<bool>, AllocError>
     ensures { IfOk result (λ flags. All (IsCovered flags.items) (lines_of trace.now)) }
 {
@@ -20,12 +24,12 @@ pub(crate) fn wanted_answers(alloc: Global, trace: &[u8]) -> Result<Vec<bool>, A
     Ok(flags)
 }
 
-/// How many lines a text has.
+/// Returns the number of lines of a text.
 fn count_lines(trace: &[u8]) -> usize {
     1 + trace.iter().filter(|byte| **byte == b'\n').count()
 }
 
-/// Sets the flags of the answers that the lines of a text can name.
+/// Sets the flags of the results that the lines of a text can name.
 fn want_lines(alloc: Global, flags: &mut [bool], text: &[u8]) -> Result<(), AllocError>
     ensures { OnOk result (All (IsCovered flags.new) (lines_of text.now)) }
 {
@@ -40,18 +44,18 @@ fn want_lines(alloc: Global, flags: &mut [bool], text: &[u8]) -> Result<(), Allo
     }
 }
 
-/// Sets the flags of the answers that a line can name. A line that is not UTF-8 names none.
+/// Sets the flags of the results that a line can name. A line that is not UTF-8 names none.
 fn want_line(alloc: Global, flags: &mut [bool], line: &[u8]) -> Result<(), AllocError>
     ensures { OnOk result (StaysWanted flags.old flags.new × IsCovered flags.new line.now) }
 {
     let Ok(text) = std::str::from_utf8(line) else {
         return Ok(());
     };
-    let words = pieces(alloc, text, ' ')?;
+    let words = chunks(alloc, text, ' ')?;
     want_words(alloc, flags, words.as_slice())
 }
 
-/// Sets the flags of the answers that words can name.
+/// Sets the flags of the results that these words can name.
 fn want_words(alloc: Global, flags: &mut [bool], words: &[&str]) -> Result<(), AllocError>
     ensures { OnOk result (StaysWanted flags.old flags.new
         × All (λ word. IsWordCovered flags.new word.now) words.now) }
@@ -62,41 +66,41 @@ fn want_words(alloc: Global, flags: &mut [bool], words: &[&str]) -> Result<(), A
     Ok(())
 }
 
-/// Sets the flags of the answers that a word can name.
+/// Sets the flags of the results that a word can name.
 fn want_word(alloc: Global, flags: &mut [bool], word: &str) -> Result<(), AllocError>
     ensures { OnOk result (StaysWanted flags.old flags.new × IsWordCovered flags.new word.now) }
 {
-    let parts = pieces(alloc, word, '+')?;
+    let parts = chunks(alloc, word, '+')?;
     want_parts(alloc, flags, parts.as_slice())
 }
 
-/// Sets the flags of the answers that the parts of a word name.
+/// Sets the flags of the results that the parts of a word name.
 fn want_parts(alloc: Global, flags: &mut [bool], parts: &[&str]) -> Result<(), AllocError>
     ensures { OnOk result (StaysWanted flags.old flags.new
         × All (λ part. IsPartCovered flags.new part.now) parts.now) }
 {
     for part in parts {
-        if let Some(place) = place_named(alloc, part)? {
-            want(flags, place);
+        if let Some(index) = index_named(alloc, part)? {
+            want(flags, index);
         }
     }
     Ok(())
 }
 
-/// The place of the answer that a part of a word names, where it begins with `@`.
-fn place_named(alloc: Global, part: &str) -> Result<Option<u64>, AllocError>
-    ensures { IfOk result (λ place. place ≡ named_place part.now) }
+/// Returns the index of the result that a part of a word names, if it begins with `@`.
+fn index_named(alloc: Global, part: &str) -> Result<Option<u64>, AllocError>
+    ensures { IfOk result (λ index. index ≡ named_index part.now) }
 {
     let Some(reference) = part.strip_prefix('@') else {
         return Ok(None);
     };
-    let words = pieces(alloc, reference, ':')?;
-    Ok(place_in(words.as_slice()))
+    let words = chunks(alloc, reference, ':')?;
+    Ok(index_in(words.as_slice()))
 }
 
-/// The place that `k` or `k:a:b` names, from the words between the colons.
-fn place_in(words: &[&str]) -> Option<u64>
-    ensures { result ≡ place_in (map (λ x. x.now) words.now) }
+/// Returns the index that `k` or `k:a:b` names, from the words between the colons.
+fn index_in(words: &[&str]) -> Option<u64>
+    ensures { result ≡ index_in (map (λ x. x.now) words.now) }
 {
     match words {
         [event, ..] => read_u64(event)?.checked_sub(1),
@@ -104,14 +108,14 @@ fn place_in(words: &[&str]) -> Option<u64>
     }
 }
 
-/// Sets the flag of a place, where it has one.
+/// Sets the flag at an index, if there is one.
 #[tactic(auto, using(crate::proofs::WantedLemmas::flags))]
-fn want(flags: &mut [bool], place: u64)
+fn want(flags: &mut [bool], index: u64)
     ensures stays { StaysWanted flags.old flags.new }
-    ensures set { IsWanted flags.new (Some place) }
+    ensures set { IsWanted flags.new (Some index) }
 {
-    let place = place as usize;
-    if place < flags.len() {
-        flags[place] = true;
+    let index = index as usize;
+    if index < flags.len() {
+        flags[index] = true;
     }
 }

@@ -1,8 +1,8 @@
-//! A world, and what becomes of it with each event.
+//! A simulation, and the effect of one event on it.
 
 ghost use Rattle.std.specs.Prelude.{◌≡◌, IfOk, OnErr, OnOk, false, true};
 ghost use Rattle.std.specs.Option.{option_map};
-ghost use Rattle.turn_client_proto.specs.Clients.{kept_of};
+ghost use Rattle.turn_client_proto.specs.Clients.{stored_of};
 ghost use Rattle.turn_desk_world.specs.Runs.{IsStep};
 
 use crate::desk::ask;
@@ -15,7 +15,8 @@ use turn_desk_core::desk::Desk;
 use turn_desk_event::answer::Answer;
 use turn_desk_event::event::Event;
 
-/// A desk, and a client where there is one. Contracts see the record `World` of `specs/Model.antt`.
+/// A simulation: a server core, and a client if there is one. Contracts see the record `World` of
+/// `specs/Model.antt`.
 #[derive(Debug, Drop)]
 pub struct World {
     alloc: Global,
@@ -39,11 +40,12 @@ impl Model for World {
 }
 
 impl World {
-    /// A world of this desk and this client. It keeps the allocator, and holds no memory of its own.
+    /// Returns a simulation of this server core and this client. It stores the allocator, and
+    /// allocates nothing.
     pub fn new(alloc: Global, desk: Desk, client: Option<TurnClient>) -> World
         ensures { result ≡ record {
           desk = desk;
-          client = option_map kept_of client;
+          client = option_map stored_of client;
           is_failed = false;
         } }
     {
@@ -55,42 +57,47 @@ impl World {
         }
     }
 
-    /// The desk.
+    /// Returns the server core.
     pub fn desk(&self) -> &Desk
         ensures { result.now ≡ self.now.desk }
     {
         &self.desk
     }
 
-    /// The client, where there is one.
+    /// Returns the client, if there is one.
     pub fn client(&self) -> Option<&TurnClient>
-        ensures { option_map (λ c. kept_of c.now) result ≡ self.now.client }
+        ensures { option_map (λ c. stored_of c.now) result ≡ self.now.client }
     {
         self.driven.client.as_ref()
     }
 
-    /// The allocator of what it answers.
+    /// Returns the allocator of the results.
     pub fn alloc(&self) -> Global {
         self.alloc
     }
 
-    /// Whether a call of the client or of the desk was refused memory. Then each event is answered `NoMemory`.
+    /// Returns whether the simulation has failed: a call of the client or of the server core ran
+    /// out of memory, or `fail` was called. Every event then returns `NoMemory`.
     pub fn is_failed(&self) -> bool
         ensures { result ≡ self.now.is_failed }
     {
         self.is_failed
     }
 
-    /// Makes each later event be answered `NoMemory`: memory was refused to the caller.
+    /// Makes every later event return `NoMemory`. For a caller that ran out of memory itself.
     pub fn fail(&mut self)
         ensures { self.new ≡ record self.old { is_failed = true } }
     {
         self.is_failed = true;
     }
 
-    /// Lets one event happen, and answers it. Where a call of the client or of the desk is refused memory,
-    /// `NoMemory`; so is every later event. A client event with no client, or at a moment past `CLIENT_END`,
-    /// is answered `OutOfRange`.
+    /// Executes one event, and returns its result. The result is `OutOfRange` if the event is for
+    /// the client and there is none, or its time is after `CLIENT_END`.
+    ///
+    /// # Errors
+    ///
+    /// - `NoMemory`: a call of the client or of the server core ran out of memory, now or in an
+    ///   earlier event. Every later event fails in this way too.
     pub fn step(&mut self, event: &Event) -> Result<Answer, NoMemory>
         ensures step { IfOk result (λ answer. IsStep event.now self.old answer self.new) }
         ensures err { OnErr result (self.new.is_failed ≡ true) }
@@ -108,7 +115,7 @@ impl World {
         }
     }
 
-    /// The same, where no event was refused memory.
+    /// Executes one event of a simulation that has not failed.
     fn happen(&mut self, event: &Event) -> Result<Answer, NoMemory>
         ensures { IfOk result (λ answer. IsStep event.now self.old answer self.new) }
     {

@@ -1,4 +1,4 @@
--- Addresses are apart over whole runs of a world, by the law on a desk's runs.
+-- Non-interference over whole runs of a simulation, by the theorem on a server core's runs.
 use Rattle.std.proofs.Common.{◌≡◌, ℕ, Bool, true, false, if◌then◌else◌, List, [], ◌∷◌, filter, refl, sym, ap, ◌∙◌, subst, ◌⊎◌, inl, inr}
 use Rattle.std.specs.List.{AllByRecursion}
 use Rattle.std.specs.declared.net.socket_addr.SocketAddr.{SocketAddr}
@@ -13,7 +13,7 @@ use Rattle.turn_desk_event.specs.declared.answer.Answer.TheVariants as answer
 use Rattle.turn_desk_core.specs.declared.decision.Decision.{Decision}
 use Rattle.turn_desk_event.specs.declared.event.Event.{Event}
 use Rattle.turn_desk_event.specs.declared.event.Event.TheVariants.{Call, Draw, ToClient, ToDesk}
-use Rattle.turn_desk_world_laws.specs.AddressRuns.{AreAnsweredAlike, StandsAlone, come_from, is_from}
+use Rattle.turn_desk_world_laws.specs.AddressRuns.{AreAnsweredAlike, IsIsolated, come_from, is_from}
 use Rattle.turn_desk_world.specs.Desks.{HasFourBytes, IsReply, words_of}
 use Rattle.turn_desk_world.specs.Determined.{HaveSameEvents}
 use Rattle.turn_desk_world.specs.Model.{World}
@@ -22,27 +22,27 @@ use Rattle.turn_desk_world_laws.proofs.Once.{run_once}
 
 -- ---- the desk's calls of a run
 
--- what the desk answered
-abbrev told : Answer → ServerAnswer
-told (answer.Reply reply) = core.Reply reply.items
-told _ = core.NoReply
+-- The server core's result.
+abbrev reported : Answer → ServerAnswer
+reported (answer.Reply reply) = core.Reply reply.items
+reported _ = core.NoReply
 
--- the calls of the desk, each with its answer
+-- The calls of the server core, each with its result.
 abbrev calls : List (Event × Answer) → List (ServerCall × ServerAnswer)
 calls [] = []
 calls ((Call call now, ret) ∷ pairs) = calls pairs
 calls ((Draw now, ret) ∷ pairs) = calls pairs
 calls ((ToClient bytes from to now, ret) ∷ pairs) = calls pairs
 calls ((ToDesk bytes from now decision seed, ret) ∷ pairs) =
-    (core.Handle bytes.items from now decision (words_of seed), told ret) ∷ calls pairs
+    (core.Handle bytes.items from now decision (words_of seed), reported ret) ∷ calls pairs
 
 handled : (ret : Answer) (old new : State) (bytes : List ℕ) (from : SocketAddr) (now : ℕ) (decision : Decision) (seed : List ℕ) → IsReply ret old bytes from now decision seed new
-    → core.IsHandledBy (told ret) old bytes from now decision (words_of seed) new
+    → core.IsHandledBy (reported ret) old bytes from now decision (words_of seed) new
 handled (answer.Reply reply) old new bytes from now decision seed is = record { served = is.served; answer = is.answer; grants = is.grants; others = is.others }
 handled answer.Nothing old new bytes from now decision seed is = is
 handled _ old new bytes from now decision seed is = absurd is
 
--- a run of a world is a run of its desk
+-- A run of a simulation is a run of its server core.
 desk_called : (pairs : List (Event × Answer)) (old new : World) → IsRun old pairs new → IsServerRun old.desk (calls pairs) new.desk
 unfolding IsRun IsServerRun
 desk_called [] old new run = ap (λ (w : World). w.desk) run
@@ -57,38 +57,38 @@ desk_called ((ToDesk bytes from now decision seed, ret) ∷ pairs) old new run =
 
 -- ---- and back
 
--- an answer is one of a desk's
+-- The result is one of a server core's.
 abbrev IsOfDesk : Answer → Type 0
 IsOfDesk (answer.Reply reply) = AreBytes reply.items
 IsOfDesk answer.Nothing = Unit {0}
 IsOfDesk _ = ⊥
 
--- what a run says of its events and answers, whatever the desk is; they all reach the desk
+-- What a run says of its events and results, whatever the server core is. They all reach the server core.
 abbrev FitsDesk : Event × Answer → Type 0
 FitsDesk (ToDesk bytes from now decision seed, ret) = AreBytes bytes.items × HasFourBytes decision × IsOfDesk ret
 FitsDesk _ = ⊥
 
 replied : (ret : Answer) (old new : State) (bytes : List ℕ) (from : SocketAddr) (now : ℕ) (decision : Decision) (seed : List ℕ) → IsOfDesk ret
-    → core.IsHandledBy (told ret) old bytes from now decision (words_of seed) new → IsReply ret old bytes from now decision seed new
+    → core.IsHandledBy (reported ret) old bytes from now decision (words_of seed) new → IsReply ret old bytes from now decision seed new
 replied (answer.Reply reply) old new bytes from now decision seed are_bytes is =
     record { served = is.served; answer = is.answer; grants = is.grants; others = is.others; are_bytes = are_bytes }
 replied answer.Nothing old new bytes from now decision seed own is = is
 replied _ old new bytes from now decision seed own is = absurd own
 
--- a run of a desk is one of a world whose client doesn't change
-world_asked : (pairs : List (Event × Answer)) (old : World) (d left : State) → AllByRecursion FitsDesk pairs → IsServerRun d (calls pairs) left
+-- A run of a server core is one of a simulation whose client doesn't change.
+world_requested : (pairs : List (Event × Answer)) (old : World) (d left : State) → AllByRecursion FitsDesk pairs → IsServerRun d (calls pairs) left
     → IsRun (record old { desk = d }) pairs (record old { desk = left })
 unfolding IsRun IsServerRun
-world_asked [] old d left fits run = ap (λ (x : State). record old { desk = x }) run
-world_asked ((ToDesk bytes from now decision seed, ret) ∷ pairs) old d left fits run = (
+world_requested [] old d left fits run = ap (λ (x : State). record old { desk = x }) run
+world_requested ((ToDesk bytes from now decision seed, ret) ∷ pairs) old d left fits run = (
   record old { desk = run.0 },
   (
     record { are_bytes = fits.0.0; four_bytes = fits.0.1; reply = replied ret d run.0 bytes.items from now decision seed fits.0.2 run.1 },
     refl,
   ),
-  world_asked pairs old run.0 left fits.1 run.2,
+  world_requested pairs old run.0 left fits.1 run.2,
 )
-world_asked (_ ∷ pairs) old d left fits run = absurd fits.0
+world_requested (_ ∷ pairs) old d left fits run = absurd fits.0
 
 of_desk : (ret : Answer) (old new : State) (bytes : List ℕ) (from : SocketAddr) (now : ℕ) (decision : Decision) (seed : List ℕ) → IsReply ret old bytes from now decision seed new → IsOfDesk ret
 of_desk (answer.Reply reply) old new bytes from now decision seed is = is.are_bytes
@@ -107,7 +107,7 @@ filter_yes test x xs e = ap (λ (b : Bool). if b then x ∷ filter test xs else 
 filter_no : {X : Type 0} (test : X → Bool) (x : X) (xs : List X) → test x ≡ false → filter test (x ∷ xs) ≡ filter test xs
 filter_no test x xs e = ap (λ (b : Bool). if b then x ∷ filter test xs else filter test xs) e
 
--- what reached the desk from an address is all the desk's
+-- What came from an address all reached the server core.
 fits_from : (address : SocketAddr) (pairs : List (Event × Answer)) (old new : World) → IsRun old pairs new → AllByRecursion FitsDesk (come_from address pairs)
 unfolding IsRun
 fits_from address [] old new run = tt
@@ -117,17 +117,17 @@ fits_from address ((ToClient bytes from to now, ret) ∷ pairs) old new run = fi
 fits_from address ((ToDesk bytes from now decision seed, ret) ∷ pairs) old new run =
     let pair : Event × Answer = (ToDesk bytes from now decision seed, ret) in
     let rest = fits_from address pairs run.0 new run.2 in
-    let asked = run.1.0 in
-    let own = of_desk ret old.desk run.0.desk bytes.items from now decision seed asked.reply in
+    let requested = run.1.0 in
+    let own = of_desk ret old.desk run.0.desk bytes.items from now decision seed requested.reply in
     elim (bool_is (is_same_address address from)) [
-      | inl is ↦ subst (λ (list : List (Event × Answer)). AllByRecursion FitsDesk list) (sym (filter_yes (is_from address) pair pairs is)) ((asked.are_bytes, asked.four_bytes, own), rest)
+      | inl is ↦ subst (λ (list : List (Event × Answer)). AllByRecursion FitsDesk list) (sym (filter_yes (is_from address) pair pairs is)) ((requested.are_bytes, requested.four_bytes, own), rest)
       | inr isnt ↦ subst (λ (list : List (Event × Answer)). AllByRecursion FitsDesk list) (sym (filter_no (is_from address) pair pairs isnt)) rest
     ]
 
 abbrev concerned : SocketAddr → ServerCall × ServerAnswer → Bool
 concerned address = λ pair. concerns address pair.0
 
--- the calls that concern an address are those of what came from it
+-- The calls that concern an address are those for what came from it.
 calls_from : (address : SocketAddr) (pairs : List (Event × Answer)) → concerning address (calls pairs) ≡ calls (come_from address pairs)
 calls_from address [] = refl
 calls_from address ((Call call now, ret) ∷ pairs) = calls_from address pairs
@@ -135,18 +135,18 @@ calls_from address ((Draw now, ret) ∷ pairs) = calls_from address pairs
 calls_from address ((ToClient bytes from to now, ret) ∷ pairs) = calls_from address pairs
 calls_from address ((ToDesk bytes from now decision seed, ret) ∷ pairs) =
     let pair : Event × Answer = (ToDesk bytes from now decision seed, ret) in
-    let one : ServerCall × ServerAnswer = (core.Handle bytes.items from now decision (words_of seed), told ret) in
+    let one : ServerCall × ServerAnswer = (core.Handle bytes.items from now decision (words_of seed), reported ret) in
     elim (bool_is (is_same_address address from)) [
       | inl is ↦ filter_yes (concerned address) one (calls pairs) is ∙ (ap (λ (list : List (ServerCall × ServerAnswer)). one ∷ list) (calls_from address pairs)
           ∙ sym (ap calls (filter_yes (is_from address) pair pairs is)))
       | inr isnt ↦ filter_no (concerned address) one (calls pairs) isnt ∙ (calls_from address pairs ∙ sym (ap calls (filter_no (is_from address) pair pairs isnt)))
     ]
 
--- ---- desks that an address can't tell apart
+-- ---- desks that an address can't say apart
 
 same-refl : (address : SocketAddr) (d : State) → AreAlike address d d
 same-refl address d = record {
-  auth = record { realm = refl; users = refl; nonce_expiry = refl; algorithms = refl; anonymous_username = refl; kept = refl };
+  auth = record { realm = refl; users = refl; nonce_expiry = refl; algorithms = refl; anonymous_username = refl; stored = refl };
   grants = refl;
 }
 
@@ -158,7 +158,7 @@ turned address a b same = record {
     nonce_expiry = sym same.auth.nonce_expiry;
     algorithms = sym same.auth.algorithms;
     anonymous_username = sym same.auth.anonymous_username;
-    kept = sym same.auth.kept;
+    stored = sym same.auth.stored;
   };
   grants = sym same.grants;
 }
@@ -171,35 +171,35 @@ then_same address a b c first second = record {
     nonce_expiry = second.auth.nonce_expiry ∙ first.auth.nonce_expiry;
     algorithms = second.auth.algorithms ∙ first.auth.algorithms;
     anonymous_username = second.auth.anonymous_username ∙ first.auth.anonymous_username;
-    kept = second.auth.kept ∙ first.auth.kept;
+    stored = second.auth.stored ∙ first.auth.stored;
   };
   grants = second.grants ∙ first.grants;
 }
 
--- ---- the law
+-- ---- the theorem
 
--- what the law on a desk's runs says
+-- What the theorem on a server core's runs says.
 abbrev pub DeskLaw : Type 0
-DeskLaw = (address : SocketAddr) (old other new : State) (pairs : List (ServerCall × ServerAnswer)) → AreAlike address old other → IsServerRun old pairs new → core.StandsAlone address other pairs new
+DeskLaw = (address : SocketAddr) (old other new : State) (pairs : List (ServerCall × ServerAnswer)) → AreAlike address old other → IsServerRun old pairs new → core.IsIsolated address other pairs new
 
 module _ (law : DeskLaw) where
-  -- what comes from an address alone is answered so, too
-  pub stands_alone : (address : SocketAddr) (old other new : World) (pairs : List (Event × Answer)) → AreAlike address old.desk other.desk → IsRun old pairs new → StandsAlone address other pairs new
-  stands_alone address old other new pairs same run =
+  -- What comes from an address has the same results alone.
+  pub is_isolated : (address : SocketAddr) (old other new : World) (pairs : List (Event × Answer)) → AreAlike address old.desk other.desk → IsRun old pairs new → IsIsolated address other pairs new
+  is_isolated address old other new pairs same run =
       let alone = law address old.desk other.desk new.desk (calls pairs) same (desk_called pairs old new run) in
       let own = subst (λ (list : List (ServerCall × ServerAnswer)). IsServerRun other.desk list alone.left) (calls_from address pairs) alone.run in
       record {
         left = alone.left;
-        run = world_asked (come_from address pairs) other other.desk alone.left (fits_from address pairs old new run) own;
+        run = world_requested (come_from address pairs) other other.desk alone.left (fits_from address pairs old new run) own;
         alike = alone.alike;
       }
 
-  -- and the same events from an address are answered the same, from desks that it can't tell apart
+  -- The same events from an address have the same results, if it can't distinguish the server cores.
   pub answers_are_fixed : (address : SocketAddr) (old other new left : World) (pairs others : List (Event × Answer)) → AreAlike address old.desk other.desk → HashesDiffer old.desk.auth
       → HaveSameEvents (come_from address pairs) (come_from address others) → IsRun old pairs new → IsRun other others left → AreAnsweredAlike address pairs others new left
   answers_are_fixed address old other new left pairs others same differ events run again =
-      let one = stands_alone address old old new pairs (same-refl address old.desk) run in
-      let two = stands_alone address other old left others (turned address old.desk other.desk same) again in
+      let one = is_isolated address old old new pairs (same-refl address old.desk) run in
+      let two = is_isolated address other old left others (turned address old.desk other.desk same) again in
       let both = run_once (come_from address pairs) (come_from address others) old (record old { desk = one.left }) (record old { desk = two.left }) (inr differ) events one.run two.run in
       let desks : one.left ≡ two.left = ap (λ (w : World). w.desk) both.1 in
       record {

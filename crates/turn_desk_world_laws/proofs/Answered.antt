@@ -1,4 +1,4 @@
--- What the last answer of a run shows or gives was granted in the run, and what it gives is what came.
+-- What the last result of a run lists or gives was granted in the run, and what it gives is what came.
 use Rattle.std.proofs.Common.{Vec, Global, ◌≡◌, ℕ, Bool, true, false, List, [], ◌∷◌, ◌++◌, filter, map, Option, Some, None, is_none, refl, sym, ap, ◌∙◌, subst, inl, inr}
 use Rattle.std.proofs.lemmas.Bool.{cases_Bool}
 use Rattle.std.proofs.lemmas.List.{append_assoc}
@@ -17,16 +17,16 @@ use Rattle.turn_desk_world.specs.TurnClientProtoConnection.Streams.{emptied}
 use Rattle.turn_client_proto_step_laws.specs.Recv.Control.{Control, Datagrams, Open, Closed}
 use Rattle.turn_desk_step_laws.specs.TurnRuns.Headline.{IsSafe, ShowsTraced, Traced}
 use Rattle.turn_desk_step_laws.specs.TurnRuns.Indications.{Carries}
-use Rattle.turn_client_proto_step_laws.specs.Recv.Kept.{Kept, Protocol}
+use Rattle.turn_client_proto_step_laws.specs.Recv.ClientState.{ClientState, Protocol}
 use Rattle.turn_desk_step_laws.specs.TurnRuns.Members.{IsIn}
 use Rattle.turn_desk_step_laws.specs.TurnRuns.Messages.{Connection, FromConnection, Held, NamesHeld, Payload, Permission, Reported}
-use Rattle.turn_client_proto_step_laws.specs.Recv.Receipts.{End, IsReceivedBy, IsStreamed, Piece, Strange}
+use Rattle.turn_client_proto_step_laws.specs.Recv.Receipts.{End, IsReceivedBy, IsStreamed, Chunk, Strange}
 use Rattle.turn_desk_step_laws.specs.TurnRuns.Runs.{Step, AtClient, AtEach, IsLawful}
-use Rattle.turn_client_proto_step_laws.specs.Recv.SocketPieces.{after_raw, raw_given, raw_kept}
+use Rattle.turn_client_proto_step_laws.specs.Recv.SocketChunks.{after_raw, raw_given, raw_stored}
 use Rattle.turn_desk_step_laws.specs.TurnRuns.Steps.{Call as StepCall, IsDelivered}
 use Rattle.turn_client_proto_step_laws.specs.ClientWords.{client_words}
 use Rattle.turn_client_proto_step_laws.specs.RunClient.{Client}
-use Rattle.turn_client_proto_step_laws.proofs.Lists.{inside, nothing_behind}
+use Rattle.turn_client_proto_step_laws.proofs.Lists.{inside, nothing_after}
 use Rattle.turn_client_proto_step_laws.proofs.Polling.{by_test}
 use Rattle.turn_client_proto_step_laws.proofs.Streaming.{from_here}
 use Rattle.turn_desk_event.specs.declared.answer.Answer.{Answer}
@@ -39,29 +39,29 @@ use Rattle.turn_desk_step_laws.specs.DeskRun.{DeskCall}
 use Rattle.turn_desk_world.specs.Calls.{IsFed}
 use Rattle.turn_desk_world.specs.Model.{World}
 use Rattle.turn_desk_world.specs.Runs.{IsAtClient, IsInRange, IsStep, is_in_range}
-use Rattle.turn_desk_world_laws.specs.Safety.{IsCarried, IsDataBrought, IsDataCarried, IsDataKept, IsLastAnswered, IsPassedRaw, WasGranted, held_by, last_taken, words}
+use Rattle.turn_desk_world_laws.specs.Safety.{IsCarried, IsDataBrought, IsDataCarried, IsDataStored, IsLastAnswered, IsPassedRaw, WasGranted, held_by, last_taken, words}
 use Rattle.turn_desk_world_laws.specs.SocketCalls.{AreCallsBound, AreCallsOver, GivesNothing, IsOne, IsPassedOn}
 use Rattle.turn_desk_world_laws.proofs.AtSocket.{socket_there}
-use Rattle.turn_desk_world_laws.specs.Told.{AreCallsBy, AreCallsOfAsking, AreCallsOfBytes, AreCallsOfPiece, AreCallsOverTcp, AreStepsBy, AreStepsOfClient, AreTakenUp, HandsNothing, IsCallOf, IsOneCall, IsToldBy, OfStream, OverNone, OverSocket, arriving, connections_bound, data_of, given_of, raw_asked, shown_in}
+use Rattle.turn_desk_world_laws.specs.Reported.{AreCallsBy, AreCallsOfAsking, AreCallsOfBytes, AreCallsOfChunk, AreCallsOverTcp, AreStepsBy, AreStepsOfClient, AreTakenUp, HandsNothing, IsCallOf, IsOneCall, IsReportedBy, OfStream, OverNone, OverSocket, arriving, connections_bound, data_of, given_of, raw_requested, listed_in}
 
--- the newest steps of a run are its last event's
+-- The newest steps of a run are its last event's.
 pub record IsNewest (pair : Event × Answer) (run : List (Step Client DeskCall)) (new : World) : Type 0 where
   pub before : World
   pub steps : List (Step Client DeskCall)
   pub earlier : List (Step Client DeskCall)
   pub run_is : run ≡ steps ++ earlier
   pub step : IsStep pair.0 before pair.1 new
-  pub told : AreStepsBy pair.0 pair.1 before steps new
+  pub reported : AreStepsBy pair.0 pair.1 before steps new
 
-pub newest : (pairs : List (Event × Answer)) (pair : Event × Answer) (old new : World) (run : List (Step Client DeskCall)) → IsToldBy old (pairs ++ pair ∷ []) run new → IsNewest pair run new
-unfolding IsToldBy
+pub newest : (pairs : List (Event × Answer)) (pair : Event × Answer) (old new : World) (run : List (Step Client DeskCall)) → IsReportedBy old (pairs ++ pair ∷ []) run new → IsNewest pair run new
+unfolding IsReportedBy
 newest [] pair old new run is = record {
   before = old;
   steps = is.1;
   earlier = [];
-  run_is = is.3 ∙ ap (λ (l : List (Step Client DeskCall)). l ++ is.1) is.6.0 ∙ nothing_behind is.1;
+  run_is = is.3 ∙ ap (λ (l : List (Step Client DeskCall)). l ++ is.1) is.6.0 ∙ nothing_after is.1;
   step = subst (λ (w : World). IsStep pair.0 old pair.1 w) (sym is.6.1) is.4;
-  told = subst (λ (w : World). AreStepsBy pair.0 pair.1 old is.1 w) (sym is.6.1) is.5;
+  reported = subst (λ (w : World). AreStepsBy pair.0 pair.1 old is.1 w) (sym is.6.1) is.5;
 }
 newest (first ∷ pairs) pair old new run is =
     let rest = newest pairs pair is.0 new is.2 is.6 in
@@ -71,44 +71,44 @@ newest (first ∷ pairs) pair old new run is =
       earlier = rest.earlier ++ is.1;
       run_is = is.3 ∙ ap (λ (l : List (Step Client DeskCall)). l ++ is.1) rest.run_is ∙ append_assoc rest.steps rest.earlier is.1;
       step = rest.step;
-      told = rest.told;
+      reported = rest.reported;
     }
 
 -- ---- what it shows
 
--- the newest step is a call of the client by that event
+-- The newest step is a call of the client by that event.
 record IsNewestCall (happening : Event) (ret : Answer) (run : List (Step Client DeskCall)) : Type 0 where
   call : StepCall Client
   earlier : List (Step Client DeskCall)
   run_is : run ≡ AtClient call ∷ earlier
-  told : IsCallOf happening ret call
+  reported : IsCallOf happening ret call
 
 newest_call : (happening : Event) (ret : Answer) (first last : Client) (calls : List (StepCall Client)) (run earlier : List (Step Client DeskCall)) → run ≡ steps_of calls ++ earlier → IsOneCall happening ret first calls last → IsNewestCall happening ret run
 newest_call happening ret first last calls run earlier run_is (call, calls_are, begins, ends, is) = record {
   call = call;
   earlier = earlier;
   run_is = run_is ∙ ap (λ (l : List (StepCall Client)). steps_of l ++ earlier) calls_are;
-  told = is;
+  reported = is;
 }
 
--- what that step shows is traced
-shows : (happening : Event) (ret : Answer) (run : List (Step Client DeskCall)) → IsNewestCall happening ret run → AtEach (ShowsTraced words) run → (h : Held) → IsIn h (shown_in happening ret) → Traced words run h
+-- What that step lists is traced.
+shows : (happening : Event) (ret : Answer) (run : List (Step Client DeskCall)) → IsNewestCall happening ret run → AtEach (ShowsTraced words) run → (h : Held) → IsIn h (listed_in happening ret) → Traced words run h
 shows happening ret run n each h listed =
     let here : AtEach (ShowsTraced words) (AtClient n.call ∷ n.earlier) = subst (λ (l : List (Step Client DeskCall)). AtEach (ShowsTraced words) l) n.run_is each in
-    subst (λ (l : List (Step Client DeskCall)). Traced words l h) (sym n.run_is) (here.0 h (subst (λ (l : List Held). IsIn h l) (sym n.told.shown_is) listed))
+    subst (λ (l : List (Step Client DeskCall)). Traced words l h) (sym n.run_is) (here.0 h (subst (λ (l : List Held). IsIn h l) (sym n.reported.visible_is) listed))
 
-pub shown_granted : (what : ClientCall) (now : ℕ) (ret : Answer) (first last : Client) (run : List (Step Client DeskCall))
-    → ((kept : Kept) (one other : Client) (calls : List (StepCall Client)) → AreCallsBy (Call what now) kept ret one calls other → IsOneCall (Call what now) ret one calls other)
-    → IsLastAnswered (Call what now) ret first run last → (h : Held) → IsIn h (shown_in (Call what now) ret) → WasGranted first run last h
-shown_granted what now ret first last run one is h listed forged distinct =
-    let n = newest is.before (Call what now, ret) is.old is.new run is.account.told in
-    let by : AreStepsOfClient (Call what now) ret n.before.client is.new.client n.steps = n.told in
+pub listed_granted : (what : ClientCall) (now : ℕ) (ret : Answer) (first last : Client) (run : List (Step Client DeskCall))
+    → ((stored : ClientState) (one other : Client) (calls : List (StepCall Client)) → AreCallsBy (Call what now) stored ret one calls other → IsOneCall (Call what now) ret one calls other)
+    → IsLastAnswered (Call what now) ret first run last → (h : Held) → IsIn h (listed_in (Call what now) ret) → WasGranted first run last h
+listed_granted what now ret first last run one is h listed forged distinct =
+    let n = newest is.before (Call what now, ret) is.old is.new run is.account.reported in
+    let by : AreStepsOfClient (Call what now) ret n.before.client is.new.client n.steps = n.reported in
     let run_is = n.run_is ∙ ap (λ (l : List (Step Client DeskCall)). l ++ n.earlier) by.steps_are in
-    shows (Call what now) ret run (newest_call (Call what now) ret by.first by.last by.calls run n.earlier run_is (one by.kept by.first by.last by.calls by.are)) (is.promised.shown forged distinct) h listed
+    shows (Call what now) ret run (newest_call (Call what now) ret by.first by.last by.calls run n.earlier run_is (one by.stored by.first by.last by.calls by.are)) (is.promised.visible forged distinct) h listed
 
 -- ---- what it gives
 
--- the newest step is one in which a frame was taken up, and handed over what is answered
+-- The newest step is one in which a frame was handled, and delivered what is in the result.
 pub record IsLastFrame (ret : Answer) (run : List (Step Client DeskCall)) : Type 0 where
   call : StepCall Client
   earlier : List (Step Client DeskCall)
@@ -117,7 +117,8 @@ pub record IsLastFrame (ret : Answer) (run : List (Step Client DeskCall)) : Type
   handled_is : call.handled ≡ frame ∷ []
   payloads_are : call.payloads ≡ given_of frame ret
 
--- or one in which bytes of such a connection's peer were handed over, which are what is answered
+-- Or the newest step is one in which bytes of such a connection's peer were delivered, which are in the
+-- result.
 pub record IsLastRaw (Of : Joined → PeerPayload → Type 0) (ret : Answer) (run : List (Step Client DeskCall)) : Type 0 where
   call : StepCall Client
   earlier : List (Step Client DeskCall)
@@ -134,17 +135,17 @@ pub data IsLastGiven (Of : Joined → PeerPayload → Type 0) (ret : Answer) (ru
   ByFrame : IsLastFrame ret run → IsLastGiven Of ret run
   ByPeer : IsLastRaw Of ret run → IsLastGiven Of ret run
 
--- these came to the connection's own address, and are given behind those that waited
+-- These bytes came to the connection's local address, and are given after those that were buffered.
 pub record IsBroughtTo (to : SocketAddr) (bytes : List ℕ) (k : Joined) (given : PeerPayload) : Type 0 where
   at : k.here ≡ to
   waited : List ℕ
   payload_is : given.payload ≡ waited ++ bytes
 
--- they waited
+-- They were buffered.
 abbrev pub HasWaited : Joined → PeerPayload → Type 0
 HasWaited k given = Unit {0}
 
--- what gives nothing hands nothing over
+-- What gives nothing delivers nothing.
 gives_nothing : (ret : Answer) → GivesNothing ret → HandsNothing ret
 gives_nothing (answer.Peer given) is = absurd is
 gives_nothing (answer.Icmp transport peer kind code details) is = absurd is
@@ -162,7 +163,7 @@ module _ (ret : Answer) (gives : ¬ HandsNothing ret) (run : List (Step Client D
     payloads_are = up.payloads_are;
   }
 
-  -- behind the call by which they came
+  -- After the call in which they arrived.
   of_taken : (now : ℕ) (first last : Client) (calls : List (StepCall Client)) (coming : StepCall Client) (earlier : List (Step Client DeskCall)) → run ≡ steps_of (calls ++ coming ∷ []) ++ earlier → AreTakenUp now ret first calls last
       → IsLastFrame ret run
   of_taken now first last [] coming earlier run_is are = absurd (gives are.1)
@@ -175,7 +176,7 @@ module _ (ret : Answer) (gives : ¬ HandsNothing ret) (run : List (Step Client D
     payloads_are = up.payloads_are;
   }
 
-  module _ (now : ℕ) (kept : Kept) (first last : Client) (calls : List (StepCall Client)) (earlier : List (Step Client DeskCall)) (run_is : run ≡ steps_of calls ++ earlier) where
+  module _ (now : ℕ) (stored : ClientState) (first last : Client) (calls : List (StepCall Client)) (earlier : List (Step Client DeskCall)) (run_is : run ≡ steps_of calls ++ earlier) where
     of_raw : (Of : Joined → PeerPayload → Type 0) (k : Joined) (given : PeerPayload) → Of k given → (core : Protocol) → given.transport ≡ Tcp → k.peer ≡ given.peer → IsOne (IsPassedOn k given core ret) first calls last → IsLastRaw Of ret run
     of_raw Of k given is_of core tcp peer (call, calls_are, begins, ends, is) = record {
       call = call;
@@ -190,43 +191,43 @@ module _ (ret : Answer) (gives : ¬ HandsNothing ret) (run : List (Step Client D
       payloads_are = is.payloads_are;
     }
 
-    -- what came to an own address
+    -- What came to a local address.
     abbrev Came : SocketAddr → List ℕ → Type 0
     Came to bytes = IsLastGiven (IsBroughtTo to bytes) ret run
 
-    of_piece : (bytes : List ℕ) (from to : SocketAddr) → AreCallsOfPiece kept bytes from to now ret first calls last → Came to bytes
-    of_piece bytes from to are = ByFrame (of_taken now are.coming.after last are.taking are.coming earlier (run_is ∙ ap (λ (l : List (StepCall Client)). steps_of l ++ earlier) are.calls_are) are.taken)
+    of_chunk : (bytes : List ℕ) (from to : SocketAddr) → AreCallsOfChunk stored bytes from to now ret first calls last → Came to bytes
+    of_chunk bytes from to are = ByFrame (of_taken now are.coming.after last are.taking are.coming earlier (run_is ∙ ap (λ (l : List (StepCall Client)). steps_of l ++ earlier) are.calls_are) are.taken)
 
-    of_bound : (awaited : Option Binding) (k : Joined) (to : SocketAddr) → k.here ≡ to → (bytes : List ℕ) → AreCallsBound awaited k to now bytes ret kept.core first calls last → Came to bytes
+    of_bound : (awaited : Option Binding) (k : Joined) (to : SocketAddr) → k.here ≡ to → (bytes : List ℕ) → AreCallsBound awaited k to now bytes ret stored.core first calls last → Came to bytes
     of_bound (Some binding) k to at bytes are = absurd (gives (gives_nothing ret are.0))
-    of_bound None k to at bytes are = ByPeer (of_raw (IsBroughtTo to bytes) k (record (raw_given k bytes) { place = None }) (record { at = at; waited = k.stream.kept; payload_is = refl }) (after_raw to k kept.core) refl refl are)
+    of_bound None k to at bytes are = ByPeer (of_raw (IsBroughtTo to bytes) k (record (raw_given k bytes) { index = None }) (record { at = at; waited = k.stream.stored; payload_is = refl }) (after_raw to k stored.core) refl refl are)
 
-    of_over : (k : Joined) (to : SocketAddr) → k.here ≡ to → (bytes : List ℕ) → AreCallsOver k to now bytes ret kept.core first calls last → Came to bytes
+    of_over : (k : Joined) (to : SocketAddr) → k.here ≡ to → (bytes : List ℕ) → AreCallsOver k to now bytes ret stored.core first calls last → Came to bytes
     of_over k to at [] are = absurd (gives (gives_nothing ret are.0))
     of_over k to at (byte ∷ bytes) are = of_bound k.awaited k to at (byte ∷ bytes) are
 
-    of_tcp : (bytes : List ℕ) (from to : SocketAddr) → AreCallsOverTcp kept bytes from to now ret first calls last → Came to bytes
-    of_tcp bytes from to (OfStream is are) = of_piece bytes from to are
-    of_tcp bytes from to (OverSocket none inside_it k there are) = of_over k to (from_here to kept.core.allocations k (socket_there kept.core from to k there)) bytes are
-    of_tcp bytes from to (OverNone none no_socket are) = of_piece bytes from to are
+    of_tcp : (bytes : List ℕ) (from to : SocketAddr) → AreCallsOverTcp stored bytes from to now ret first calls last → Came to bytes
+    of_tcp bytes from to (OfStream is are) = of_chunk bytes from to are
+    of_tcp bytes from to (OverSocket none inside_it k there are) = of_over k to (from_here to stored.core.allocations k (socket_there stored.core from to k there)) bytes are
+    of_tcp bytes from to (OverNone none no_socket are) = of_chunk bytes from to are
 
-    of_asking : (raw : Option Joined) → AreCallsOfAsking raw now kept ret first calls last → IsLastGiven HasWaited ret run
-    of_asking (Some k) are = ByPeer (of_raw HasWaited k (raw_kept k) tt (record kept.core { allocations = emptied kept.core.allocations }) refl refl are)
+    of_asking : (raw : Option Joined) → AreCallsOfAsking raw now stored ret first calls last → IsLastGiven HasWaited ret run
+    of_asking (Some k) are = ByPeer (of_raw HasWaited k (raw_stored k) tt (record stored.core { allocations = emptied stored.core.allocations }) refl refl are)
     of_asking None are = ByFrame (of_frames now first last calls earlier run_is are)
 
     of_datagram : (bytes : Vec ℕ Global) (from to : SocketAddr) → IsOneCall (ToClient bytes from to now) ret first calls last → IsLastFrame ret run
     of_datagram bytes from to are =
         let n = newest_call (ToClient bytes from to now) ret first last calls run earlier run_is are in
-        record { call = n.call; earlier = n.earlier; run_is = n.run_is; frame = bytes.items; handled_is = n.told.handled_is; payloads_are = n.told.payloads_are }
+        record { call = n.call; earlier = n.earlier; run_is = n.run_is; frame = bytes.items; handled_is = n.reported.handled_is; payloads_are = n.reported.payloads_are }
 
-    of_bytes : (control : Control) (bytes : Vec ℕ Global) (from to : SocketAddr) → AreCallsOfBytes control kept bytes from to now ret first calls last → Came to bytes.items
+    of_bytes : (control : Control) (bytes : Vec ℕ Global) (from to : SocketAddr) → AreCallsOfBytes control stored bytes from to now ret first calls last → Came to bytes.items
     of_bytes Datagrams bytes from to are = ByFrame (of_datagram bytes from to are)
     of_bytes (Open stream) bytes from to are = of_tcp bytes.items from to are
     of_bytes Closed bytes from to are = of_tcp bytes.items from to are
 
--- a payload of that frame is what it carries, and names what was granted
+-- A payload of that frame is what it carries, and names what was granted.
 module _ (event : Event) (ret : Answer) (first last : Client) (run : List (Step Client DeskCall)) (is : IsLastAnswered event ret first run last) (n : IsLastFrame ret run) where
-  -- what was delivered in that call is what the frame carries
+  -- What was delivered in that call is what the frame carries.
   of_frame : (p : Payload) → (f : List ℕ) × IsIn f n.call.handled × Carries f p → Carries n.frame p
   of_frame p (f, listed, carries) = elim (subst (λ (l : List (List ℕ)). IsIn f l) n.handled_is listed) [
     | inl same ↦ subst (λ (l : List ℕ). Carries l p) (sym same) carries
@@ -237,15 +238,15 @@ module _ (event : Event) (ret : Answer) (first last : Client) (run : List (Step 
       → (IsDelivered client_words n.call (payload n.frame) → (f : List ℕ) × IsIn f n.call.handled × Carries f (payload n.frame)) → ((g : Held) → NamesHeld (payload n.frame) g → g ≡ held n.frame) → IsCarried first run last payload held
   carried payload held listed as_came one =
       let p = payload n.frame in
-      let handed : IsIn p n.call.payloads = subst (λ (l : List Payload). IsIn p l) (sym n.payloads_are) listed in
+      let delivered : IsIn p n.call.payloads = subst (λ (l : List Payload). IsIn p l) (sym n.payloads_are) listed in
       let lawful : AtEach (λ s _. IsLawful words s) (AtClient n.call ∷ n.earlier) = subst (λ (l : List (Step Client DeskCall)). AtEach (λ s _. IsLawful words s) l) n.run_is is.account.lawful in
       record {
         frame = n.frame;
         taken = subst (λ (l : List (Step Client DeskCall)). IsIn n.frame (last_taken l)) (sym n.run_is) (subst (λ (l : List (List ℕ)). IsIn n.frame l) (sym n.handled_is) (inl refl));
-        carries = of_frame p (as_came (lawful.0.delivers p handed));
+        carries = of_frame p (as_came (lawful.0.delivers p delivered));
         granted = λ forged distinct.
             let safe : AtEach (IsSafe words first last run) (AtClient n.call ∷ n.earlier) = subst (λ (l : List (Step Client DeskCall)). AtEach (IsSafe words first last run) l) n.run_is (is.promised.safe forged distinct) in
-            let named = (safe.0.names p handed).1 in
+            let named = (safe.0.names p delivered).1 in
             subst (λ (l : List (Step Client DeskCall)). Traced words l (held n.frame)) (sym n.run_is) (subst (λ (g : Held). Traced words (AtClient n.call ∷ n.earlier) g) (one named.0 named.1) named.3);
       }
 
@@ -269,7 +270,7 @@ module _ (event : Event) (ret : Answer) (first last : Client) (run : List (Step 
       carried (λ frame. Reported transport peer (record { icmp_type = kind; code = code; details = details })) (λ frame. Permission transport (socket_ip peer))
       (subst (λ (r : Answer). IsIn (Reported transport peer (record { icmp_type = kind; code = code; details = details })) (given_of n.frame r)) (sym answered) (inl refl)) (λ came. came) (λ g named. named)
 
--- bytes of a connection's peer name that connection, which was granted
+-- Bytes of a connection's peer name that connection, which was granted.
 module _ (Of : Joined → PeerPayload → Type 0) (event : Event) (ret : Answer) (first last : Client) (run : List (Step Client DeskCall)) (is : IsLastAnswered event ret first run last) (n : IsLastRaw Of ret run) where
   abbrev passed : Payload
   passed = FromConnection n.k.here n.k.peer n.given.payload
@@ -287,8 +288,8 @@ module _ (Of : Joined → PeerPayload → Type 0) (event : Event) (ret : Answer)
     transport_is = n.transport_is;
     granted = λ forged distinct.
         let safe : AtEach (IsSafe words first last run) (AtClient n.call ∷ n.earlier) = subst (λ (l : List (Step Client DeskCall)). AtEach (IsSafe words first last run) l) n.run_is (is.promised.safe forged distinct) in
-        let handed : IsIn passed n.call.payloads = subst (λ (l : List Payload). IsIn passed l) (sym n.payloads_are) (inl refl) in
-        let named = (safe.0.names passed handed).1 in
+        let delivered : IsIn passed n.call.payloads = subst (λ (l : List Payload). IsIn passed l) (sym n.payloads_are) (inl refl) in
+        let named = (safe.0.names passed delivered).1 in
         raw_named named.0 named.1 named.3;
   }
 
@@ -301,7 +302,7 @@ module _ (Of : Joined → PeerPayload → Type 0) (event : Event) (ret : Answer)
   passed_of : (given : PeerPayload) → ret ≡ answer.Peer given → Of n.k given
   passed_of given answered = subst (λ (g : PeerPayload). Of n.k g) (same_given given answered) n.is_of
 
-  -- a report is none
+  -- A report is no such bytes.
   never_report : (transport : TransportType) (peer : SocketAddr) (kind code details : ℕ) → ret ≡ answer.Icmp transport peer kind code details → ⊥
   never_report transport peer kind code details answered = Prim.cc (sym n.answered ∙ answered)
 
@@ -310,17 +311,17 @@ module _ (Of : Joined → PeerPayload → Type 0) (event : Event) (ret : Answer)
 module _ (ret : Answer) (gives : ¬ HandsNothing ret) (first last : Client) (run : List (Step Client DeskCall)) (now : ℕ) where
   pub came_last : (bytes : Vec ℕ Global) (from to : SocketAddr) → IsLastAnswered (ToClient bytes from to now) ret first run last → IsLastGiven (IsBroughtTo to bytes.items) ret run
   came_last bytes from to is =
-      let n = newest is.before (ToClient bytes from to now, ret) is.old is.new run is.account.told in
-      let by : AreStepsOfClient (ToClient bytes from to now) ret n.before.client is.new.client n.steps = n.told in
-      of_bytes ret gives run now by.kept by.first by.last by.calls n.earlier (n.run_is ∙ ap (λ (l : List (Step Client DeskCall)). l ++ n.earlier) by.steps_are) by.kept.control bytes from to by.are
+      let n = newest is.before (ToClient bytes from to now, ret) is.old is.new run is.account.reported in
+      let by : AreStepsOfClient (ToClient bytes from to now) ret n.before.client is.new.client n.steps = n.reported in
+      of_bytes ret gives run now by.stored by.first by.last by.calls n.earlier (n.run_is ∙ ap (λ (l : List (Step Client DeskCall)). l ++ n.earlier) by.steps_are) by.stored.control bytes from to by.are
 
   pub waited_last : IsLastAnswered (Call call.PollRecv now) ret first run last → IsLastGiven HasWaited ret run
   waited_last is =
-      let n = newest is.before (Call call.PollRecv now, ret) is.old is.new run is.account.told in
-      let by : AreStepsOfClient (Call call.PollRecv now) ret n.before.client is.new.client n.steps = n.told in
-      of_asking ret gives run now by.kept by.first by.last by.calls n.earlier (n.run_is ∙ ap (λ (l : List (Step Client DeskCall)). l ++ n.earlier) by.steps_are) (raw_asked now by.kept) by.are
+      let n = newest is.before (Call call.PollRecv now, ret) is.old is.new run is.account.reported in
+      let by : AreStepsOfClient (Call call.PollRecv now) ret n.before.client is.new.client n.steps = n.reported in
+      of_asking ret gives run now by.stored by.first by.last by.calls n.earlier (n.run_is ∙ ap (λ (l : List (Step Client DeskCall)). l ++ n.earlier) by.steps_are) (raw_requested now by.stored) by.are
 
--- data that bytes gave which came
+-- Data given by bytes that came.
 pub data_brought : (event : Event) (first last : Client) (run : List (Step Client DeskCall)) (to : SocketAddr) (bytes : List ℕ) (given : PeerPayload) → IsLastAnswered event (answer.Peer given) first run last → IsLastGiven (IsBroughtTo to bytes) (answer.Peer given) run
     → IsDataBrought first run last to bytes given
 data_brought event first last run to bytes given is (ByFrame n) = inl (data_carried event (answer.Peer given) first last run is n given refl)
@@ -333,19 +334,19 @@ data_brought event first last run to bytes given is (ByPeer n) =
       payload_is = brought.payload_is;
     })
 
--- data that waited
-pub data_kept : (event : Event) (first last : Client) (run : List (Step Client DeskCall)) (given : PeerPayload) → IsLastAnswered event (answer.Peer given) first run last → IsLastGiven HasWaited (answer.Peer given) run → IsDataKept first run last given
-data_kept event first last run given is (ByFrame n) = inl (data_carried event (answer.Peer given) first last run is n given refl)
-data_kept event first last run given is (ByPeer n) = inr (n.k.here, passed_raw HasWaited event (answer.Peer given) first last run is n given refl)
+-- Data that was buffered.
+pub data_stored : (event : Event) (first last : Client) (run : List (Step Client DeskCall)) (given : PeerPayload) → IsLastAnswered event (answer.Peer given) first run last → IsLastGiven HasWaited (answer.Peer given) run → IsDataStored first run last given
+data_stored event first last run given is (ByFrame n) = inl (data_carried event (answer.Peer given) first last run is n given refl)
+data_stored event first last run given is (ByPeer n) = inr (n.k.here, passed_raw HasWaited event (answer.Peer given) first last run is n given refl)
 
--- a report
+-- A report.
 pub report_given : (Of : Joined → PeerPayload → Type 0) (event : Event) (first last : Client) (run : List (Step Client DeskCall)) (transport : TransportType) (peer : SocketAddr) (kind code details : ℕ) → IsLastAnswered event (answer.Icmp transport peer kind code details) first run last
     → IsLastGiven Of (answer.Icmp transport peer kind code details) run
     → IsCarried first run last (λ frame. Reported transport peer (record { icmp_type = kind; code = code; details = details })) (λ frame. Permission transport (socket_ip peer))
 report_given Of event first last run transport peer kind code details is (ByFrame n) = report_carried event (answer.Icmp transport peer kind code details) first last run is n transport peer kind code details refl
 report_given Of event first last run transport peer kind code details is (ByPeer n) = absurd (never_report Of event (answer.Icmp transport peer kind code details) first last run is n transport peer kind code details refl)
 
--- the answers that hand something over
+-- The results that deliver something.
 pub data_hands : (given : PeerPayload) → ¬ HandsNothing (answer.Peer given)
 data_hands given none = Prim.cc (none [])
 
@@ -354,18 +355,18 @@ report_hands transport peer kind code details none = Prim.cc (none [])
 
 -- ---- a datagram
 
--- what came by the newest call was taken up last
+-- What arrived in the newest call was handled last.
 taken_last : (happening : Event) (ret : Answer) (run : List (Step Client DeskCall)) → IsNewestCall happening ret run → last_taken run ≡ arriving happening
-taken_last happening ret run n = ap last_taken n.run_is ∙ n.told.handled_is
+taken_last happening ret run n = ap last_taken n.run_is ∙ n.reported.handled_is
 
--- a client that is one over UDP was so before
+-- A client that is over UDP afterwards was so before.
 module _ (bytes : Vec ℕ Global) (from to : SocketAddr) (now : ℕ) (ret : Answer) where
-  streamed_not : (items : Bor (List ℕ) → List ℕ) (p q : Kept) (stream : Stream) (came : _) (took : _) → IsStreamed items now stream p.core came took q → q.control ≡ Datagrams → ⊥
-  streamed_not items p q stream came took (Piece of some left stands taken) is = let never : Open left ≡ Datagrams = sym stands ∙ is in Prim.cc never
+  streamed_not : (items : Bor (List ℕ) → List ℕ) (p q : ClientState) (stream : Stream) (came : _) (took : _) → IsStreamed items now stream p.core came took q → q.control ≡ Datagrams → ⊥
+  streamed_not items p q stream came took (Chunk of some left occurs taken) is = let never : Open left ≡ Datagrams = sym occurs ∙ is in Prim.cc never
   streamed_not items p q stream came took (End of none answered core closed) is = let never : Closed ≡ Datagrams = sym closed ∙ is in Prim.cc never
-  streamed_not items p q stream came took (Strange others back stands) is = let never : Open stream ≡ Datagrams = sym stands ∙ is in Prim.cc never
+  streamed_not items p q stream came took (Strange others back occurs) is = let never : Open stream ≡ Datagrams = sym occurs ∙ is in Prim.cc never
 
-  fed_so : (p q : Kept) → IsFed ret p bytes.items from to now q → q.control ≡ Datagrams → p.control ≡ Datagrams
+  fed_so : (p q : ClientState) → IsFed ret p bytes.items from to now q → q.control ≡ Datagrams → p.control ≡ Datagrams
   fed_so p q is udp = by p.control refl is.received
     where
       by : (control : Control) → p.control ≡ control → IsReceivedBy (λ (b : Bor (List ℕ)). b.now) now control p.core is.came is.took q → p.control ≡ Datagrams
@@ -373,24 +374,24 @@ module _ (bytes : Vec ℕ Global) (from to : SocketAddr) (now : ℕ) (ret : Answ
       by (Open stream) at received = absurd (streamed_not (λ (b : Bor (List ℕ)). b.now) p q stream is.came is.took received udp)
       by Closed at received = absurd (let never : Closed ≡ Datagrams = sym received.1 ∙ udp in let no : ⊥ = Prim.cc never in no)
 
-  udp_before : (before left : Option Kept) (p q : Kept) → before ≡ Some p → left ≡ Some q → q.control ≡ Datagrams → IsAtClient now (λ p q. IsFed ret p bytes.items from to now q) before ret left → p.control ≡ Datagrams
+  udp_before : (before left : Option ClientState) (p q : ClientState) → before ≡ Some p → left ≡ Some q → q.control ≡ Datagrams → IsAtClient now (λ p q. IsFed ret p bytes.items from to now q) before ret left → p.control ≡ Datagrams
   unfolding IsAtClient IsInRange
   udp_before None left p q is after udp h = absurd (Prim.cc is)
   udp_before (Some x) None p q is after udp h = absurd h
   udp_before (Some x) (Some y) p q is after udp h =
-      let so : y.control ≡ Datagrams = ap (λ (k : Kept). k.control) (inside after) ∙ udp in
-      ap (λ (k : Kept). k.control) (sym (inside is))
+      let so : y.control ≡ Datagrams = ap (λ (k : ClientState). k.control) (inside after) ∙ udp in
+      ap (λ (k : ClientState). k.control) (sym (inside is))
       ∙ by_test (is_in_range now)
       (λ (_ : is_in_range now ≡ true) fed. fed_so x y fed so)
-      (λ (_ : is_in_range now ≡ false) out. sym (ap (λ (k : Kept). k.control) out.1) ∙ so) h
+      (λ (_ : is_in_range now ≡ false) out. sym (ap (λ (k : ClientState). k.control) out.1) ∙ so) h
 
-  -- what was taken up last is the datagram
-  pub datagram_last : (first last : Client) (run : List (Step Client DeskCall)) (is : IsLastAnswered (ToClient bytes from to now) ret first run last) (k : Kept) → is.new.client ≡ Some k → k.control ≡ Datagrams → last_taken run ≡ bytes.items ∷ []
+  -- What was handled last is the datagram.
+  pub datagram_last : (first last : Client) (run : List (Step Client DeskCall)) (is : IsLastAnswered (ToClient bytes from to now) ret first run last) (k : ClientState) → is.new.client ≡ Some k → k.control ≡ Datagrams → last_taken run ≡ bytes.items ∷ []
   datagram_last first last run is k left udp =
-      let n = newest is.before (ToClient bytes from to now, ret) is.old is.new run is.account.told in
-      let by : AreStepsOfClient (ToClient bytes from to now) ret n.before.client is.new.client n.steps = n.told in
-      let was : by.kept.control ≡ Datagrams = udp_before n.before.client is.new.client by.kept k by.kept_is left udp n.step.0 in
-      let one : IsOneCall (ToClient bytes from to now) ret by.first by.calls by.last = subst (λ (o : Control). AreCallsOfBytes o by.kept bytes from to now ret by.first by.calls by.last) was by.are in
+      let n = newest is.before (ToClient bytes from to now, ret) is.old is.new run is.account.reported in
+      let by : AreStepsOfClient (ToClient bytes from to now) ret n.before.client is.new.client n.steps = n.reported in
+      let was : by.stored.control ≡ Datagrams = udp_before n.before.client is.new.client by.stored k by.stored_is left udp n.step.0 in
+      let one : IsOneCall (ToClient bytes from to now) ret by.first by.calls by.last = subst (λ (o : Control). AreCallsOfBytes o by.stored bytes from to now ret by.first by.calls by.last) was by.are in
       taken_last (ToClient bytes from to now) ret run (newest_call (ToClient bytes from to now) ret by.first by.last by.calls run n.earlier (n.run_is ∙ ap (λ (l : List (Step Client DeskCall)). l ++ n.earlier) by.steps_are) one)
 
 pub in_image : {X Y : Type 0} (f : X → Y) (x : X) (xs : List X) → IsIn x xs → IsIn (f x) (map f xs)
@@ -414,7 +415,7 @@ in_passing {X} p x (y ∷ xs) is i = elim (cases_Bool (p y)) [
       ])
 ]
 
--- a connection that is shown as bound is among those
+-- A connection that is listed as bound is among the bound ones.
 pub in_bound : (here peer : SocketAddr) (number : ℕ) (rows : List (SocketAddr × SocketAddr × ℕ × Bool)) → IsIn (here, peer, number, true) rows → IsIn (Connection here peer number) (connections_bound rows)
 in_bound here peer number rows listed =
     in_image (λ (r : SocketAddr × SocketAddr × ℕ × Bool). Connection r.0 r.1 r.2) (here, peer, number, true) (filter (λ (r : SocketAddr × SocketAddr × ℕ × Bool). r.3) rows)

@@ -10,12 +10,12 @@ pub mod Chain
 pub mod Counting
 pub mod Determined
 pub mod Ends
-pub mod Handed
+pub mod Delivered
 pub mod Once
 pub mod Receiving
 pub mod Safe
-pub mod Shown
+pub mod Visible
 pub mod Sides
 pub mod SocketOnce
 pub mod Streaming
-pub mod Telling
+pub mod Reporting

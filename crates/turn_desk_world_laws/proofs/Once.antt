@@ -1,4 +1,4 @@
--- A run is determined by its events.
+-- The events of a run determine it.
 use Rattle.std.proofs.Common.{◌≡◌, ◌⊎◌, ℕ, false, List, [], ◌∷◌, Option, refl, sym, ap, ◌∙◌, subst, inl, inr}
 use Rattle.std.proofs.lemmas.Bool.{cases_Bool}
 use Rattle.std.specs.Prelude.{not}
@@ -6,7 +6,7 @@ use Rattle.std.specs.List.{AllByRecursion, filter}
 use Rattle.std.specs.declared.net.socket_addr.SocketAddr.{SocketAddr}
 use Rattle.turn_desk_world.specs.StunProtoAuth.Claims.{claimed}
 use Rattle.turn_desk_core.specs.StunProtoServer.Users.{HashesDiffer, NamesOne}
-use Rattle.turn_client_proto_step_laws.specs.Recv.Kept.{Kept, Leaves}
+use Rattle.turn_client_proto_step_laws.specs.Recv.ClientState.{ClientState, Leaves}
 use Rattle.turn_desk_step_laws.proofs.Answering.{answer_same, hashes_differ_still}
 use Rattle.turn_desk_core.specs.State.{State}
 use Rattle.turn_desk_event.specs.declared.answer.Answer.{Answer}
@@ -14,12 +14,12 @@ use Rattle.turn_desk_event.specs.declared.answer.Answer.TheVariants as answer
 use Rattle.turn_desk_core.specs.declared.decision.Decision.{Decision}
 use Rattle.turn_desk_event.specs.declared.event.Event.{Event}
 use Rattle.turn_desk_event.specs.declared.event.Event.TheVariants.{Call, Draw, ToClient, ToDesk}
-use Rattle.turn_desk_world.specs.Calls.{IsCallTold, IsDrawnAs, IsFed}
+use Rattle.turn_desk_world.specs.Calls.{IsCallReported, IsTransmittedAs, IsFed}
 use Rattle.turn_desk_world.specs.Desks.{IsReply, words_of}
 use Rattle.turn_desk_world.specs.Determined.{AreSame, HaveSameEvents, IsSame}
 use Rattle.turn_desk_world.specs.Model.{World}
 use Rattle.turn_desk_world.specs.Runs.{IsOfClient, IsOnlyRun, IsRun, IsStep, is_at_desk}
-use Rattle.turn_desk_world_laws.proofs.Determined.{AreOne, at_client_once, called_once, drawn_once, fed_once}
+use Rattle.turn_desk_world_laws.proofs.Determined.{AreOne, at_client_once, called_once, transmitted_once, fed_once}
 use Rattle.turn_desk_world_laws.proofs.Sides.{client_run, desk_run}
 
 -- ---- the desk
@@ -34,7 +34,7 @@ module _ (old : State) (bytes : List ℕ) (from : SocketAddr) (now : ℕ) (decis
   reply_once answer.Nothing _ new other names a b = absurd b
   reply_once _ again new other names a b = absurd a
 
-  -- where no two users have the same hash, none have afterwards
+  -- If no two users have the same hash, none have afterwards.
   differ_still : (ret : Answer) (new : State) → HashesDiffer old.auth → IsReply ret old bytes from now decision seed new → HashesDiffer new.auth
   differ_still (answer.Reply reply) new differ is = hashes_differ_still old new from bytes reply.items now (words_of seed) decision differ is.answer
   differ_still answer.Nothing new differ is = subst (λ (s : State). HashesDiffer s.auth) (sym is.1) differ
@@ -43,19 +43,19 @@ module _ (old : State) (bytes : List ℕ) (from : SocketAddr) (now : ℕ) (decis
 -- ---- one event
 
 of_client : (old new other : World) → IsOfClient old new → IsOfClient old other → new.client ≡ other.client → new ≡ other
-of_client old new other a b same = a ∙ ap (λ (c : Option Kept). record old { client = c }) same ∙ sym b
+of_client old new other a b same = a ∙ ap (λ (c : Option ClientState). record old { client = c }) same ∙ sym b
 
--- an event of the client, or one of a desk no two of whose users have the same hash
+-- The event is one of the client, or no two of the server core's users have the same hash.
 abbrev pub IsSure : World → Event → Type 0
 IsSure w (ToDesk bytes from now decision seed) = HashesDiffer w.desk.auth
 IsSure w _ = Unit {0}
 
 step_once : (event : Event) (old : World) (ret again : Answer) (new other : World) → IsSure old event → IsStep event old ret new → IsStep event old again other → IsSame ret again × (new ≡ other)
 step_once (Call what now) old ret again new other sure a b =
-    let same = at_client_once now (λ x p q. IsCallTold what x p now q) (λ p x y q r. called_once what p now x y q r) old.client ret again new.client other.client a.0 b.0 in
+    let same = at_client_once now (λ x p q. IsCallReported what x p now q) (λ p x y q r. called_once what p now x y q r) old.client ret again new.client other.client a.0 b.0 in
     (same.0, of_client old new other a.1 b.1 same.1)
 step_once (Draw now) old ret again new other sure a b =
-    let same = at_client_once now (λ x p q. Leaves (λ a b. IsDrawnAs x a now b) p q) (λ p x y q r. drawn_once p now x y q r) old.client ret again new.client other.client a.0 b.0 in
+    let same = at_client_once now (λ x p q. Leaves (λ a b. IsTransmittedAs x a now b) p q) (λ p x y q r. transmitted_once p now x y q r) old.client ret again new.client other.client a.0 b.0 in
     (same.0, of_client old new other a.1 b.1 same.1)
 step_once (ToClient bytes from to now) old ret again new other sure a b =
     let same = at_client_once now (λ x p q. IsFed x p bytes.items from to now q) (λ p x y q r. fed_once p bytes.items from to now x y q r) old.client ret again new.client other.client a.0 b.0 in
@@ -66,7 +66,7 @@ step_once (ToDesk bytes from now decision seed) old ret again new other sure a b
 
 -- ---- all of them
 
--- all are the client's, or no two users have the same hash
+-- All events are the client's, or no two users have the same hash.
 abbrev pub AreSure : World → List (Event × Answer) → Type 0
 AreSure w pairs = AllByRecursion (λ (pair : Event × Answer). is_at_desk pair ≡ false) pairs ⊎ HashesDiffer w.desk.auth
 

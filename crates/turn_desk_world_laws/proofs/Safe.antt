@@ -1,4 +1,4 @@
--- Runs of a world whose client is new are safe.
+-- Runs of a simulation whose client is new are safe.
 use Rattle.std.proofs.Common.{List}
 use Rattle.turn_desk_step_laws.specs.TurnRuns.Headline.{IsPromised}
 use Rattle.turn_desk_step_laws.specs.TurnRuns.Runs.{IsCounted, IsNew, Step}
@@ -14,27 +14,27 @@ use Rattle.turn_desk_world.specs.Model.{World}
 use Rattle.turn_desk_world.specs.Runs.{IsRun}
 use Rattle.turn_desk_world_laws.specs.Safety.{IsAccount, IsSafeRun, words}
 use Rattle.turn_desk_world_laws.proofs.Ends.{end_with_sockets}
-use Rattle.turn_desk_world_laws.proofs.Telling.{all_told}
+use Rattle.turn_desk_world_laws.proofs.Reporting.{all_decoded}
 
 pub run_is_safe : (pairs : List (Event × Answer)) (old new : World) → IsRun old pairs new → IsSafeRun old pairs new
 run_is_safe pairs old new is transport here server config seed core begins fair =
     let first : Client = first_client config.credentials seed core in
-    let told = all_told pairs first old new (new_sound transport here server config seed core begins.new begins.short begins.few) begins.client fair is in
+    let reported = all_decoded pairs first old new (new_sound transport here server config seed core begins.new begins.short begins.few) begins.client fair is in
     let unasked : IsNew words first = new_unasked transport here server config seed core begins.new desk_words in
-    let promise : IsPromised words first told.run told.last = promised words lawful first told.run told.last unasked told.leads told.lawful in
+    let promise : IsPromised words first reported.run reported.last = promised words lawful first reported.run reported.last unasked reported.leads reported.lawful in
     record {
       one = record {
-        run = told.run;
-        told = told.told;
-        last = told.last;
-        left = told.left;
-        leads = told.leads;
-        lawful = told.lawful;
-        counted = counted words first told.run told.last told.leads told.lawful;
-        sound = told.sound;
+        run = reported.run;
+        reported = reported.reported;
+        last = reported.last;
+        left = reported.left;
+        leads = reported.leads;
+        lawful = reported.lawful;
+        counted = counted words first reported.run reported.last reported.leads reported.lawful;
+        sound = reported.sound;
         safe = promise.safe;
         once = promise.once;
-        shown = promise.shown;
+        visible = promise.visible;
       };
       each = λ run last account. (
         counted words first run last account.leads account.lawful,

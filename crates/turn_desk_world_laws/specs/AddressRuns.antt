@@ -1,4 +1,5 @@
--- What of a run of a world concerns one address at the desk (RFC 8489, section 9.2; RFC 8656, section 5).
+-- The part of a simulation's run that concerns one address at the server core (RFC 8489, section 9.2; RFC
+-- 8656, section 5).
 use Rattle.std.specs.Prelude.{Bool, false, List, filter}
 use Rattle.std.specs.declared.net.socket_addr.SocketAddr.{SocketAddr}
 use Rattle.turn_desk_core.specs.StunProtoServer.AuthRuns.{is_same_address}
@@ -11,7 +12,7 @@ use Rattle.turn_desk_world.specs.Determined.{AreSame}
 use Rattle.turn_desk_world.specs.Model.{World}
 use Rattle.turn_desk_world.specs.Runs.{IsRun}
 
--- whether bytes reach the desk from an address
+-- Whether bytes from the address reach the server core in this event.
 abbrev pub is_from : SocketAddr → Event × Answer → Bool
 is_from address pair = comes pair.0
   where
@@ -21,20 +22,21 @@ is_from address pair = comes pair.0
     comes (ToClient bytes from to now) = false
     comes (ToDesk bytes from now decision seed) = is_same_address address from
 
--- what reached the desk from an address, in its order, each with its answer
+-- The events by which bytes from the address reach the server core, in order, each with its result.
 abbrev pub come_from : SocketAddr → List (Event × Answer) → List (Event × Answer)
 come_from address pairs = filter (is_from address) pairs
 
--- what reached the desk from an address alone is answered so in a world, too, whose client doesn't
--- change; the address can't tell the desk that is left from the one that all events left: what is kept
--- for it is the same, and so is all that was granted to it
-pub record StandsAlone (address : SocketAddr) (old : World) (pairs : List (Event × Answer)) (new : World)
+-- The events by which bytes from the address reach the server core, alone, have the same results in the
+-- simulation `old`, and don't change its client. The address can't distinguish the server core that they
+-- leave from the one that all events left: what is stored for it is the same, and so is all that was granted
+-- to it.
+pub record IsIsolated (address : SocketAddr) (old : World) (pairs : List (Event × Answer)) (new : World)
     : Type 0 where
   pub left : State
   pub run : IsRun old (come_from address pairs) (record old { desk = left })
   pub alike : AreAlike address new.desk left
 
--- two runs gave an address the same answers, and left desks that it can't tell apart
+-- The two runs gave the address the same results, and it can't distinguish the server cores that they left.
 pub record AreAnsweredAlike (address : SocketAddr) (pairs others : List (Event × Answer)) (new left : World)
     : Type 0 where
   pub answers : AreSame (come_from address pairs) (come_from address others)

@@ -1,4 +1,4 @@
--- One datagram whose bytes lie in two places, and what is answered to it.
+-- One datagram whose bytes are in two places in memory, and the results for it.
 use Rattle.std.specs.Prelude.{◌≡◌, ℕ, List}
 use Rattle.std.specs.declared.net.socket_addr.SocketAddr.{SocketAddr}
 use Rattle.stun_types_base.specs.declared.transmit.Transmit.{Transmit}
@@ -7,14 +7,14 @@ use Rattle.turn_desk_event.specs.TurnClientProtoApi.declared.answer.TurnRecvRet.
 use Rattle.turn_desk_event.specs.TurnClientProtoApi.declared.answer.TurnRecvRet.TheVariants.{Handled, Ignored, PeerData, PeerIcmp}
 use Rattle.turn_desk_event.specs.TurnClientProtoApi.Payloads.{PeerPayload}
 
--- the same bytes, by the same transport, from and to the same addresses
+-- The bytes, the transport and both addresses are the same.
 pub record IsCopy {T : Type 0} (items : T → List ℕ) (came copy : Transmit T) : Type 0 where
   pub bytes : items copy.bytes ≡ items came.bytes
   pub transport : copy.transport ≡ came.transport
   pub from : copy.from ≡ came.from
   pub to : copy.to ≡ came.to
 
--- both were handled, or each was given back, or both gave the same of a peer
+-- Both datagrams were handled, or each was given back, or both gave the same data or report from a peer.
 pub data AreAlike {T : Type 0} (came copy : Transmit T) (answer again : TurnRecvRet T) : Type 0 where
   BothHandled : answer ≡ Handled → again ≡ Handled → AreAlike came copy answer again
   BothGivenBack : answer ≡ Ignored came → again ≡ Ignored copy → AreAlike came copy answer again

@@ -1,15 +1,16 @@
--- What ends with the socket of a connection to a peer (RFC 6062, section 4.6): behind the close of an own address, a client
--- keeps a bound connection of that address, shows it, and hands bytes of its peer over, only where it was bound since.
+-- What ends with the socket of a connection to a peer (RFC 6062, section 4.6). After the close of the socket
+-- with a local address, a client has a bound connection with that address in its lists, lists it, and
+-- delivers bytes of its peer, only if the connection was bound since.
 use Rattle.std.specs.Prelude.{◌≡◌, ℕ, List, [], ◌∷◌, ◌++◌, Some}
 use Rattle.std.specs.declared.net.socket_addr.SocketAddr.{SocketAddr}
 use Rattle.stun_types_base.specs.declared.transport.TransportType.TheVariants.{Tcp}
-use Rattle.turn_client_proto_step_laws.specs.ClientWords.{IsKept, client_words}
-use Rattle.turn_client_proto_step_laws.specs.Recv.Kept.{Kept}
+use Rattle.turn_client_proto_step_laws.specs.ClientWords.{IsStored, client_words}
+use Rattle.turn_client_proto_step_laws.specs.Recv.ClientState.{ClientState}
 use Rattle.turn_desk_step_laws.specs.TurnRuns.Members.{IsIn}
 use Rattle.turn_desk_step_laws.specs.TurnRuns.Messages.{Connection, FromConnection}
 use Rattle.turn_client_proto_step_laws.specs.RunClient.{Client}
 use Rattle.turn_desk_step_laws.specs.TurnRuns.Runs.{AtClient, AtDesk, AtEach, AtSome, Step}
-use Rattle.turn_desk_step_laws.specs.TurnRuns.Steps.{Call, ClientStep, Told}
+use Rattle.turn_desk_step_laws.specs.TurnRuns.Steps.{Call, ClientStep, Reported}
 use Rattle.turn_desk_event.specs.declared.answer.Answer.{Answer}
 use Rattle.turn_desk_event.specs.declared.answer.Answer.TheVariants as answer
 use Rattle.turn_desk_event.specs.declared.event.ClientCall.TheVariants as call
@@ -17,65 +18,72 @@ use Rattle.turn_desk_event.specs.declared.event.Event.{Event}
 use Rattle.turn_desk_event.specs.declared.event.Event.TheVariants as event
 use Rattle.turn_desk_step_laws.specs.DeskRun.{DeskCall}
 use Rattle.turn_desk_world.specs.Model.{World}
-use Rattle.turn_desk_world_laws.specs.Told.{IsToldBy}
+use Rattle.turn_desk_world_laws.specs.Reported.{IsReportedBy}
 
 -- ---- connections of an own address
 
--- the client of a world keeps no bound connection of an own address
+-- The client of the simulation has no bound connection with this local address in its lists.
 abbrev pub HasNoneOver : (here : SocketAddr) → World → Type 0
-HasNoneOver here w = (k : Kept) → w.client ≡ Some k → (peer : SocketAddr) (number : ℕ)
-    → IsKept k.core.allocations (Connection here peer number) → ⊥
+HasNoneOver here w = (k : ClientState) → w.client ≡ Some k → (peer : SocketAddr) (transaction_id : ℕ)
+    → IsStored k.core.allocations (Connection here peer transaction_id) → ⊥
 
--- in this step a connection was bound: it is among what the step gains, each of which a response brings that came
-abbrev pub IsBoundIn : (here peer : SocketAddr) → (number : ℕ) → Step Client DeskCall → Type 0
-IsBoundIn here peer number (AtClient call) = (step : ClientStep client_words call) × (t : Told) × IsIn t step.gained
-    × (t.held ≡ Connection here peer number)
-IsBoundIn here peer number (AtDesk d) = ⊥
+-- A connection was bound in this step: it is among what the step gains. Each thing gained is brought by a
+-- response that the step handled.
+abbrev pub IsBoundIn : (here peer : SocketAddr) → (transaction_id : ℕ) → Step Client DeskCall → Type 0
+IsBoundIn here peer transaction_id (AtClient call) = (step : ClientStep client_words call) × (t : Reported) × IsIn t step.gained
+    × (t.held ≡ Connection here peer transaction_id)
+IsBoundIn here peer transaction_id (AtDesk d) = ⊥
 
--- in some step of these
-abbrev pub WasBound : (here peer : SocketAddr) → (number : ℕ) → List (Step Client DeskCall) → Type 0
-WasBound here peer number steps = AtSome (λ s _. IsBoundIn here peer number s) steps
+-- The connection was bound in one of these steps.
+abbrev pub WasBound : (here peer : SocketAddr) → (transaction_id : ℕ) → List (Step Client DeskCall) → Type 0
+WasBound here peer transaction_id steps = AtSome (λ s _. IsBoundIn here peer transaction_id s) steps
 
--- by a call, the newest of these steps: each bound connection of an own address that the client then keeps, or shows, and
--- one for all bytes of a peer that it hands over of that address, was bound in them
+-- The call is the newest of the steps `since`. Each bound connection with this local address that the client
+-- has in its lists afterwards, or that the call lists, was bound in these steps. If the call delivers bytes
+-- of a peer that came to this address, a connection to that peer was bound in them.
 pub record IsBoundSince (here : SocketAddr) (call : Call Client) (since : List (Step Client DeskCall)) : Type 0 where
-  pub kept : (peer : SocketAddr) (number : ℕ) → client_words.IsKept call.after (Connection here peer number)
-      → WasBound here peer number since
-  pub shown : (peer : SocketAddr) (number : ℕ) → IsIn (Connection here peer number) call.shown
-      → WasBound here peer number since
+  pub stored : (peer : SocketAddr) (transaction_id : ℕ) → client_words.IsStored call.after (Connection here peer transaction_id)
+      → WasBound here peer transaction_id since
+  pub visible : (peer : SocketAddr) (transaction_id : ℕ) → IsIn (Connection here peer transaction_id) call.visible
+      → WasBound here peer transaction_id since
   pub given : (peer : SocketAddr) (bytes : List ℕ) → IsIn (FromConnection here peer bytes) call.payloads
-      → (number : ℕ) × WasBound here peer number since
+      → (transaction_id : ℕ) × WasBound here peer transaction_id since
 
--- so it is at a step of a run, behind the others since
+-- The same for a step of a run, after the steps `earlier`.
 abbrev pub BoundSince : (here : SocketAddr) → Step Client DeskCall → List (Step Client DeskCall) → Type 0
 BoundSince here (AtClient call) earlier = IsBoundSince here call (AtClient call ∷ earlier)
 BoundSince here (AtDesk d) earlier = Unit {0}
 
 -- ---- a run in two parts
 
--- steps of a run are those of some events, and of others behind them, with the world between
+-- The steps of a run are those of some events, and then those of the events after them, with the state
+-- between.
 pub record IsParted (old : World) (before after : List (Event × Answer)) (run : List (Step Client DeskCall))
     (new : World) : Type 0 where
   pub between : World
   pub earlier : List (Step Client DeskCall)
   pub later : List (Step Client DeskCall)
   pub run_is : run ≡ later ++ earlier
-  pub told_before : IsToldBy old before earlier between
-  pub told_after : IsToldBy between after later new
+  pub reported_before : IsReportedBy old before earlier between
+  pub reported_after : IsReportedBy between after later new
 
--- the caller said that a socket was closed, and it was done
+-- The caller reported that a socket was closed, and the result is `Done`.
 abbrev pub closing : (here there : SocketAddr) → (now : ℕ) → Event × Answer
 closing here there now = (event.Call (call.TcpClosed here there) now, answer.Done)
 
--- the client of a world is one over TCP, with this server
+-- The simulation has a client over TCP, with this server.
 abbrev pub IsServedBy : (there : SocketAddr) → World → Type 0
-IsServedBy there w = (k : Kept) × (w.client ≡ Some k) × (k.core.agent.transport ≡ Tcp) × (k.core.server ≡ there)
+IsServedBy there w = (k : ClientState) × (w.client ≡ Some k) × (k.core.agent.transport ≡ Tcp) × (k.core.server ≡ there)
 
 -- ---- what ends
 
--- of an account of some events, wherever it is parted: where the client keeps no bound connection of an own address, each
--- that it keeps, shows or hands bytes of later was bound later; and behind the close of a socket between an own address and
--- its server it keeps none of that address
+-- What holds of an account of some events, wherever the events are divided into those before and those after:
+--
+-- - `parted`: The account can be divided in the same way.
+-- - `since`: If the client has no bound connection with a local address in between, each connection with that
+--   address that it has, lists or delivers bytes of later was bound later.
+-- - `closed`: If the last event before was the close of the socket between that local address and the
+--   client's server, the client has no bound connection with that address.
 pub record EndWithSockets (old : World) (pairs : List (Event × Answer)) (run : List (Step Client DeskCall))
     (new : World) : Type 0 where
   pub parted : (before after : List (Event × Answer)) → pairs ≡ before ++ after → IsParted old before after run new

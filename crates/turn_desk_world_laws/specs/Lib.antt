@@ -3,8 +3,8 @@ pub mod Copies
 pub mod Ends
 pub mod Safety
 pub mod SocketCalls
-pub mod Told
--- What stands above this crate has these through it.
+pub mod Reported
+-- Crates that build on this one reach these definitions through it.
 pub use Rattle.turn_desk_world.specs.TurnClientProtoConnection as TurnClientProtoConnection
 pub use Rattle.turn_desk_world.specs.TurnClientProtoPeers as TurnClientProtoPeers
 pub use Rattle.turn_desk_world.specs.TurnClientProtoPayload as TurnClientProtoPayload

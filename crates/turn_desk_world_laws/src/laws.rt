@@ -1,6 +1,6 @@
 //! What the contract of a run means for a layer above. The functions do nothing; each contract is a
-//! law. `specs/Told.antt` has what a run of a world is in the words of a run of a client and a server,
-//! and `specs/Safety.antt` the theorem.
+//! theorem. `specs/Reported.antt` says which steps of a client and a server the events of a
+//! simulation are. `specs/Safety.antt` has the theorem.
 
 ghost use Rattle.std.specs.List.{AllByRecursion};
 ghost use Rattle.std.specs.Prelude.{◌≡◌, ◌≢◌, ◌≤◌, ◌++◌, Bool, List, ℕ, [], ◌∷◌, Some, length, true, Vec};
@@ -19,19 +19,19 @@ ghost use Rattle.turn_client_proto_step_laws.specs.Recv.Control.{Datagrams, Open
 ghost use Rattle.turn_desk_step_laws.specs.TurnRuns.Messages.{Allocation, Channel, Connection, Permission, Reported};
 ghost use Rattle.turn_desk_step_laws.specs.TurnRuns.Runs.{Step};
 ghost use Rattle.turn_desk_core.specs.DeskCalls.{AreAlike as AreAlikeDesks};
-ghost use Rattle.turn_desk_step_laws.specs.DeskRun.{AreTold, DeskCall};
+ghost use Rattle.turn_desk_step_laws.specs.DeskRun.{AreReported, DeskCall};
 ghost use Rattle.turn_desk_event.specs.declared.answer.Answer.{Answer};
 ghost use Rattle.turn_desk_event.specs.declared.answer.Answer.TheVariants as answer;
 ghost use Rattle.turn_desk_event.specs.declared.event.ClientCall.TheVariants as call;
 ghost use Rattle.turn_desk_event.specs.declared.event.Event.{Event};
 ghost use Rattle.turn_desk_event.specs.declared.event.Event.TheVariants.{Call, ToClient};
-ghost use Rattle.turn_desk_world_laws.specs.AddressRuns.{AreAnsweredAlike, StandsAlone, come_from};
+ghost use Rattle.turn_desk_world_laws.specs.AddressRuns.{AreAnsweredAlike, IsIsolated, come_from};
 ghost use Rattle.turn_desk_world.specs.Model.{World};
 ghost use Rattle.turn_desk_world.specs.Runs.{IsRun};
 ghost use Rattle.turn_desk_core.specs.StunTypesWire.Headers.{AreBytes};
 ghost use Rattle.stun_types_base.specs.declared.transmit.Transmit.{Transmit};
 ghost use Rattle.stun_types_base.specs.declared.transport.TransportType.{TransportType};
-ghost use Rattle.turn_client_proto_step_laws.specs.Recv.Kept.{Kept, over_udp};
+ghost use Rattle.turn_client_proto_step_laws.specs.Recv.ClientState.{ClientState, over_udp};
 ghost use Rattle.turn_client_proto_step_laws.specs.Recv.Receipts.{IsReceived};
 ghost use Rattle.turn_desk_event.specs.TurnClientProtoApi.declared.answer.TurnRecvRet.{TurnRecvRet};
 ghost use Rattle.turn_desk_event.specs.TurnClientProtoApi.declared.answer.TurnRecvRet.TheVariants as recv;
@@ -40,14 +40,18 @@ ghost use Rattle.turn_client_proto_step_laws.specs.RunSteps.{IsGiving};
 ghost use Rattle.turn_client_proto_step_laws.specs.Sound.{IsSound, IsWhole};
 ghost use Rattle.turn_desk_world_laws.specs.Copies.{AreAlike, IsCopy};
 ghost use Rattle.turn_desk_world.specs.Determined.{AreSame, HaveSameEvents};
-ghost use Rattle.turn_desk_world_laws.specs.Safety.{BeginsNew, IsAccount, IsCarried, IsDataBrought, IsDataKept, IsLastAnswered, IsSafeRun, WasGranted, last_taken};
-ghost use Rattle.turn_desk_world_laws.specs.Told.{IsReadBack, given_by};
+ghost use Rattle.turn_desk_world_laws.specs.Safety.{BeginsNew, IsAccount, IsCarried, IsDataBrought, IsDataStored, IsLastAnswered, IsSafeRun, WasGranted, last_taken};
+ghost use Rattle.turn_desk_world_laws.specs.Reported.{IsReadBack, given_by};
 
 use std::convert::AsSlice;
 use turn_desk_core::laws as desk_laws;
 
-/// A run in two parts is the run whole. Where some events were answered so, and then some others, all of
-/// them are answered so by one run; and where all are, some of them are first, and the others then.
+/// A run can be joined from two parts, and parted into two.
+///
+/// - `joined`: If some events are a run from one state to another, and further events a run from
+///   there, all of them together are a run, with the same results.
+/// - `parted`: If the events of two lists together are a run, there is a state between, to which
+///   the first list is a run and from which the second list is one.
 pub fn parts_make_a_run()
     ensures joined { (old between new : World) (first second : List (Event × Answer))
         → IsRun old first between → IsRun between second new
@@ -57,28 +61,29 @@ pub fn parts_make_a_run()
         → (between : World) × IsRun old first between × IsRun between second new }
 {}
 
-/// Relayed addresses without flow information and scope are told whole by a response, under whatever
-/// number: XOR-RELAYED-ADDRESS loses those two alone (RFC 8656, section 18.5). So the theorem on runs can
-/// be used wherever such addresses are decided.
+/// `relayed`: Relayed addresses without flow information and scope are decoded unchanged from a
+/// response with any transaction ID: XOR-RELAYED-ADDRESS loses only these two (RFC 8656, section
+/// 18.5). So the theorem on runs applies wherever such addresses are decided.
 ///
-/// A peer that is to be bound is asked to be such an address, too. Then the desk reads it whole from a
-/// request under whatever number: XOR-PEER-ADDRESS loses those two alone (RFC 8656, section 18.3). So the
-/// theorem can be used wherever a channel is asked for to a peer that a request can carry.
-pub fn relayed_addresses_are_told()
+/// `peers`: A peer without flow information and scope is decoded unchanged from a request with any
+/// transaction ID: XOR-PEER-ADDRESS loses only these two (RFC 8656, section 18.3). So the theorem
+/// applies wherever a channel is requested to a peer that a request can carry.
+pub fn relayed_addresses_are_reported()
     ensures relayed { (number : ℕ) (relayed : List SocketAddr)
         → AllByRecursion IsWhole relayed
-        → AreTold number relayed }
+        → AreReported number relayed }
     ensures peers { (number : ℕ) (peer : SocketAddr)
         → IsWhole peer
         → IsReadBack number peer }
 {}
 
-/// A world begins new with a client as `TurnClientUdp::allocate` or `TurnClientTcp::allocate` makes it, of a
-/// name that has room in a request (RFC 8489, section 14.3) and two families of addresses at most. So the
-/// theorem on runs can be used wherever a client is made.
+/// A simulation begins new (`BeginsNew`) if its client is as `TurnClientUdp::allocate` or
+/// `TurnClientTcp::allocate` makes it, its user name fits into a request (RFC 8489, section 14.3),
+/// and it is configured for at most two address families. So the theorem on runs applies wherever a
+/// client is made.
 pub fn new_clients_begin_new()
     ensures udp { (transport : TransportType) (here server : SocketAddr) (config : Config)
-        (seed : List ℕ) (k : Kept) (w : World)
+        (seed : List ℕ) (k : ClientState) (w : World)
         → w.client ≡ Some k
         → IsNew transport here server config seed k.core
         → length config.credentials.username ≤ longest_username
@@ -86,7 +91,7 @@ pub fn new_clients_begin_new()
         → k.control ≡ Datagrams
         → BeginsNew transport here server config seed k.core w }
     ensures tcp { (transport : TransportType) (here server : SocketAddr) (config : Config)
-        (seed : List ℕ) (k : Kept) (w : World)
+        (seed : List ℕ) (k : ClientState) (w : World)
         → w.client ≡ Some k
         → IsNew transport here server config seed k.core
         → length config.credentials.username ≤ longest_username
@@ -95,40 +100,64 @@ pub fn new_clients_begin_new()
         → BeginsNew transport here server config seed k.core w }
 {}
 
-/// Whatever events come to a world of a new client and any desk, their answers are steps of a run of
-/// a client and a server: one each; but over TCP, where a piece of the stream is one step in which the
-/// whole frames that it completes come, and one for each frame that is taken up. A piece of what comes
-/// over the socket of a connection that is to be bound is one step for each message that is taken up, and
-/// two in which what is kept of it is taken out and put back (RFC 6062, section 4.3). Where nothing that
-/// arrives was forged under a key of the client's in a realm that the run names, and no number is drawn
-/// twice, each step is safe ([`turn_desk_world::world::World::run`] says what that presumes).
-/// Nothing is answered as created twice for one request, and each relayed address, each permission, each
-/// channel and each bound connection that the client shows was granted by the desk before: a channel with
-/// that number and to that peer, in answer to a CHANNEL_BIND that the client drew; a connection with that
-/// number and to that peer, in answer to a CONNECTION_BIND. So it is of every account that is given of the
-/// run, and as many numbers count as drawn as the client's generator gave.
+/// Every run of a simulation is safe, whatever its events are. This is clause `safe` of
+/// [`turn_desk_world::world::World::run`], which says what the premises are.
 ///
-/// So all that the client holds was granted in answer to that very request, whatever the network
-/// loses, repeats, reorders or invents. It takes for granted that the relayed addresses which the driver
-/// decides, and the peers to which it asks for channels and connections, have no flow information and no
-/// scope.
+/// # Events as steps
 ///
-/// A connection ends with its socket (RFC 6062, section 4.6): behind the close of a socket between an own
-/// address and its server, a client over TCP keeps no bound connection of that address, shows none, and hands
-/// no bytes over of one, but such as was bound since. That takes nothing for granted of who signed what.
+/// The results are steps of a run of a client and a server core. Each event is one step, with these
+/// exceptions:
+///
+/// - Over TCP, a chunk of the stream from the server is one step in which the frames that it
+///   completes arrive, and one more for each frame that is handled.
+/// - A chunk on the socket of a connection that is still to be bound is one step for each message
+///   that is handled, and two more in which the buffered bytes are taken out and put back (RFC
+///   6062, section 4.3).
+/// - A call of `poll_recv` that doesn't return bytes of a bound connection is one step for each
+///   buffered frame that is handled, so none over UDP.
+///
+/// # Conclusions
+///
+/// If the client is new, the events are fair, nothing that arrives is forged under a key that
+/// counts, and no transaction ID is generated twice:
+///
+/// - Each step is safe. So the server core granted all that the client holds, in response to that
+///   very request, whatever the network loses, repeats, reorders or invents.
+/// - Nothing is returned as created twice for the same request.
+/// - The server core had granted each relayed address, permission, channel and bound connection
+///   that the client lists: a channel with that number to that peer, in response to a CHANNEL_BIND
+///   that the client transmitted; a connection with that connection ID to that peer, in response to
+///   a CONNECTION_BIND.
+///
+/// This holds of every description of the run as steps (account), and each counts as many generated
+/// transaction IDs as the client's generator gave. "Fair" means: the relayed addresses that the
+/// driver decides, and the peers to which it requests channels and connections, have no flow
+/// information and no scope.
+///
+/// A connection ends with its socket (RFC 6062, section 4.6). After the socket between a local
+/// address and the server was closed, a client over TCP has no bound connection with that local
+/// address, lists none, and delivers no bytes of one, except those that were bound since. This
+/// needs only that the client is new and the events are fair: it has no premise on who signed what.
 pub fn runs_of_a_world_are_safe()
     ensures { (old new : World) (pairs : List (Event × Answer))
         → IsRun old pairs new
         → IsSafeRun old pairs new }
 {}
 
-/// What the theorem says of what a client shows, in the words of the answers. Where the last event of a
-/// run asked the client for its relayed addresses, permissions, channels or connections, or whether it has
-/// a permission, the desk granted each that the answer names in that run, in answer to a request of the
-/// client's: an allocation over that transport with that address, a permission for that address, a channel
-/// with that number and to that peer, a connection with that number that is shown as bound, and to that
-/// peer. A run of more events has such a run in front ([`parts_make_a_run`]), so it is
-/// of each answer.
+/// What the theorem says of what a client lists, in terms of the results.
+///
+/// Premise: the last event of a run is one of the calls below, with this result, and the run is one
+/// of which the theorem's promise holds (`IsLastAnswered`). Conclusion: unless something was forged
+/// or a transaction ID was generated twice, the server core granted each item in the result during
+/// that run, in response to a request of the client's:
+///
+/// - `addresses`: an allocation over that transport with that relayed address
+/// - `permissions`, `had`: a permission for that address
+/// - `channels`: a channel with that number to that peer
+/// - `connections`: a connection with that connection ID to that peer, if it is listed as bound
+///
+/// Each result of a longer run is the last of a shorter one ([`parts_make_a_run`]), so the theorem
+/// applies to each.
 pub fn answers_show_what_was_granted()
     ensures addresses { (first last : Client) (run : List (Step Client DeskCall)) (now : ℕ)
         (list : Vec (TransportType × SocketAddr) Global)
@@ -159,16 +188,29 @@ pub fn answers_show_what_was_granted()
         → WasGranted first run last (Connection here peer number) }
 {}
 
-/// What the theorem says of what a client hands over, in the words of the answers. Where by the last
-/// event of a run bytes came to the client, or it was asked for what waits, and it gave data of a peer, a
-/// frame that was taken up last carries just this data: as the value of the last DATA of an indication
-/// that names the peer, whose permission the desk granted in that run, in answer to a request of the
-/// client's; or as the data of a channel frame, whose channel to the peer it granted so. A report is that
-/// of the last ICMP of such an indication, without a DATA. Over UDP that frame is the datagram which came.
-/// Over TCP it is a whole frame of the stream. Or else the data are bytes that came over the socket of a
-/// connection to the peer (RFC 6062, section 4.5): the desk granted that very connection so. Bytes that
-/// come to an own address are told of the connection that has it, as they came, behind those that waited.
-/// No key protects such bytes, and the theorem says nothing of who sent them.
+/// What the theorem says of what a client delivers, in terms of the results.
+///
+/// Premise: by the last event of a run bytes came to the client, or it was polled for buffered
+/// data, and the result is data or a report from a peer; and the run is one of which the theorem's
+/// promise holds. "Granted" means: unless something was forged or a transaction ID was generated
+/// twice, the server core granted it during that run, in response to a request of the client's.
+///
+/// - `came`, `waited`: A frame that was handled in the last step carries exactly this data; or the
+///   data are bytes that came on the socket of a connection to the peer (RFC 6062, section 4.5),
+///   and that very connection was granted.
+/// - `reports`: A frame that was handled in the last step carries exactly this report, as the last
+///   ICMP of a DATA indication without DATA, which names the peer. The peer's permission was
+///   granted.
+/// - `datagrams`: Over UDP the only frame that was handled is the datagram that came. (Over TCP it
+///   is a complete frame of the stream.)
+///
+/// A frame carries data in one of two ways: as the value of the last DATA of an indication that
+/// names the peer, whose permission was granted; or as the data of a channel frame, whose channel
+/// to the peer was granted.
+///
+/// Bytes that come to a local address are reported as from the peer of the connection that has this
+/// address, unchanged, after those that were buffered. No key protects these bytes, and the theorem
+/// says nothing about who sent them.
 pub fn answers_give_what_was_delivered()
     ensures came { (first last : Client) (run : List (Step Client DeskCall)) (now : ℕ)
         (bytes : Vec ℕ Global) (from to : SocketAddr) (given : PeerPayload)
@@ -177,7 +219,7 @@ pub fn answers_give_what_was_delivered()
     ensures waited { (first last : Client) (run : List (Step Client DeskCall)) (now : ℕ)
         (given : PeerPayload)
         → IsLastAnswered (Call call.PollRecv now) (answer.Peer given) first run last
-        → IsDataKept first run last given }
+        → IsDataStored first run last given }
     ensures reports { (first last : Client) (run : List (Step Client DeskCall)) (now : ℕ)
         (bytes : Vec ℕ Global) (from to : SocketAddr) (transport : TransportType)
         (peer : SocketAddr) (kind code details : ℕ)
@@ -189,23 +231,25 @@ pub fn answers_give_what_was_delivered()
         (λ frame. Permission transport (socket_ip peer)) }
     ensures datagrams { (first last : Client) (run : List (Step Client DeskCall)) (now : ℕ)
         (bytes : Vec ℕ Global) (from to : SocketAddr) (ret : Answer)
-        (is : IsLastAnswered (ToClient bytes from to now) ret first run last) (k : Kept)
+        (is : IsLastAnswered (ToClient bytes from to now) ret first run last) (k : ClientState)
         → is.new.client ≡ Some k → k.control ≡ Datagrams
         → last_taken run ≡ bytes.items ∷ [] }
 {}
 
-/// All accounts of a run count as many numbers as drawn: how many is no account's choice.
+/// All accounts of a run count equally many generated transaction IDs: the count is not the
+/// account's choice.
 pub fn accounts_count_alike()
     ensures { (first : Client) (old new : World) (pairs : List (Event × Answer))
         (run other : List (Step Client DeskCall)) (last left : Client)
         → IsAccount first old pairs new run last
         → IsAccount first old pairs new other left
-        → last.drawn ≡ left.drawn }
+        → last.transmitted ≡ left.transmitted }
 {}
 
-/// A run is determined. Of two runs of the same events from the same world the answers say the same, and
-/// the worlds that they lead to are equal, where no two of the desk's users have the same USERHASH: for
-/// of such ones a request may name either (RFC 8489, section 14.4). A run that was refused memory is none.
+/// The events of a run determine it. If two runs have the same events and begin in the same state,
+/// their results are the same and they leave the same state. Premise: no two of the server core's
+/// users have the same USERHASH, because a request with such a hash may name either user (RFC 8489,
+/// section 14.4). A run that ran out of memory is no run.
 pub fn runs_are_determined()
     ensures { (old new left : World) (pairs others : List (Event × Answer))
         → HashesDiffer old.desk.auth
@@ -215,18 +259,22 @@ pub fn runs_are_determined()
         → AreSame pairs others × (new ≡ left) }
 {}
 
-/// One datagram at one moment: what `recv` answers, and what the client is then, are one, unless
-/// memory was refused. So it is of two datagrams that differ in nothing but where their bytes lie:
-/// both are handled, or each is given back, or both give the same of a peer.
+/// What `recv` returns for a datagram at a time, and the client's state afterwards, are determined,
+/// unless an allocation failed.
+///
+/// - `same`: Of two calls with the same datagram, the results and the states afterwards are equal.
+/// - `copied`: If the two datagrams differ only in where their bytes are in memory, the states
+///   afterwards are equal; and both are handled, or each is given back, or both give the same data
+///   or report from a peer.
 pub fn receiving_is_definite<T: AsSlice<u8>>()
-    ensures same { (old one other : Kept) (came : Transmit T) (now : ℕ)
+    ensures same { (old one other : ClientState) (came : Transmit T) (now : ℕ)
         (answer again : TurnRecvRet T)
         → answer ≢ recv.NoMemory came
         → again ≢ recv.NoMemory came
         → IsReceived T.items old came now answer one
         → IsReceived T.items old came now again other
         → (answer ≡ again) × (one ≡ other) }
-    ensures copied { (old one other : Kept) (came copy : Transmit T) (now : ℕ)
+    ensures copied { (old one other : ClientState) (came copy : Transmit T) (now : ℕ)
         (answer again : TurnRecvRet T)
         → IsCopy T.items came copy
         → answer ≢ recv.NoMemory came
@@ -236,29 +284,35 @@ pub fn receiving_is_definite<T: AsSlice<u8>>()
         → AreAlike came copy answer again × (one ≡ other) }
 {}
 
-/// `recv` of a client over UDP is a step, whatever datagram came, and leaves a sound client sound: what is
-/// neither a message nor a channel frame, or did not come from the server, changes nothing. What it gives
-/// of a peer is handed over in that step.
+/// `recv` of a client over UDP is a step of a run and preserves the client's invariant, whatever
+/// datagram came. What it returns from a peer is delivered in that step. (A datagram changes
+/// nothing if it is neither a message nor a channel frame, or did not come from the server.)
 pub fn receipts_are_steps<T: AsSlice<u8>>()
-    ensures { (c : Client) (came : Transmit T) (now : ℕ) (answer : TurnRecvRet T) (new : Kept)
+    ensures { (c : Client) (came : Transmit T) (now : ℕ) (answer : TurnRecvRet T) (new : ClientState)
         → IsSound c
         → AreBytes (T.items came.bytes)
         → IsReceived T.items (over_udp c.core) came now answer new
         → IsGiving c (T.items came.bytes) (given_by (T.items came.bytes) answer) new.core }
 {}
 
-/// Addresses are apart in a world: what the desk answers and grants to an address is fixed by what reaches
-/// it from that address. Of any run, these events alone are answered the same in any world whose desk
-/// the address can't tell from the one of the run, whatever its client is, or where there is none; and
-/// the address can't tell the desk that is left from the one that the run left: the same was granted to
-/// it, in the same order. And two runs in which the same reaches such desks from an address give it the
-/// same answers, where no two users have the same USERHASH (RFC 8489, section 14.4).
-pub fn addresses_stand_alone()
+/// Non-interference: what the server core answers and grants to an address depends only on what
+/// reaches it from that address. An address can't distinguish two server cores if they have the
+/// same realm, users and settings, store the same for the address, and granted it the same, in the
+/// same order.
+///
+/// - `alone`: Delete from a run all events but those by which bytes from the address reach the
+///   server core. They have the same results in any simulation whose server core the address can't
+///   distinguish from that of the run, whatever its client is, if it has one. Nor can the address
+///   distinguish the server cores afterwards.
+/// - `fixed`: If the same bytes reach two such server cores from the address, it gets the same
+///   results, and can't distinguish the server cores afterwards. Premise: no two users have the
+///   same USERHASH (RFC 8489, section 14.4).
+pub fn addresses_are_isolated()
     ensures alone { (address : SocketAddr) (old other new : World)
         (pairs : List (Event × Answer))
         → AreAlikeDesks address old.desk other.desk
         → IsRun old pairs new
-        → StandsAlone address other pairs new }
+        → IsIsolated address other pairs new }
     ensures fixed { (address : SocketAddr) (old other new left : World)
         (pairs others : List (Event × Answer))
         → AreAlikeDesks address old.desk other.desk
@@ -268,5 +322,5 @@ pub fn addresses_stand_alone()
         → IsRun other others left
         → AreAnsweredAlike address pairs others new left }
 {
-    desk_laws::addresses_stand_alone();
+    desk_laws::addresses_are_isolated();
 }

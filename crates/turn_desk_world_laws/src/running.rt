@@ -1,4 +1,4 @@
-//! Runs of a world, and the theorem on them.
+//! Runs of a simulation, and the theorem on them.
 
 ghost use Rattle.std.specs.Prelude.{◌≡◌, IfOk, OnErr, OnOk, false, length, true};
 ghost use Rattle.std.specs.List.{zip};
@@ -10,47 +10,71 @@ use turn_desk_event::answer::Answer;
 use turn_desk_event::event::Event;
 use turn_desk_world::world::World;
 
-/// The runs of a world.
+/// The runs of a simulation.
 pub trait Runs {
-    /// Lets the events happen in order, and answers each.
+    /// Executes the events in order, and returns the result of each.
     fn run(&mut self, events: &[Event]) -> Result<Vec<Answer>, NoMemory>;
 }
 
 impl Runs for World {
-    /// Lets the events happen in order, and answers each. Where a call of the client or of the desk is
-    /// refused memory, `NoMemory`; so is every later run. A client event with no client, or at a moment
-    /// past `CLIENT_END`, is answered `OutOfRange`.
+    /// Executes the events in order, and returns the result of each. The result of a client's event
+    /// is `OutOfRange` if there is no client, or if the event's time is after `CLIENT_END`.
     ///
-    /// # What `safe` presumes
+    /// # Errors
     ///
-    /// - The client was new when the run began. The relayed addresses that the driver decides, and the peers
-    ///   for which it asks the client for channels and connections, have no flow information and no scope.
-    /// - No transaction ID comes twice among those that the client drew in the run (`AreDistinct`).
-    /// - Nothing was forged (`NoForgery`). A message that validates under a key that counts, by the algorithm
-    ///   which that key is for, was signed earlier in the run, by the client or by the desk. This is presumed
-    ///   of a message with one of the client's own transaction IDs, at the client and at the desk; and at the
-    ///   client of a CONNECTION_ATTEMPT request, which has an ID of its server's.
+    /// - `NoMemory`: an allocation failed, now or in an earlier call. Every later run fails in this
+    ///   way too.
     ///
-    /// A key counts that is of the client's name and password, in a realm that the run names: the desk's
-    /// own, or one that is named by a challenge which arrives at the client, forged or not (a new client
-    /// keeps none yet: law `new_clients_keep_no_realm`). So three keys count for each realm, one for each
-    /// algorithm; and none in a realm that the run does not name.
+    /// # Premises of the theorem
     ///
-    /// That a connection ends with its socket needs only the first of the three.
+    /// Clause `safe` is the theorem. Its first two premises are:
+    ///
+    /// 1. The client is new when the run begins (`BeginsNew`).
+    /// 2. The relayed addresses that the driver decides, and the peers for which it asks the client
+    ///    for channels and connections, have no flow information and no scope (`IsFair`).
+    ///
+    /// What it promises of the client's steps and of the server core's (`IsPromised`) has two more
+    /// premises:
+    ///
+    /// 3. No two of the transaction IDs that the client generated in the run are equal
+    ///    (`AreDistinct`).
+    /// 4. Nothing was forged (`NoForgery`): if a message arrives and validates under a key that
+    ///    counts, by the algorithm of that key, the client or the server core signed it under that
+    ///    key, earlier in the run. This is presumed only of two kinds of messages: one with one of
+    ///    the client's own transaction IDs, which arrives at the client or at the server core; and
+    ///    a CONNECTION_ATTEMPT request that arrives at the client, which has an ID of its server's.
+    ///
+    /// A key counts if it is the key of the client's user name and password in a realm that the run
+    /// names, for one of the algorithms. So three keys count for each such realm, one for each
+    /// algorithm, and none in any other realm. The run names the server core's own realm, and each
+    /// realm in a challenge that arrives at the client, forged or not. A new client remembers no
+    /// realm yet (theorem `new_clients_keep_no_realm`).
+    ///
+    /// That a connection ends with its socket (`EndWithSockets`) needs only premises 1 and 2.
     fn run(&mut self, events: &[Event]) -> Result<Vec<Answer>, NoMemory>
         ensures each { IfOk result (λ answers. length answers.items ≡ length events.now) }
         ensures run { IfOk result (λ answers.
             IsRun self.old (zip events.now answers.items) self.new) }
-        // The desk's answers are those to its events alone, and the client's those to the others; and
-        // to those events none is answered otherwise.
+        // The server core's events alone give its results, and the client's events alone give the
+        // client's. No other results are possible; for the server core this has the premise that no
+        // two of its users have equal USERHASHes.
         ensures sides { IfOk result (λ answers.
             IsRunOfEach self.old (zip events.now answers.items) self.new) }
-        // Where the client was new, nothing was forged and no transaction ID came twice, all that it holds
-        // was granted in answer to that very request, and nothing is told as created twice for one. So it
-        // is of each address, each permission, each channel and each bound connection that it shows: a
-        // channel or a connection with that number and to that peer. Data that it gives names what it
-        // holds, or comes over the socket of a connection that it holds. Behind the close of a socket no
-        // connection of its own address is held but one that was bound since.
+        // If premises 1 to 4 hold:
+        //
+        // - The server core granted all that the client holds, in response to the client's own
+        //   request for it.
+        // - Nothing is returned as created twice for the same request.
+        // - The server core had granted each address, permission, channel and bound connection that
+        //   a getter lists, in response to the client's own request for it: a channel with that
+        //   number to that peer, a connection with that connection ID to that peer.
+        // - Data or a report from a peer names something in the client's lists that was granted in
+        //   this way: the peer's permission or channel, or the connection on whose socket the data
+        //   came.
+        //
+        // If premises 1 and 2 hold: after the socket between a local address and the server was
+        // closed, a client over TCP has no bound connection with that local address, except those
+        // that were bound since.
         ensures safe { IfOk result (λ answers.
             IsSafeRun self.old (zip events.now answers.items) self.new) }
         ensures err { OnErr result (self.new.is_failed ≡ true) }
@@ -69,7 +93,8 @@ impl Runs for World {
     }
 }
 
-/// The same, where memory may have been refused.
+/// Executes the events in order, and returns the result of each. On an error it does not mark the
+/// simulation as failed: that is left to `run`.
 fn run_each(world: &mut World, events: &[Event]) -> Result<Vec<Answer>, NoMemory>
     ensures each { IfOk result (λ answers. length answers.items ≡ length events.now) }
     ensures run { IfOk result (λ answers.

@@ -1,12 +1,15 @@
-//! One exchange between a client and a desk that supports Sha1 and Sha256, through the library's own
-//! calls. The client is challenged. It is granted by HMAC-SHA256, and again, under the hash of its name,
-//! by HMAC-SHA1; its first signed request then comes from another address. Each step prints a line:
-//! what was made, or what the desk replied, which nonce it then keeps for the address, and how many
-//! grants there are.
+//! One exchange between a client and a server core that supports HMAC-SHA1 and HMAC-SHA256, through
+//! the library's own calls. The client is challenged. Its request is granted with HMAC-SHA256, and
+//! again, with the hash of its user name, with HMAC-SHA1. Then its first signed request comes from
+//! another address. Each step prints a line: what was made, or the server's reply, with the nonce
+//! that the server then stores for the address and the count of grants.
 //!
-//! A step that is refused memory prints `no memory` in place of the reply, and is taken once more. The
-//! exit status is 0 where no step was refused memory, 2 where one was, and 3 where one was refused it
-//! twice, with which the exchange ends.
+//! A step in which a memory allocation fails prints `no memory` in place of the reply, and is
+//! repeated once. The exit status is
+//!
+//! - 0 if no step ran out of memory;
+//! - 2 if one did;
+//! - 3 if one did twice, which ends the exchange.
 #![tactic(auto)]
 
 mod requests;
@@ -25,7 +28,7 @@ fn main(rt: HostRuntime) -> io::Result<ExitCode> {
     status
 }
 
-/// Takes all steps of an exchange, and answers the exit status.
+/// Runs all steps of an exchange, and returns the exit status.
 fn take_all(rt: &impl Print, exchange: &mut Exchange) -> io::Result<ExitCode> {
     let mut status = 0;
     for step in &STEPS {

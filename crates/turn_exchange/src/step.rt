@@ -6,28 +6,28 @@ use std::net::{IpAddr, Ipv4Addr, SocketAddr};
 /// A step of the exchange.
 #[derive(Clone, Copy)]
 pub(crate) enum Step {
-    /// A desk of the realm `realm` is made, which supports Sha1 and Sha256.
+    /// Makes a server core with the realm `realm`, which supports HMAC-SHA1 and HMAC-SHA256.
     Desk,
-    /// The desk gets to know `user`.
+    /// Adds `user` to the server.
     User,
-    /// It is decided that 203.0.113.5:50000 is relayed for ten minutes.
+    /// Makes the decision to allocate 203.0.113.5:50000 for ten minutes.
     Decision,
-    /// A request reaches the desk.
+    /// Passes a request to the server.
     Request(Request),
 }
 
-/// A request that reaches the desk.
+/// A request to the server.
 #[derive(Clone, Copy)]
 pub(crate) struct Request {
-    /// What its line is called.
+    /// The name that its line begins with.
     pub(crate) name: &'static str,
     pub(crate) bytes: &'static [u8],
     pub(crate) sender: Sender,
-    /// The byte of which 32 are the seed of the words that a nonce is drawn of.
+    /// The byte that, repeated 32 times, is the seed of the random words for a nonce.
     pub(crate) seed: u8,
 }
 
-/// Who sends a request.
+/// The sender of a request.
 #[derive(Clone, Copy)]
 pub(crate) enum Sender {
     /// The client that is challenged.
@@ -37,7 +37,7 @@ pub(crate) enum Sender {
 }
 
 impl Sender {
-    /// The address that a request comes from.
+    /// Returns the address that the sender's requests come from.
     pub(crate) fn address(self) -> SocketAddr {
         match self {
             Sender::Client => SocketAddr::new(IpAddr::V4(Ipv4Addr::new(192, 168, 0, 1)), 1000),

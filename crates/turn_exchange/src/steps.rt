@@ -1,4 +1,4 @@
-//! The exchange: what it has made so far, and its next step.
+//! The state of the exchange, and its steps.
 
 use crate::step::{Request, Step};
 use rand_chacha::ChaCha20Rng;
@@ -15,7 +15,7 @@ use stun_types_wire::algorithm::IntegrityAlgorithm;
 use turn_desk_core::decision::Decision;
 use turn_desk_core::desk::Desk;
 
-/// What an exchange has made so far.
+/// The state of an exchange: what it has made so far.
 #[derive(Drop)]
 pub(crate) struct Exchange {
     alloc: Global,
@@ -32,7 +32,7 @@ impl Exchange {
         }
     }
 
-    /// Takes a step, and prints its line. Answers whether it had the memory that it needs.
+    /// Runs a step, and prints its line. Returns whether there was enough memory.
     pub(crate) fn take(&mut self, rt: &impl Print, step: &Step) -> io::Result<bool> {
         let (name, made) = match step {
             Step::Desk => ("desk", self.make_desk()),
@@ -82,7 +82,7 @@ impl Exchange {
         }
     }
 
-    /// Lets a request reach the desk.
+    /// Passes a request to the server.
     fn ask(&mut self, rt: &impl Print, request: &Request) -> io::Result<bool> {
         let (Some(desk), Some(decision)) = (&mut self.desk, &self.decision) else {
             return Ok(false);
@@ -91,13 +91,13 @@ impl Exchange {
         let now = Instant::from_nanos(50_000_000);
         let mut words = ChaCha20Rng::from_seed([request.seed; 32]);
         let answer = desk.handle(request.bytes, from, now, decision, &mut words);
-        let told = tell(rt, desk, request, &answer);
+        let reported = report(rt, desk, request, &answer);
         drop(answer);
-        told
+        reported
     }
 }
 
-/// The user `user`.
+/// Returns the credentials of the user `user`.
 fn user(alloc: Global) -> Result<LongTermCredentials, NoMemory> {
     match String::from_str(alloc, "user") {
         Ok(name) => match String::from_str(alloc, "pass") {
@@ -111,7 +111,7 @@ fn user(alloc: Global) -> Result<LongTermCredentials, NoMemory> {
     }
 }
 
-/// The address that is relayed.
+/// Returns the relayed address, as a list.
 fn relayed(alloc: Global) -> Result<ListOf<SocketAddr>, NoMemory> {
     let relayed = SocketAddr::new(IpAddr::V4(Ipv4Addr::new(203, 0, 113, 5)), 50_000);
     let mut addresses = ListOf::new(alloc);
@@ -124,9 +124,9 @@ fn relayed(alloc: Global) -> Result<ListOf<SocketAddr>, NoMemory> {
     }
 }
 
-/// Prints what stands after a request: the nonce that a desk keeps for who sent it, how many grants there
-/// are, and the answer. Answers whether there was memory for that.
-fn tell(
+/// Prints the state after a request: the nonce that the server stores for the sender, the count of
+/// grants, and the reply. Returns whether there was enough memory for the reply.
+fn report(
     rt: &impl Print,
     desk: &mut Desk,
     request: &Request,

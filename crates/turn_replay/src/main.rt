@@ -1,10 +1,15 @@
-//! `turn-replay`: reads a trace from standard input, and prints what each of its event lines is
-//! answered. The exit status is 0 where every line was done, 1 at a bad line, 2 where memory was
-//! refused, 3 where the trace could not be read or the answers not be written.
+//! `turn-replay`: reads a trace from standard input, and prints the result of each of its event
+//! lines. The exit status is:
 //!
-//! Input that begins with a byte `%`, as no trace does, holds several, of which such a byte begins each.
-//! Behind the answers of each it prints `status N`, N the exit status for that trace alone. It ends with
-//! 0 where the input was read, all of it kept, and the answers written, and else with 1.
+//! - 0: every line was executed.
+//! - 1: there is a bad line.
+//! - 2: an allocation failed.
+//! - 3: the trace could not be read, or the results could not be written.
+//!
+//! Input that begins with the byte `%` holds several traces, each preceded by that byte. (A single
+//! trace never begins with it.) After the results of each trace the program prints `status N`,
+//! where N is the exit status for that trace alone. The program's exit status is then 0 if the
+//! whole input was read and buffered, and the results were written; otherwise it is 1.
 #![tactic(auto)]
 
 use std::io;
@@ -12,7 +17,7 @@ use std::io::{BufRead, Read};
 use std::process::ExitCode;
 use turn_desk_world::trace::replay;
 
-/// What begins each of several traces.
+/// The byte that begins each of several traces.
 const MARK: u8 = b'%';
 
 fn main(rt: HostRuntime) -> ExitCode {
@@ -27,7 +32,7 @@ fn main(rt: HostRuntime) -> ExitCode {
     ExitCode::from(status.number())
 }
 
-/// Whether the input begins with the mark. No byte is taken.
+/// Returns whether the input begins with the mark. Consumes nothing.
 fn begins_with_mark<I: BufRead>(input: &mut I) -> bool {
     match input.fill_buf() {
         Ok(bytes) => bytes.first() == Some(&MARK),
@@ -35,7 +40,7 @@ fn begins_with_mark<I: BufRead>(input: &mut I) -> bool {
     }
 }
 
-/// Replays each of several traces, and prints its status behind its answers.
+/// Replays each of several traces, and prints its status after its results.
 fn replay_several<I: Read>(rt: &HostRuntime, input: &mut I) -> io::Result<()> {
     let mut traces = Vec::new(rt.alloc());
     input.read_to_end(&mut traces)?;

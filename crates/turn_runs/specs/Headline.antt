@@ -1,31 +1,32 @@
--- What it is to hold nothing but what the server granted in answer to that very request.
+-- What is promised of a run: all that the client holds was granted by the server core in response to the
+-- client's own request for it.
 use Rattle.std.specs.Prelude.{◌≡◌, ℕ, List, [], ◌∷◌, ◌++◌, map, Some}
 use Rattle.turn_runs.specs.Members.{IsIn, NoneTwice}
 use Rattle.turn_runs.specs.Messages.{Message, Held, Connection, Gain, Holds, Knows, IsResponse, GrantIs, Payload, NamesHeld, IsOf}
 use Rattle.turn_runs.specs.Names.{IntegrityAlgorithm, Request, Success}
 use Rattle.turn_runs.specs.Words.{Words}
-use Rattle.turn_runs.specs.Steps.{told_for, Told, Grants, IsDelivered}
+use Rattle.turn_runs.specs.Steps.{reported_for, Reported, Grants, IsDelivered}
 use Rattle.turn_runs.specs.Runs.{IsKeyOf, Step, AtClient, AtDesk, AreDistinct, AtEach, AtSome, HasNumber, IsRealmOf, IsSignedByClient, IsSignedByDesk, NoForgery}
 
 module _ {C D : Type 0} (W : Words C D) where
-  -- at this step the client drew bytes that show the same as these
+  -- At this step the client transmitted bytes that show the same as `bytes`.
   abbrev pub DrawsSame : List ℕ → Step C D → Type 0
   DrawsSame bytes (AtClient call) =
-      (own : List ℕ) × (call.drawn ≡ Some own) × W.wire.ShowsSame own bytes
+      (own : List ℕ) × (call.transmitted ≡ Some own) × W.wire.ShowsSame own bytes
   DrawsSame bytes (AtDesk d) = ⊥
 
-  -- in this step the desk granted this, by a success that replies to a request with this number
-  -- which shows the same as one that the client drew before
+  -- In this step the server core granted `gain`. Its reply is a success to a request with the transaction ID
+  -- `number`, which shows the same as one that the client transmitted at an earlier step.
   pub record GrantsInAnswer (number : ℕ) (gain : Gain) (d : D) (earlier : List (Step C D)) : Type 0 where
     pub reply : List ℕ
     pub replied : W.desk.reply d ≡ Some reply
     pub response : Message
-    pub shows : W.wire.shown reply ≡ Some response
+    pub shows : W.wire.visible reply ≡ Some response
     pub class_is : response.class ≡ Success
     pub grants : Grants W.wire W.desk d reply response
     pub number_is : grants.grant.number ≡ number
     pub grant_is : GrantIs grants.grant gain
-    pub drawn : AtSome (λ one _. DrawsSame (W.desk.request d) one) earlier
+    pub transmitted : AtSome (λ one _. DrawsSame (W.desk.request d) one) earlier
 
   abbrev pub IsGrantedAt : (number : ℕ) → Gain → Step C D → List (Step C D) → Type 0
   IsGrantedAt number gain (AtClient call) earlier = ⊥
@@ -34,12 +35,14 @@ module _ {C D : Type 0} (W : Words C D) where
   abbrev pub TracedBy : List (Step C D) → (number : ℕ) → Gain → Type 0
   TracedBy run number gain = AtSome (IsGrantedAt number gain) run
 
-  -- of a bound connection, the server also granted its number in answer to a CONNECT to its peer
+  -- For a bound connection: the server core also granted its connection ID, in response to a CONNECT to its
+  -- peer.
   abbrev pub IsConnected : List (Step C D) → Held → Type 0
   IsConnected run (Connection local peer number) = (n : ℕ) × TracedBy run n (Knows number peer)
   IsConnected run _ = Unit {0}
 
-  -- the server granted this in answer to a request with this number that the client drew
+  -- The server core granted `h` in response to a request with this transaction ID that the client
+  -- transmitted. `Traced`: it did so for some transaction ID.
   abbrev pub TracedWith : List (Step C D) → (number : ℕ) → Held → Type 0
   TracedWith run number h = TracedBy run number (Holds h) × IsConnected run h
 
@@ -48,53 +51,61 @@ module _ {C D : Type 0} (W : Words C D) where
 
   -- ---- at each step of a run
 
-  -- after this step the client holds nothing that isn't traced
+  -- After this step, all that the client holds (`IsHeld`: what its getters list) is traced.
   abbrev pub HoldsTraced : Step C D → List (Step C D) → Type 0
   HoldsTraced (AtClient call) earlier =
       (h : Held) → W.client.IsHeld call.after h → Traced (AtClient call ∷ earlier) h
   HoldsTraced (AtDesk d) earlier = Unit {0}
 
-  -- each payload is as it was delivered in this step, and names the peer of something so traced, which
-  -- is held when the step ends, or would be but for a mark as expired
+  -- Each payload that the call gave was delivered in this step, and names the peer of something that is
+  -- traced. It is in the client's lists after the step, and the client holds it unless its allocation is
+  -- marked as expired.
   abbrev pub NamesTraced : Step C D → List (Step C D) → Type 0
   NamesTraced (AtClient call) earlier = (p : Payload) → IsIn p call.payloads →
       IsDelivered W.client call p
-      × ((h : Held) × NamesHeld p h × W.client.IsKept call.after h × Traced (AtClient call ∷ earlier) h)
+      × ((h : Held) × NamesHeld p h × W.client.IsStored call.after h × Traced (AtClient call ∷ earlier) h)
   NamesTraced (AtDesk d) earlier = Unit {0}
 
-  -- a response that the client takes up, that has one of its transaction IDs and that validates with a key of
-  -- the client's that counts in the whole run was signed by the desk. All that the client gains answers a
-  -- request of its own (`GrantsInAnswer`), so a response with another transaction ID brings it nothing
+  -- The server core signed a response at an earlier step if
+  --
+  -- 1. the client handles it in this step,
+  -- 2. it validates under a key of the client's that counts in the whole run, and
+  -- 3. it has one of the client's transaction IDs.
+  --
+  -- All that the client gains is in response to a request of its own (`GrantsInAnswer`), so a response with
+  -- another transaction ID brings it nothing.
   abbrev pub TakesDesks : (first last : C) → (whole : List (Step C D)) → Step C D → List (Step C D) → Type 0
   TakesDesks first last whole (AtClient call) earlier =
       (bytes key text : List ℕ) (a : IntegrityAlgorithm) (m : Message) → IsIn bytes call.handled →
-      IsKeyOf W first whole a key → W.wire.Validates bytes key a text → W.wire.shown bytes ≡ Some m →
+      IsKeyOf W first whole a key → W.wire.Validates bytes key a text → W.wire.visible bytes ≡ Some m →
       IsResponse m.class → HasNumber W (W.client.seed first) (W.client.count last) m.number →
       AtSome (λ one _. IsSignedByDesk W key a text one) earlier
   TakesDesks first last whole (AtDesk d) earlier = Unit {0}
 
-  -- a request that the desk validates with such a key, and that has one of the client's numbers, was
-  -- signed by the client
+  -- The client signed a request at an earlier step if the server core validates it under such a key in this
+  -- step and it has one of the client's transaction IDs.
   abbrev pub TakesClients : (first last : C) → (whole : List (Step C D)) → Step C D → List (Step C D) → Type 0
   TakesClients first last whole (AtClient call) earlier = Unit {0}
   TakesClients first last whole (AtDesk d) earlier =
       (key : List ℕ) (b : IntegrityAlgorithm) (m : Message) → IsKeyOf W first whole b key →
-      W.desk.ValidatedWith d key b → W.wire.shown (W.desk.request d) ≡ Some m → m.class ≡ Request →
+      W.desk.ValidatedWith d key b → W.wire.visible (W.desk.request d) ≡ Some m → m.class ≡ Request →
       HasNumber W (W.client.seed first) (W.client.count last) m.number →
       (text : List ℕ) × W.wire.Validates (W.desk.request d) key b text
       × AtSome (λ one _. IsSignedByClient W key b text one) earlier
 
-  -- the realm that the client keeps counts in the whole run, and so does its key there: under it the client validates
+  -- The realm that the client remembers before the call counts in the whole run, and so does its key for that
+  -- realm, under which it validates.
   abbrev pub KeepsRealm : (first : C) → (whole : List (Step C D)) → Step C D → Type 0
   KeepsRealm first whole (AtClient call) =
       (realm : List ℕ) → W.client.realm call.before ≡ Some realm → IsRealmOf W first whole realm
   KeepsRealm first whole (AtDesk d) = Unit {0}
 
-  -- no text of a response that the client takes up was signed by the client itself
+  -- The client itself signed the text of no response that it handles: a reflected message is not taken for a
+  -- response.
   abbrev pub TakesNoReflection : Step C D → List (Step C D) → Type 0
   TakesNoReflection (AtClient call) earlier =
       (bytes key text : List ℕ) (a : IntegrityAlgorithm) (m : Message) → IsIn bytes call.handled →
-      W.wire.Validates bytes key a text → W.wire.shown bytes ≡ Some m → IsResponse m.class →
+      W.wire.Validates bytes key a text → W.wire.visible bytes ≡ Some m → IsResponse m.class →
       AtSome (λ one _. IsSignedByClient W key a text one) earlier → ⊥
   TakesNoReflection (AtDesk d) earlier = Unit {0}
 
@@ -108,37 +119,37 @@ module _ {C D : Type 0} (W : Words C D) where
 
   -- ---- over a whole run
 
-  -- these are the things that the run answered as created, the newest step's first, each with the
-  -- number of a request in answer to which it was granted before
-  abbrev pub AnswersGranted : List (Step C D) → List Told → Type 0
-  AnswersGranted [] told = told ≡ []
-  AnswersGranted (AtDesk d ∷ earlier) told = AnswersGranted earlier told
-  AnswersGranted (AtClient call ∷ earlier) told =
-      (here : List Told) × (others : List Told) × (told ≡ here ++ others)
+  -- The list `reported` has what the run returned as created, the newest step's first. Each entry has the
+  -- transaction ID of a request in response to which it was granted at an earlier step.
+  abbrev pub AnswersGranted : List (Step C D) → List Reported → Type 0
+  AnswersGranted [] reported = reported ≡ []
+  AnswersGranted (AtDesk d ∷ earlier) reported = AnswersGranted earlier reported
+  AnswersGranted (AtClient call ∷ earlier) reported =
+      (here : List Reported) × (others : List Reported) × (reported ≡ here ++ others)
       × (map (λ t. t.notice) here ≡ call.answered)
-      × ((t : Told) → IsIn t here → IsOf t.notice t.held × TracedWith earlier t.number t.held)
+      × ((t : Reported) → IsIn t here → IsOf t.notice t.held × TracedWith earlier t.number t.held)
       × AnswersGranted earlier others
 
-  -- nothing is answered as created twice for one request
+  -- Nothing is returned as created twice for the same request.
   abbrev pub AnswersOnce : List (Step C D) → Type 0
-  AnswersOnce run = (told : List Told) × AnswersGranted run told × NoneTwice told_for told
+  AnswersOnce run = (reported : List Reported) × AnswersGranted run reported × NoneTwice reported_for reported
 
-  -- what a getter answers as held at this step was granted before it
+  -- What a getter returns as held at this step was granted at an earlier step.
   abbrev pub ShowsTraced : Step C D → List (Step C D) → Type 0
   ShowsTraced (AtClient call) earlier =
-      (h : Held) → IsIn h call.shown → Traced (AtClient call ∷ earlier) h
+      (h : Held) → IsIn h call.visible → Traced (AtClient call ∷ earlier) h
   ShowsTraced (AtDesk d) earlier = Unit {0}
 
   -- ---- what is promised of a run
 
-  -- what holds where nothing that arrives was forged and no number is drawn twice
+  -- The statement `Is` holds if nothing that arrives is forged and no transaction ID is generated twice.
   abbrev pub Unless : (first : C) → List (Step C D) → (last : C) → Type 0 → Type 0
   Unless first run last Is = NoForgery W first (W.client.count last) run
       → AreDistinct W (W.client.seed first) (W.client.count last) → Is
 
-  -- then each step is safe, nothing is answered as created twice for one request, and all that a
-  -- getter answers as held was granted before
+  -- Under these two premises: each step is safe (`safe`), nothing is returned as created twice for the same
+  -- request (`once`), and all that a getter returns as held was granted before (`visible`).
   pub record IsPromised (first : C) (run : List (Step C D)) (last : C) : Type 0 where
     pub safe : Unless first run last (AtEach (IsSafe first last run) run)
     pub once : Unless first run last (AnswersOnce run)
-    pub shown : Unless first run last (AtEach ShowsTraced run)
+    pub visible : Unless first run last (AtEach ShowsTraced run)

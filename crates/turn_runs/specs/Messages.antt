@@ -1,4 +1,4 @@
--- What messages show, what a client may hold, and which requests ask for it (RFC 8656; RFC 6062).
+-- What messages show, what a client may hold, and which requests are for it (RFC 8656; RFC 6062).
 use Rattle.std.specs.Prelude.{◌≡◌, ◌⊎◌, ℕ, List, [], ◌∷◌, Option, Some}
 use Rattle.turn_runs.specs.Members.{IsIn}
 use Rattle.turn_types_frame.specs.Attributes.TurnRegistry.{allocate_method, channel_bind_method, connect_method, connection_attempt_method, connection_bind_method, create_permission_method, refresh_method}
@@ -9,19 +9,19 @@ use Rattle.turn_runs.specs.Names.{SocketAddr, IpAddr, socket_ip, IcmpReport, Tra
 pub record Message : Type 0 where
   pub class : MessageClass
   pub method : ℕ
-  -- its transaction ID
+  -- The transaction ID.
   pub number : ℕ
-  -- REQUESTED-TRANSPORT
+  -- REQUESTED-TRANSPORT.
   pub transport : Option TransportType
-  -- each XOR-RELAYED-ADDRESS, in order
+  -- Each XOR-RELAYED-ADDRESS, in order.
   pub relayed : List SocketAddr
-  -- LIFETIME
+  -- LIFETIME.
   pub lifetime : Option ℕ
-  -- each XOR-PEER-ADDRESS, in order
+  -- Each XOR-PEER-ADDRESS, in order.
   pub peers : List SocketAddr
-  -- CHANNEL-NUMBER
+  -- CHANNEL-NUMBER.
   pub channel : Option ℕ
-  -- CONNECTION-ID
+  -- CONNECTION-ID.
   pub connection : Option ℕ
 
 -- ---- what a client may hold
@@ -29,61 +29,63 @@ pub record Message : Type 0 where
 pub data Held : Type 0 where
   Allocation : (transport : TransportType) (address : SocketAddr) → Held
   Permission : (transport : TransportType) (ip : IpAddr) → Held
-  Channel : (number : ℕ) (peer : SocketAddr) → Held
-  Connection : (local peer : SocketAddr) (number : ℕ) → Held
+  Channel : (transaction_id : ℕ) (peer : SocketAddr) → Held
+  Connection : (local peer : SocketAddr) (transaction_id : ℕ) → Held
 
--- what a reply can bring: something held, or the number of a connection to a peer
+-- What a response can bring the client: something that it holds, or the connection ID of a connection to a
+-- peer.
 pub data Gain : Type 0 where
   Holds : (held : Held) → Gain
-  Knows : (number : ℕ) (peer : SocketAddr) → Gain
+  Knows : (transaction_id : ℕ) (peer : SocketAddr) → Gain
 
--- a peer of this IP is among them
+-- One of the peers has this IP address.
 pub record HasIp (ip : IpAddr) (peers : List SocketAddr) : Type 0 where
   pub peer : SocketAddr
   pub listed : IsIn peer peers
   pub ip_is : socket_ip peer ≡ ip
 
--- a method that opens the way to a peer
+-- A success response to a request of this method gives a permission: CREATE_PERMISSION or CHANNEL_BIND.
 abbrev pub Permits : ℕ → Type 0
 Permits method = (method ≡ create_permission_method) ⊎ (method ≡ channel_bind_method)
 
--- a request that opens the way to this IP: a CREATE_PERMISSION that names a peer of it among others, or
--- a CHANNEL_BIND to one peer, which has it
+-- The request is for a permission for this IP address. It is a CREATE_PERMISSION of which at least one peer
+-- has it, or a CHANNEL_BIND to one peer, which has it.
 abbrev pub Opens : Message → IpAddr → Type 0
 Opens m ip = ((m.method ≡ create_permission_method) × HasIp ip m.peers)
     ⊎ ((m.method ≡ channel_bind_method)
     × ((peer : SocketAddr) × (m.peers ≡ peer ∷ []) × (socket_ip peer ≡ ip)))
 
--- the request asks for this
+-- The request is for this.
 abbrev pub Asks : Message → Gain → Type 0
 Asks m (Holds (Allocation transport address)) =
     (m.method ≡ allocate_method) × (m.transport ≡ Some transport)
 Asks m (Holds (Permission transport ip)) = Opens m ip
-Asks m (Holds (Channel number peer)) =
-    (m.method ≡ channel_bind_method) × (m.channel ≡ Some number) × (m.peers ≡ peer ∷ [])
-Asks m (Holds (Connection local peer number)) =
-    (m.method ≡ connection_bind_method) × (m.connection ≡ Some number)
-Asks m (Knows number peer) = (m.method ≡ connect_method) × (m.peers ≡ peer ∷ [])
+Asks m (Holds (Channel transaction_id peer)) =
+    (m.method ≡ channel_bind_method) × (m.channel ≡ Some transaction_id) × (m.peers ≡ peer ∷ [])
+Asks m (Holds (Connection local peer transaction_id)) =
+    (m.method ≡ connection_bind_method) × (m.connection ≡ Some transaction_id)
+Asks m (Knows transaction_id peer) = (m.method ≡ connect_method) × (m.peers ≡ peer ∷ [])
 
--- a response, of either class
+-- The class of a response: success or error.
 abbrev pub IsResponse : MessageClass → Type 0
 IsResponse class = (class ≡ Success) ⊎ (class ≡ Error)
 
--- a CONNECTION_ATTEMPT: a request of the server's, under a transaction ID of the server's
+-- The message is a CONNECTION_ATTEMPT: a request of the server, with a transaction ID of the server.
 abbrev pub IsAttempt : Message → Type 0
 IsAttempt m = (m.class ≡ Request) × (m.method ≡ connection_attempt_method)
 
--- the response brings this. Of what answers a CONNECT the client may look at the number alone.
+-- The response brings this. An error response to a CONNECT may bring a connection ID, too: the client may
+-- look at the CONNECTION-ID alone.
 abbrev pub Brings : Message → Gain → Type 0
 Brings m (Holds (Allocation transport address)) = (m.class ≡ Success) × IsIn address m.relayed
 Brings m (Holds (Permission transport ip)) = m.class ≡ Success
-Brings m (Holds (Channel number peer)) = m.class ≡ Success
-Brings m (Holds (Connection local peer number)) = m.class ≡ Success
-Brings m (Knows number peer) = IsResponse m.class × (m.connection ≡ Some number)
+Brings m (Holds (Channel transaction_id peer)) = m.class ≡ Success
+Brings m (Holds (Connection local peer transaction_id)) = m.class ≡ Success
+Brings m (Knows transaction_id peer) = IsResponse m.class × (m.connection ≡ Some transaction_id)
 
 -- ---- grants
 
--- what a desk recorded as granted
+-- A grant as the server core recorded it.
 pub record Grant : Type 0 where
   pub method : ℕ
   pub number : ℕ
@@ -95,12 +97,12 @@ pub record Grant : Type 0 where
   pub channel : Option ℕ
   pub connection : Option ℕ
 
--- the grant is of the peer that the request names, where it names one alone; of several the first
--- decides (RFC 8489, section 14)
+-- If the request names exactly one peer, the grant is for that peer. (If it names several, the first decides;
+-- RFC 8489, section 14.)
 abbrev pub IsOfOnePeer : Message → Grant → Type 0
 IsOfOnePeer request grant = (peer : SocketAddr) → request.peers ≡ peer ∷ [] → grant.peers ≡ peer ∷ []
 
--- the grant is of what the request asks for, and the response shows it
+-- The grant is of what the request is for, and the response shows it.
 pub record IsGrantFor (request response : Message) (grant : Grant) : Type 0 where
   pub method_answered : response.method ≡ request.method
   pub number_answered : response.number ≡ request.number
@@ -117,38 +119,38 @@ pub record IsGrantFor (request response : Message) (grant : Grant) : Type 0 wher
       IsOfOnePeer request grant × (response.connection ≡ grant.connection)
   pub attaches : request.method ≡ connection_bind_method → grant.connection ≡ request.connection
 
--- the grant is of this
+-- The grant is of this.
 abbrev pub GrantIs : Grant → Gain → Type 0
 GrantIs g (Holds (Allocation transport address)) =
     (g.method ≡ allocate_method) × (g.transport ≡ Some transport) × IsIn address g.relayed
 GrantIs g (Holds (Permission transport ip)) = Permits g.method × HasIp ip g.peers
-GrantIs g (Holds (Channel number peer)) =
-    (g.method ≡ channel_bind_method) × (g.channel ≡ Some number) × (g.peers ≡ peer ∷ [])
-GrantIs g (Holds (Connection local peer number)) =
-    (g.method ≡ connection_bind_method) × (g.connection ≡ Some number)
-GrantIs g (Knows number peer) =
-    (g.method ≡ connect_method) × (g.peers ≡ peer ∷ []) × (g.connection ≡ Some number)
+GrantIs g (Holds (Channel transaction_id peer)) =
+    (g.method ≡ channel_bind_method) × (g.channel ≡ Some transaction_id) × (g.peers ≡ peer ∷ [])
+GrantIs g (Holds (Connection local peer transaction_id)) =
+    (g.method ≡ connection_bind_method) × (g.connection ≡ Some transaction_id)
+GrantIs g (Knows transaction_id peer) =
+    (g.method ≡ connect_method) × (g.peers ≡ peer ∷ []) × (g.connection ≡ Some transaction_id)
 
 -- ---- payloads
 
 pub data Payload : Type 0 where
-  -- the data of a DATA indication, told as from this peer
+  -- The data of a DATA indication, reported as from this peer.
   FromPeer : (transport : TransportType) (peer : SocketAddr) (bytes : List ℕ) → Payload
-  -- what a host on the way to this peer reports, in a DATA indication
+  -- The ICMP report of a host on the path to this peer, from a DATA indication.
   Reported : (transport : TransportType) (peer : SocketAddr) (report : IcmpReport) → Payload
-  -- the data of a channel frame with this number, told as from this peer
-  FromChannel : (number : ℕ) (peer : SocketAddr) (bytes : List ℕ) → Payload
-  -- raw bytes of the data connection with this local address, told as from this peer
+  -- The data of a channel frame with this channel number, reported as from this peer.
+  FromChannel : (transaction_id : ℕ) (peer : SocketAddr) (bytes : List ℕ) → Payload
+  -- Raw data of the data connection with this local address, reported as from this peer.
   FromConnection : (local peer : SocketAddr) (bytes : List ℕ) → Payload
 
--- a payload names the peer of something held
+-- The payload names the peer of something that the client holds.
 abbrev pub NamesHeld : Payload → Held → Type 0
 NamesHeld (FromPeer transport peer bytes) h = h ≡ Permission transport (socket_ip peer)
 NamesHeld (Reported transport peer report) h = h ≡ Permission transport (socket_ip peer)
-NamesHeld (FromChannel number peer bytes) h = h ≡ Channel number peer
-NamesHeld (FromConnection local peer bytes) h = (number : ℕ) × (h ≡ Connection local peer number)
+NamesHeld (FromChannel transaction_id peer bytes) h = h ≡ Channel transaction_id peer
+NamesHeld (FromConnection local peer bytes) h = (transaction_id : ℕ) × (h ≡ Connection local peer transaction_id)
 
--- ---- what a client tells as created
+-- ---- what a client reports as created
 
 pub data Notice : Type 0 where
   AllocationCreated : (transport : TransportType) (address : SocketAddr) → Notice
@@ -156,9 +158,9 @@ pub data Notice : Type 0 where
   ChannelCreated : (transport : TransportType) (peer : SocketAddr) → Notice
   TcpConnected : (peer : SocketAddr) → Notice
 
--- the notice is of this
+-- The notice is about this.
 abbrev pub IsOf : Notice → Held → Type 0
 IsOf (AllocationCreated transport address) h = h ≡ Allocation transport address
 IsOf (PermissionCreated transport ip) h = h ≡ Permission transport ip
-IsOf (ChannelCreated transport peer) h = (number : ℕ) × (h ≡ Channel number peer)
-IsOf (TcpConnected peer) h = (local : SocketAddr) × (number : ℕ) × (h ≡ Connection local peer number)
+IsOf (ChannelCreated transport peer) h = (transaction_id : ℕ) × (h ≡ Channel transaction_id peer)
+IsOf (TcpConnected peer) h = (local : SocketAddr) × (transaction_id : ℕ) × (h ≡ Connection local peer transaction_id)

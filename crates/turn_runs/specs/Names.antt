@@ -1,4 +1,4 @@
--- The types of the layers below in whose terms runs are told.
+-- The types of the lower crates that the definitions of runs use.
 pub use Rattle.std.specs.Net.Socket.{socket_ip}
 pub use Rattle.std.specs.declared.net.ip_addr.IpAddr.{IpAddr}
 pub use Rattle.std.specs.declared.net.socket_addr.SocketAddr.{SocketAddr}

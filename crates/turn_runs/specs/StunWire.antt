@@ -1,10 +1,11 @@
--- What STUN and TURN bytes say in the words of a run (RFC 8489, sections 5, 9.2.2 and 14.5; RFC 8656, section 18).
+-- The meaning of STUN and TURN bytes in the terms of a run (RFC 8489, sections 5, 9.2.2 and 14.5; RFC 8656,
+-- section 18).
 use Rattle.std.specs.Prelude.{ℕ, ◌*◌, ◌==◌, List, Option, Some, None, if◌then◌else◌}
 use Rattle.std.specs.Option.{option_and_then, option_map}
 use Rattle.rand_core.specs.Stream.{Stream}
 use Rattle.turn_types_frame.specs.StunTypesWire.Attributes.{kind_at}
 use Rattle.stun_proto_client.specs.StunTypesIntegrity.Credentials.{NameAndPassword, long_term_key}
-use Rattle.turn_types_frame.specs.StunTypesWire.Generated.{drawn_number, number_words}
+use Rattle.turn_types_frame.specs.StunTypesWire.Generated.{generated_id, number_words}
 use Rattle.turn_types_frame.specs.StunTypesBase.GeneratorWords.{stream_after}
 use Rattle.turn_types_frame.specs.StunTypesWire.Grammar.{IsMessage, number_at, refusal}
 use Rattle.turn_types_frame.specs.StunTypesWire.Headers.{AreBytes}
@@ -14,65 +15,66 @@ use Rattle.stun_proto_client.specs.StunTypesMessage.Same.{ShowSame}
 use Rattle.turn_types_frame.specs.StunTypesWire.Types.{class_of, method_of}
 use Rattle.turn_types_frame.specs.StunTypesBase.declared.transport.TransportType.{TransportType}
 use Rattle.turn_types_frame.specs.StunTypesBase.declared.transport.TransportType.TheVariants.{Udp, Tcp}
-use Rattle.stun_proto_client.specs.Challenges.{Told, challenge_shown}
+use Rattle.stun_proto_client.specs.Challenges.{ChallengeFields, challenge_visible}
 use Rattle.turn_runs.specs.Messages.{Message}
 use Rattle.turn_runs.specs.Words.{Wire}
 use Rattle.turn_runs.specs.Indications.{Carries}
 use Rattle.turn_types_frame.specs.Attributes.TurnRegistry.{channel_number_kind, connection_id_kind, lifetime_kind, requested_transport_kind, tcp_protocol, udp_protocol, xor_peer_address_kind, xor_relayed_address_kind}
-use Rattle.turn_types_frame.specs.Peer.TurnShows.{addresses_shown, number_shown, unless_refused}
+use Rattle.turn_types_frame.specs.Peer.TurnShows.{addresses_visible, number_visible, unless_refused}
 
--- the transport of a protocol's number, where it is UDP or TCP
+-- The transport with this protocol number, if it is UDP or TCP.
 abbrev pub protocol_transport : ℕ → Option TransportType
 protocol_transport protocol = if protocol == udp_protocol then Some Udp
     else if protocol == tcp_protocol then Some Tcp
     else None
 
--- what a message tells of allocations, permissions, channels and connections
-abbrev pub told_by : List ℕ → Message
-told_by bytes = record {
+-- What a message shows of allocations, permissions, channels and connections.
+abbrev pub decoded_by : List ℕ → Message
+decoded_by bytes = record {
   class = class_of (kind_at bytes);
   method = method_of (kind_at bytes);
   number = number_at bytes;
-  transport = option_and_then protocol_transport (number_shown 1 requested_transport_kind bytes);
-  relayed = addresses_shown xor_relayed_address_kind bytes;
-  lifetime = number_shown 4 lifetime_kind bytes;
-  peers = addresses_shown xor_peer_address_kind bytes;
-  channel = number_shown 2 channel_number_kind bytes;
-  connection = number_shown 4 connection_id_kind bytes;
+  transport = option_and_then protocol_transport (number_visible 1 requested_transport_kind bytes);
+  relayed = addresses_visible xor_relayed_address_kind bytes;
+  lifetime = number_visible 4 lifetime_kind bytes;
+  peers = addresses_visible xor_peer_address_kind bytes;
+  channel = number_visible 2 channel_number_kind bytes;
+  connection = number_visible 4 connection_id_kind bytes;
 }
 
--- the key of an account in a realm
+-- The key of an account in a realm, for an algorithm.
 abbrev pub key_in : NameAndPassword → List ℕ → IntegrityAlgorithm → List ℕ
 key_in account realm algorithm =
     (long_term_key (record { username = account.username; password = account.password; realm = realm }) algorithm).bytes
 
--- both are messages that show the same, a FINGERPRINT aside
+-- Both are messages that show the same, except for a FINGERPRINT.
 pub record AreSame (one other : List ℕ) : Type 0 where
   pub first : IsMessage one
   pub second : IsMessage other
   pub show_same : ShowSame one other
 
--- bytes that validate under a key, by an algorithm, over a text
+-- The bytes validate under the key, by the algorithm, over the text.
 pub record AreValid (bytes key : List ℕ) (algorithm : IntegrityAlgorithm) (text : List ℕ) : Type 0 where
   pub are_bytes : AreBytes bytes
   pub validates : Validates bytes key algorithm text
 
--- bytes show an integrity attribute of an algorithm that covers a text
+-- The bytes have a visible integrity attribute of the algorithm, which covers the text.
 pub record Cover (bytes : List ℕ) (algorithm : IntegrityAlgorithm) (text : List ℕ) : Type 0 where
   pub key : List ℕ
   pub signed : IsSigned bytes key algorithm text
 
--- STUN's bytes: the numbers of a client are those that its generator draws, three words each
+-- The bytes of STUN. The transaction IDs of a client are those that its generator generates from three words
+-- each.
 abbrev pub stun_wire : Wire
 stun_wire = record {
   Account = NameAndPassword;
   Seed = Stream;
-  shown = λ bytes. unless_refused (refusal bytes) (Some (told_by bytes));
+  visible = λ bytes. unless_refused (refusal bytes) (Some (decoded_by bytes));
   Validates = AreValid;
   Covers = Cover;
   ShowsSame = AreSame;
   Carries = Carries;
-  told_realm = λ bytes. option_map (λ (t : Told). t.realm) (challenge_shown bytes);
+  reported_realm = λ bytes. option_map (λ (t : ChallengeFields). t.realm) (challenge_visible bytes);
   key = key_in;
-  number = λ seed place. drawn_number (stream_after (number_words * place) seed);
+  number = λ seed index. generated_id (stream_after (number_words * index) seed);
 }

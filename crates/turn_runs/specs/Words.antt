@@ -1,85 +1,87 @@
--- The words that the layers below give a meaning, and what must hold of them.
+-- The terms that the other crates have to give a meaning, and what has to hold of them.
 use Rattle.std.specs.Prelude.{◌≡◌, ℕ, List, Option}
 use Rattle.turn_runs.specs.Messages.{Message, Held, Grant, Notice, Payload}
 use Rattle.turn_runs.specs.Names.{SocketAddr, IntegrityAlgorithm}
 
--- what is said of bytes
+-- What is said of bytes.
 pub record Wire : Type 1 where
-  -- the name and the password of a user
+  -- The user name and password of a user.
   pub Account : Type 0
-  -- what fixes a client's stream of numbers
+  -- What determines a client's stream of transaction IDs.
   pub Seed : Type 0
-  -- the message that the bytes show, where they parse
-  pub shown : List ℕ → Option Message
-  -- the bytes show integrity of the algorithm over the text, right under the key
+  -- The message that the bytes show, if they parse.
+  pub visible : List ℕ → Option Message
+  -- The bytes have an integrity attribute of the algorithm that covers the text and is valid under the key.
   pub Validates : (bytes key : List ℕ) → IntegrityAlgorithm → (text : List ℕ) → Type 0
-  -- the text is what the integrity attribute of the algorithm covers in the bytes
+  -- The text is what the integrity attribute of the algorithm covers in the bytes.
   pub Covers : (bytes : List ℕ) → IntegrityAlgorithm → (text : List ℕ) → Type 0
-  -- both show the same, a FINGERPRINT aside
+  -- Both show the same, except for a FINGERPRINT.
   pub ShowsSame : (one other : List ℕ) → Type 0
-  -- the bytes are a message or a channel frame, and carry this of a peer
+  -- The bytes are a message or a channel frame, and carry this from a peer.
   pub Carries : (frame : List ℕ) → Payload → Type 0
-  -- the realm that the bytes name, where they are a challenge
-  pub told_realm : List ℕ → Option (List ℕ)
-  -- the key of an account in a realm
+  -- The realm that the bytes name, if they are a challenge.
+  pub reported_realm : List ℕ → Option (List ℕ)
+  -- The key of an account in a realm, for an algorithm.
   pub key : Account → (realm : List ℕ) → IntegrityAlgorithm → List ℕ
-  -- the number at a place of the stream of a seed
+  -- The transaction ID at an index of the stream of a seed.
   pub number : Seed → ℕ → ℕ
 
--- what is said of a client in a state C
+-- What is said of a client in a state `C`.
 pub record ClientWords (V : Wire) (C : Type 0) : Type 1 where
   pub account : C → V.Account
-  -- the realm that it keeps: in this one it signs and validates
+  -- The realm that the client remembers. It signs and validates in this realm.
   pub realm : C → Option (List ℕ)
-  -- the algorithm that it chose for that: by this one it signs and validates
+  -- The algorithm that the client chose for that realm. It signs and validates by this algorithm.
   pub algorithm : C → Option IntegrityAlgorithm
   pub seed : C → V.Seed
-  -- how many numbers it has drawn from its stream
+  -- The count of transaction IDs that the client has generated from its stream.
   pub count : C → ℕ
-  -- how many its generator gave on the way from one state to another, by the places that it had
+  -- The count of transaction IDs that the client's generator gave between two states, by its positions in
+  -- them.
   pub given : (before after : C) → ℕ
-  -- a request that waits for its reply
+  -- The request awaits its response.
   pub IsOutstanding : C → Message → Type 0
-  -- a request that is made and waits to be drawn
+  -- The request is made and is queued for transmission.
   pub IsQueued : C → Message → Type 0
-  -- a number that it passes by when it makes a request
+  -- The client skips this transaction ID when it makes a request.
   pub IsTaken : C → ℕ → Type 0
-  -- what stands in its lists, also under an allocation that it has marked as expired
-  pub IsKept : C → Held → Type 0
-  -- what its getters show
+  -- This is in the client's lists, also if its allocation is marked as expired.
+  pub IsStored : C → Held → Type 0
+  -- The client's getters list this.
   pub IsHeld : C → Held → Type 0
-  -- the number of a connection to a peer that it may bind, or has
+  -- The connection ID of a connection to a peer that the client may bind, or already has.
   pub Waits : C → (number : ℕ) → (peer : SocketAddr) → Type 0
-  -- the number of a CONNECTION_ATTEMPT that it hasn't yet answered, or whose answer waits
+  -- The transaction ID of a CONNECTION_ATTEMPT that the client has not yet answered, or whose response is
+  -- queued.
   pub IsAttempted : C → ℕ → Type 0
-  -- a whole frame that waits in a stream's buffer
+  -- A whole frame in a stream's buffer.
   pub IsBuffered : C → (bytes : List ℕ) → Type 0
-  -- what its waiting events tell as created, the oldest first
+  -- What the client's queued events report as created, the oldest first.
   pub created : C → List Notice
 
--- what is said of a desk's step D: bytes came, and it may have replied
+-- What is said of a step `D` of the server core: bytes arrived, and it may have replied.
 pub record DeskWords (D : Type 0) : Type 1 where
   pub request : D → List ℕ
   pub source : D → SocketAddr
-  -- the realm of its users' keys
+  -- The realm of its users' keys.
   pub realm : D → List ℕ
   pub reply : D → Option (List ℕ)
-  -- the desk validated the bytes with this key, by this algorithm
+  -- The server core validated the bytes under this key, by this algorithm.
   pub ValidatedWith : D → (key : List ℕ) → IntegrityAlgorithm → Type 0
-  -- the grants on record, before and after
+  -- The recorded grants, before and after the step.
   pub recorded : D → List Grant
   pub records : D → List Grant
-  -- all that the desk promises of a grant that it made in this step
+  -- What the server core promises of a grant that it made in this step.
   pub IsGranted : D → Grant → Type 0
 
--- all of it
+-- All terms together.
 pub record Words (C D : Type 0) : Type 1 where
   pub wire : Wire
   pub client : ClientWords wire C
   pub desk : DeskWords D
 
--- what must hold of bytes
+-- What has to hold of bytes.
 pub record WireLaws (V : Wire) : Type 0 where
   pub fixed : (one other key : List ℕ) (a : IntegrityAlgorithm) (text : List ℕ) →
       V.Validates one key a text → V.Validates other key a text → V.ShowsSame one other
-  pub same : (one other : List ℕ) → V.ShowsSame one other → V.shown one ≡ V.shown other
+  pub same : (one other : List ℕ) → V.ShowsSame one other → V.visible one ≡ V.visible other

@@ -1,3 +1,3 @@
-//! Definitions: what a run of a client and a server is, what a step of either promises, and the
-//! words of a run for the bytes of STUN. It has no code.
+//! Definitions: what a run of a client and a server is, what each step of either promises, and what
+//! the terms of a run mean for the bytes of STUN. The crate has no code.
 #![tactic(auto)]

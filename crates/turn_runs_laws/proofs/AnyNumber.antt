@@ -1,5 +1,5 @@
--- An answer of an earlier run is right under the key that counts, and no step of this run signed it: it has no number of
--- this run's.
+-- A response of an earlier run validates under the key that counts, and no step of this run signed it: it has
+-- no transaction ID of this run.
 use Rattle.std.proofs.Common.{◌≡◌, ℕ, suc, ◌+◌, ◌%◌, ◌≤◌, List, [], ◌∷◌, Some, None, refl, ap, sym, ◌∙◌, ◌⊎◌, inl, inr, arith}
 use Rattle.turn_runs.specs.StunTypesWire.declared.algorithm.IntegrityAlgorithm.TheVariants.{Sha1}
 use Rattle.turn_runs.specs.Members.{IsIn}
@@ -10,7 +10,7 @@ use Rattle.turn_runs.specs.Steps.{Call}
 use Rattle.turn_runs_laws.specs.AnyNumber.{NoForgeryForAnyNumber}
 use Rattle.turn_runs_laws.specs.Handshakes.{Addresses}
 use Rattle.turn_runs_laws.specs.Rounds.{asks_next, fresh, idle, replayed}
-use Rattle.turn_runs_laws.specs.SmallWords.{Client, abroad, earlier_response, home, shown_small, small}
+use Rattle.turn_runs_laws.specs.SmallWords.{Client, abroad, earlier_response, home, listed_small, small}
 use Rattle.turn_runs_laws.proofs.Handshakes.{response_class}
 use Rattle.turn_runs_laws.proofs.Rounds.{asks_step, authentic_on, by_desk, desk_step, distinct, earlier_step, first_is_new, home_key, lawful, leads, named_in, names_none, takes_step}
 use Rattle.turn_runs_laws.proofs.Unsigned.{first_of, signed_nowhere}
@@ -21,7 +21,7 @@ module _ (a : Addresses) where
   abbrev IsSignedHere : ℕ → Step Client ℕ → Type 0
   IsSignedHere n s = IsSigned (small a) home Sha1 (3 ∷ n ∷ []) s
 
-  no_draw : (n : ℕ) (call : Call Client) → call.drawn ≡ None → IsSignedHere n (AtClient call) → ⊥
+  no_draw : (n : ℕ) (call : Call Client) → call.transmitted ≡ None → IsSignedHere n (AtClient call) → ⊥
   no_draw n call none signed = elim signed [
     | inl c ↦ (let no : None ≡ Some c.0 = sym none ∙ c.1 in let never : ⊥ = cc in never)
     | inr d ↦ d
@@ -56,11 +56,11 @@ module _ (a : Addresses) where
 
   -- ---- it has no number of this run's
 
-  other_number : (n count : ℕ) (bytes : List ℕ) (m : Message) → IsIn bytes ((3 ∷ n ∷ []) ∷ []) → shown_small a bytes ≡ Some m →
+  other_number : (n count : ℕ) (bytes : List ℕ) (m : Message) → IsIn bytes ((3 ∷ n ∷ []) ∷ []) → listed_small a bytes ≡ Some m →
       IsForClient (small a) fresh count m → ⊥
   other_number n count bytes m i shows for_it = elim i [
     | inl e ↦ (
-        let both : Some (earlier_response a n) ≡ Some m = ap (shown_small a) e ∙ shows in
+        let both : Some (earlier_response a n) ≡ Some m = ap (listed_small a) e ∙ shows in
         let same : earlier_response a n ≡ m = cc in
         elim for_it [
           | inl has ↦ (let no : 16 + n % 16 ≡ has.0 % 16 = ap (λ (x : Message). x.number) same ∙ has.2 in omega (arith, no))

@@ -1,4 +1,4 @@
--- A key of a realm that nobody named is right for an answer that nobody signed under it.
+-- A response that nobody signed under the key of a realm that nobody named validates under that key.
 use Rattle.std.proofs.Common.{◌≡◌, ℕ, zero, suc, ◌≤◌, List, [], ◌∷◌, Some, None, refl, ap, sym, ◌∙◌, ◌⊎◌, inl, inr, arith}
 use Rattle.turn_runs.specs.StunTypesWire.declared.algorithm.IntegrityAlgorithm.TheVariants.{Sha1}
 use Rattle.turn_runs.specs.Runs.{Step, AtClient, AtDesk, AtSome, IsSignedByClient}
@@ -9,23 +9,23 @@ use Rattle.turn_runs_laws.specs.Rounds.{asks_next, fresh, rounds}
 use Rattle.turn_runs_laws.specs.SmallWords.{Client, small}
 use Rattle.turn_runs_laws.proofs.Unsigned.{first_of, signed_nowhere}
 
--- the key of a realm that nobody named, under which digests are those under the desk's key
+-- The key of the realm that nobody named. Digests under it equal those under the server core's key.
 abbrev strange : List ℕ
 strange = 16 ∷ []
 
 module _ (a : Addresses) where
-  -- the answer to the request behind k others was signed under it at this step
+  -- The response to the request after `k` others was signed under that key at this step.
   abbrev IsSignedHere : ℕ → Step Client ℕ → Type 0
   IsSignedHere k s = IsSignedByClient (small a) strange Sha1 (1 ∷ k ∷ []) s ⊎ IsSignedByDeskAnyhow (small a) strange Sha1 (1 ∷ k ∷ []) s
 
-  -- not where nothing is drawn
-  no_draw : (k : ℕ) (call : Call Client) → call.drawn ≡ None → IsSignedHere k (AtClient call) → ⊥
+  -- A call that transmits nothing did not sign it.
+  no_draw : (k : ℕ) (call : Call Client) → call.transmitted ≡ None → IsSignedHere k (AtClient call) → ⊥
   no_draw k call none signed = elim signed [
     | inl c ↦ (let no : None ≡ Some c.0 = sym none ∙ c.1 in let never : ⊥ = cc in never)
     | inr d ↦ d
   ]
 
-  -- what the client draws is no answer
+  -- What the client transmits is no response.
   no_request : (k m : ℕ) → IsSignedHere k (AtClient (asks_next m)) → ⊥
   no_request k m signed = elim signed [
     | inl c ↦ (
@@ -36,7 +36,7 @@ module _ (a : Addresses) where
     | inr d ↦ d
   ]
 
-  -- and the desk has another key
+  -- The server core has another key.
   no_desk : (k m : ℕ) → IsSignedHere k (AtDesk m) → ⊥
   no_desk k m signed = elim signed [
     | inl c ↦ c

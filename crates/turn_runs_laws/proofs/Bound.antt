@@ -1,22 +1,22 @@
--- A getter that answers something behind some requests, sixteen at most: an account shows that the desk granted just that
--- by then. Where it answers a channel that was granted, there is an account.
+-- A getter returns something after at most sixteen requests. If the run has an account, the server core had
+-- granted exactly that by then. If it returns a channel that was granted, there is an account.
 use Rattle.std.proofs.Common.{◌≡◌, ℕ, zero, suc, ◌<◌, ◌≤◌, List, [], ◌∷◌, map, Some, refl, ap, sym, ◌∙◌, subst, inl, inr, arith}
 use Rattle.turn_runs.specs.Headline.{IsGrantedAt, IsPromised, ShowsTraced, Traced, TracedBy, Unless}
 use Rattle.turn_runs.specs.Members.{IsIn}
 use Rattle.turn_runs.specs.Messages.{Held, Channel, Gain, Grant, GrantIs, Holds}
 use Rattle.turn_runs.specs.Names.{SocketAddr, IntegrityAlgorithm}
 use Rattle.turn_runs.specs.Runs.{Step, AtClient, AtDesk, AtEach, AtSome, IsAuthentic, IsCounted, IsKeyOf, IsLawful, Leads, NamesRealm, NoForgery, WasSigned, given_in}
-use Rattle.turn_runs.specs.Steps.{Call, Told}
+use Rattle.turn_runs.specs.Steps.{Call, Reported}
 use Rattle.turn_runs_laws.proofs.Safe.{counted, promised}
 use Rattle.turn_runs_laws.proofs.Tools.{in_right}
-use Rattle.turn_runs_laws.specs.Handshakes.{Addresses, grant_at, held_after, request_at, told_at}
+use Rattle.turn_runs_laws.specs.Handshakes.{Addresses, grant_at, held_after, request_at, reported_at}
 use Rattle.turn_runs_laws.specs.Rounds.{fresh, idle, quiet, rounds}
 use Rattle.turn_runs_laws.specs.SmallWords.{Client, Core, Idle, given_by, small}
-use Rattle.turn_runs_laws.specs.Ungranted.{AreSafe, IsBound, forget, forget_call, shows_behind, shows_channel}
+use Rattle.turn_runs_laws.specs.Ungranted.{AreSafe, IsBound, forget, forget_call, shows_after, shows_channel}
 use Rattle.turn_runs_laws.proofs.Rounds.{authentic, distinct, first_is_new, idle_step, lawful, leads, none_given, small_laws}
 
 module _ (a : Addresses) where
-  -- ---- what two runs have in common which differ only in how many numbers they count
+  -- ---- what two runs have in common which differ only in how many transaction IDs they count
 
   given_alike : (run other : List (Step Client ℕ)) → map forget run ≡ map forget other → given_in (small a) run ≡ given_in (small a) other
   given_alike [] [] same = refl
@@ -34,7 +34,7 @@ module _ (a : Addresses) where
     | inl here ↦ elim here [
       | inl drew ↦ (
           let call_is : forget_call c ≡ forget_call d = cc in
-          inl (inl (drew.0, ap (λ (x : Call Core). x.drawn) call_is ∙ drew.1, drew.2)))
+          inl (inl (drew.0, ap (λ (x : Call Core). x.transmitted) call_is ∙ drew.1, drew.2)))
       | inr none ↦ absurd none
     ]
     | inr before ↦ inr (signed_alike key b text run other (cc) before)
@@ -65,18 +65,18 @@ module _ (a : Addresses) where
   ]
   named_alike r run other same named = absurd (let never : ⊥ = cc in never)
 
-  -- a call to which nothing comes adds no key that counts
+  -- A call in which nothing arrives adds no key that counts.
   key_alike : (gets : Call Client) (earlier other : List (Step Client ℕ)) → gets.came ≡ [] → map forget earlier ≡ map forget other →
       (b : IntegrityAlgorithm) (key : List ℕ) → IsKeyOf (small a) fresh (AtClient gets ∷ earlier) b key → IsKeyOf (small a) fresh other b key
   key_alike gets earlier other none same b key of = elim of.1 [
-    | inl kept ↦ (of.0, inl kept, of.2)
+    | inl stored ↦ (of.0, inl stored, of.2)
     | inr some ↦ elim some [
       | inl here ↦ absurd (subst (IsIn here.0) none here.1)
       | inr before ↦ (of.0, inr (named_alike of.0 earlier other same before), of.2)
     ]
   ]
 
-  -- of two whole runs, where what counts in the one counts in the other
+  -- The same for two whole runs, if what counts in the one counts in the other.
   authentic_alike : (count : ℕ) (whole others : List (Step Client ℕ)) →
       ((b : IntegrityAlgorithm) (key : List ℕ) → IsKeyOf (small a) fresh whole b key → IsKeyOf (small a) fresh others b key) →
       (run other : List (Step Client ℕ)) → map forget run ≡ map forget other →
@@ -99,7 +99,7 @@ module _ (a : Addresses) where
 
   -- ---- which steps of the desk grant a channel
 
-  -- what was granted at some step is the grant of a request that came so early
+  -- What was granted at some step is the grant of a request that came by then.
   granted_by : (number : ℕ) (gain : Gain) (run : List (Step Client ℕ)) → AtSome (IsGrantedAt (small a) number gain) run →
       (d : ℕ) × IsIn (AtDesk d) (map forget run) × GrantIs (grant_at a d) gain
   granted_by number gain [] some = absurd some
@@ -140,19 +140,19 @@ module _ (a : Addresses) where
     ]
   ]
 
-  shown_below : (n d : ℕ) (h : Held) → IsIn (AtDesk d) (shows_behind a n h) → d < n
-  shown_below n d h i = elim i [
+  listed_below : (n d : ℕ) (h : Held) → IsIn (AtDesk d) (shows_after a n h) → d < n
+  listed_below n d h i = elim i [
     | inl e ↦ absurd (let never : ⊥ = cc in never)
     | inr before ↦ granted_below n d before
   ]
 
-  pub granted_early : (n number : ℕ) (h : Held) (gain : Gain) (run : List (Step Client ℕ)) → map forget run ≡ shows_behind a n h →
+  pub granted_early : (n number : ℕ) (h : Held) (gain : Gain) (run : List (Step Client ℕ)) → map forget run ≡ shows_after a n h →
       TracedBy (small a) run number gain → (d : ℕ) × (d < n) × GrantIs (grant_at a d) gain
-  granted_early n number h gain run told traced =
+  granted_early n number h gain run reported traced =
       let g = granted_by number gain run traced in
-      (g.0, shown_below n g.0 h (subst (IsIn (AtDesk g.0)) told g.1), g.2)
+      (g.0, listed_below n g.0 h (subst (IsIn (AtDesk g.0)) reported g.1), g.2)
 
-  -- one grant alone is of a channel
+  -- Exactly one grant is of a channel.
   the_channel : (d number : ℕ) (peer : SocketAddr) → GrantIs (grant_at a d) (Holds (Channel number peer)) →
       (d ≡ 2) × (number ≡ 0x4000) × (peer ≡ a.peer)
   the_channel zero number peer is = absurd (omega (arith, is.0))
@@ -162,30 +162,30 @@ module _ (a : Addresses) where
   the_channel (suc (suc (suc (suc zero)))) number peer is = absurd (omega (arith, is.0))
   the_channel (suc (suc (suc (suc (suc d))))) number peer is = absurd (omega (arith, is.0))
 
-  -- ---- an account shows that what is answered was granted
+  -- ---- an account shows that the result was granted
 
-  pub traced_before : (n : ℕ) (h : Held) (run : List (Step Client ℕ)) (last : Client) → n ≤ 16 → map forget run ≡ shows_behind a n h →
+  pub traced_before : (n : ℕ) (h : Held) (run : List (Step Client ℕ)) (last : Client) → n ≤ 16 → map forget run ≡ shows_after a n h →
       IsCounted (small a) fresh run last → Unless (small a) fresh run last (AtEach (ShowsTraced (small a)) run) → Traced (small a) run h
-  traced_before n h (AtClient gets ∷ earlier) last few told counts shown =
-      let gets_is : forget_call gets ≡ record (quiet (Idle n) (Idle n)) { shown = h ∷ [] } = cc in
+  traced_before n h (AtClient gets ∷ earlier) last few reported counts visible =
+      let gets_is : forget_call gets ≡ record (quiet (Idle n) (Idle n)) { visible = h ∷ [] } = cc in
       let before : map forget earlier ≡ map forget (rounds a n) = cc in
       let all_counted = counted (small a) fresh (rounds a n) (idle n) (leads a n) (lawful a n) in
-      let drawn : last.drawn ≤ 16 =
+      let transmitted : last.transmitted ≤ 16 =
       omega (arith, few, counts, all_counted, given_alike earlier (rounds a n) before, none_given n, ap (λ (x : Call Core). given_by x.before x.after) gets_is) in
-      let unforged : NoForgery (small a) fresh last.drawn (AtClient gets ∷ earlier) = (
+      let unforged : NoForgery (small a) fresh last.transmitted (AtClient gets ∷ earlier) = (
         (λ bytes key text b m i own v shows for_it. absurd (subst (IsIn bytes) (ap (λ (x : Call Core). x.came) gets_is) i)),
-        authentic_alike last.drawn (AtClient gets ∷ earlier) (rounds a n) (key_alike gets earlier (rounds a n) (ap (λ (x : Call Core). x.came) gets_is) before)
-            earlier (rounds a n) before (authentic a last.drawn n),
+        authentic_alike last.transmitted (AtClient gets ∷ earlier) (rounds a n) (key_alike gets earlier (rounds a n) (ap (λ (x : Call Core). x.came) gets_is) before)
+            earlier (rounds a n) before (authentic a last.transmitted n),
       ) in
-      let listed : IsIn h gets.shown = subst (IsIn h) (sym (ap (λ (x : Call Core). x.shown) gets_is)) (inl refl) in
-      (shown unforged (distinct a last.drawn drawn)).0 h listed
-  traced_before n h run last few told counts shown = absurd {A = Traced (small a) run h} (cc)
+      let listed : IsIn h gets.visible = subst (IsIn h) (sym (ap (λ (x : Call Core). x.visible) gets_is)) (inl refl) in
+      (visible unforged (distinct a last.transmitted transmitted)).0 h listed
+  traced_before n h run last few reported counts visible = absurd {A = Traced (small a) run h} (cc)
 
   bound_by : (n number : ℕ) (peer : SocketAddr) (run : List (Step Client ℕ)) (last : Client) → n ≤ 16 → map forget run ≡ shows_channel a n number peer →
       IsCounted (small a) fresh run last → Unless (small a) fresh run last (AtEach (ShowsTraced (small a)) run) → IsBound a n number peer
-  bound_by n number peer run last few told counts shown =
-      let traced = traced_before n (Channel number peer) run last few told counts shown in
-      let g = granted_early n traced.0 (Channel number peer) (Holds (Channel number peer)) run told traced.1.0 in
+  bound_by n number peer run last few reported counts visible =
+      let traced = traced_before n (Channel number peer) run last few reported counts visible in
+      let g = granted_early n traced.0 (Channel number peer) (Holds (Channel number peer)) run reported traced.1.0 in
       let third = the_channel g.0 number peer g.2 in
       record { granted = omega (arith, g.1, third.0); number_is = third.1; peer_is = third.2 }
 
@@ -193,20 +193,20 @@ module _ (a : Addresses) where
 
   held_from : (k : ℕ) → IsIn (Channel 0x4000 a.peer) (held_after a (suc (suc (suc k))))
   held_from zero = inr (inl refl)
-  held_from (suc k) = in_right (Channel 0x4000 a.peer) (map (λ (t : Told). t.held) (told_at a (suc (suc (suc k))))) (held_after a (suc (suc (suc k)))) (held_from k)
+  held_from (suc k) = in_right (Channel 0x4000 a.peer) (map (λ (t : Reported). t.held) (reported_at a (suc (suc (suc k))))) (held_after a (suc (suc (suc k)))) (held_from k)
 
-  held_behind : (n : ℕ) → 3 ≤ n → IsIn (Channel 0x4000 a.peer) (held_after a n)
-  held_behind zero le = absurd (omega (arith, le))
-  held_behind (suc zero) le = absurd (omega (arith, le))
-  held_behind (suc (suc zero)) le = absurd (omega (arith, le))
-  held_behind (suc (suc (suc k))) le = held_from k
+  held_following : (n : ℕ) → 3 ≤ n → IsIn (Channel 0x4000 a.peer) (held_after a n)
+  held_following zero le = absurd (omega (arith, le))
+  held_following (suc zero) le = absurd (omega (arith, le))
+  held_following (suc (suc zero)) le = absurd (omega (arith, le))
+  held_following (suc (suc (suc k))) le = held_from k
 
-  abbrev asked_after : ℕ → Held → Call Client
-  asked_after n h = record (quiet (idle n) (idle n)) { shown = h ∷ [] }
+  abbrev requested_after : ℕ → Held → Call Client
+  requested_after n h = record (quiet (idle n) (idle n)) { visible = h ∷ [] }
 
-  pub account : (n : ℕ) (h : Held) → IsIn h (held_after a n) → AreSafe a fresh (shows_behind a n h)
+  pub account : (n : ℕ) (h : Held) → IsIn h (held_after a n) → AreSafe a fresh (shows_after a n h)
   account n h holds =
-      let run : List (Step Client ℕ) = AtClient (asked_after n h) ∷ rounds a n in
+      let run : List (Step Client ℕ) = AtClient (requested_after n h) ∷ rounds a n in
       let lead : Leads fresh run (idle n) = (refl, leads a n) in
       let held = λ (x : Held) (i : IsIn x (h ∷ [])). elim i as (λ (_ : IsIn x (h ∷ [])). IsIn x (held_after a n)) [
         | inl e ↦ subst (λ (y : Held). IsIn y (held_after a n)) e holds
@@ -216,19 +216,19 @@ module _ (a : Addresses) where
       let promise : IsPromised (small a) fresh run (idle n) = promised (small a) (small_laws a) fresh run (idle n) (first_is_new a) lead law in
       record {
         run = run;
-        told = refl;
+        reported = refl;
         last = idle n;
         leads = lead;
         counted = counted (small a) fresh run (idle n) lead law;
         safe = promise.safe;
         once = promise.once;
-        shown = promise.shown;
+        visible = promise.visible;
       }
 
-  pub shown_where_bound : (n number : ℕ) (peer : SocketAddr) → n ≤ 16 →
+  pub listed_where_bound : (n number : ℕ) (peer : SocketAddr) → n ≤ 16 →
       (AreSafe a fresh (shows_channel a n number peer) → IsBound a n number peer) × (IsBound a n number peer → AreSafe a fresh (shows_channel a n number peer))
-  shown_where_bound n number peer few = (
-    (λ is. bound_by n number peer is.run is.last few is.told is.counted is.shown),
+  listed_where_bound n number peer few = (
+    (λ is. bound_by n number peer is.run is.last few is.reported is.counted is.visible),
     (λ is. subst (λ (k : ℕ). AreSafe a fresh (shows_channel a n k peer)) (sym is.number_is)
-        (subst (λ (p : SocketAddr). AreSafe a fresh (shows_channel a n 0x4000 p)) (sym is.peer_is) (account n (Channel 0x4000 a.peer) (held_behind n is.granted)))),
+        (subst (λ (p : SocketAddr). AreSafe a fresh (shows_channel a n 0x4000 p)) (sym is.peer_is) (account n (Channel 0x4000 a.peer) (held_following n is.granted)))),
   )

@@ -13,7 +13,7 @@ pub lawful_on : {C D : Type 0} (W : Words C D) (calls : List (Call C)) (earlier 
 lawful_on W [] earlier lawful before = before
 lawful_on W (call ∷ calls) earlier lawful before = (lawful.0, lawful_on W calls earlier lawful.1 before)
 
--- one chain after another is a chain
+-- A chain followed by a chain is a chain.
 pub chain_on : {C : Type 0} (first middle last : C) (later earlier : List (Call C)) → IsChain first earlier middle → IsChain middle later last → IsChain first (later ++ earlier) last
 chain_on first middle last [] earlier one other = subst (λ c. IsChain first earlier c) (sym other) one
 chain_on first middle last (call ∷ later) earlier one other = (other.0, chain_on first middle call.before later earlier one other.1)

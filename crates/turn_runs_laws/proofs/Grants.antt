@@ -1,4 +1,4 @@
--- What was asked for, granted and brought by the reply is what the grant is of.
+-- The grant is of what was requested, granted and brought by the reply.
 use Rattle.std.proofs.Common.{◌≡◌, ℕ, List, refl, ◌⊎◌, inl, inr, Some, sym, ◌∙◌, subst}
 use Rattle.turn_runs.specs.Members.{IsIn}
 use Rattle.turn_runs.specs.Messages.{Message, Allocation, Permission, Channel, Connection, Gain, Holds, Knows, HasIp, Asks, Brings, IsResponse, Grant, IsGrantFor, GrantIs}
@@ -24,7 +24,7 @@ granted_is q r g (Knows number peer) for asks brings =
     let e = for.connects asks.0 in
     (for.method_is ∙ asks.0, e.0 peer asks.1, sym e.1 ∙ brings.1)
 
--- what brings something is a success, or a failure that shows a connection's number
+-- A message that brings something is a success response, or an error response with a CONNECTION-ID.
 pub brings_by : (m : Message) (gain : Gain) → Brings m gain → (m.class ≡ Success) ⊎ ((m.class ≡ Error) × ((n : ℕ) × (m.connection ≡ Some n)))
 brings_by m (Holds (Allocation transport address)) h = inl h.0
 brings_by m (Holds (Permission transport ip)) h = inl h
@@ -35,7 +35,7 @@ brings_by m (Knows number peer) h = elim h.0 [ inl e ↦ inl e | inr e ↦ inr (
 pub brings_response : (m : Message) (gain : Gain) → Brings m gain → IsResponse m.class
 brings_response m gain h = elim (brings_by m gain h) [ inl e ↦ inl e | inr e ↦ inr e.0 ]
 
--- no response is a request or an indication
+-- A response is neither a request nor an indication.
 pub response_no_request : (k : MessageClass) → IsResponse k → k ≡ Request → ⊥
 response_no_request k h e = elim h [
   | inl s ↦ (let no : Request ≡ Success = sym e ∙ s in let never : ⊥ = cc in never)

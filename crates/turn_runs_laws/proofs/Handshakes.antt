@@ -1,12 +1,12 @@
--- What each request, its response and its grant have to do with each other.
+-- How each request, its response and its grant fit together.
 use Rattle.std.proofs.Common.{◌≡◌, ◌≢◌, ℕ, zero, suc, [], ◌∷◌, Some, refl, ap, sym, ◌∙◌, subst, ◌⊎◌, inl, inr, arith}
 use Rattle.turn_types.specs.StunTypesBase.declared.transport.TransportType.TheVariants.{Tcp}
 use Rattle.turn_runs.specs.Members.{IsIn, NoneTwice}
 use Rattle.turn_runs.specs.Messages.{Holds, Knows, Asks, Brings, IsGrantFor, Notice, IsOf, PermissionCreated, ChannelCreated}
 use Rattle.turn_runs.specs.Names.{SocketAddr, socket_ip, Request, Success}
-use Rattle.turn_runs.specs.Steps.{Told, told_for, WasKnown}
+use Rattle.turn_runs.specs.Steps.{Reported, reported_for, WasKnown}
 use Rattle.turn_types.specs.Attributes.TurnRegistry.{connection_attempt_method}
-use Rattle.turn_runs_laws.specs.Handshakes.{Addresses, number_at, request_at, response_at, grant_at, told_at, WaitsAfter}
+use Rattle.turn_runs_laws.specs.Handshakes.{Addresses, number_at, request_at, response_at, grant_at, reported_at, WaitsAfter}
 use Rattle.turn_runs_laws.specs.Rounds.{waiting}
 use Rattle.turn_runs_laws.specs.SmallWords.{small_client}
 
@@ -51,55 +51,55 @@ module _ (a : Addresses) where
   response_number (suc (suc (suc (suc zero)))) = refl
   response_number (suc (suc (suc (suc (suc n))))) = refl
 
-  -- what is told was asked for by the request and is brought by the response
-  pub record IsTold (n : ℕ) (t : Told) : Type 0 where
+  -- What is reported was requested by the request and is brought by the response.
+  pub record IsReported (n : ℕ) (t : Reported) : Type 0 where
     pub number_is : t.number ≡ number_at n
     pub is_of : IsOf t.notice t.held
     pub asks : Asks (request_at a n) (Holds t.held)
     pub brings : Brings (response_at a n) (Holds t.held)
     pub known : WasKnown (small_client a) (waiting n) t.held
 
-  moved : (n : ℕ) (one other : Told) → one ≡ other → IsTold n one → IsTold n other
-  moved n one other e h = subst (λ t. IsTold n t) e h
+  moved : (n : ℕ) (one other : Reported) → one ≡ other → IsReported n one → IsReported n other
+  moved n one other e h = subst (λ t. IsReported n t) e h
 
-  pub told_so : (n : ℕ) (t : Told) → IsIn t (told_at a n) → IsTold n t
-  told_so zero t i = elim i [
+  pub reported_so : (n : ℕ) (t : Reported) → IsIn t (reported_at a n) → IsReported n t
+  reported_so zero t i = elim i [
     | inl e ↦ moved zero _ t e (record { number_is = refl; is_of = refl; asks = (refl, refl); brings = (refl, inl refl); known = tt })
     | inr none ↦ absurd none
   ]
-  told_so (suc zero) t i = elim i [
+  reported_so (suc zero) t i = elim i [
     | inl e ↦ moved 1 _ t e (record { number_is = refl; is_of = refl; asks = inl (refl, record { peer = a.peer; listed = inl refl; ip_is = refl }); brings = refl; known = tt })
     | inr none ↦ absurd none
   ]
-  told_so (suc (suc zero)) t i = elim i [
+  reported_so (suc (suc zero)) t i = elim i [
     | inl e ↦ moved 2 _ t e (record { number_is = refl; is_of = refl; asks = inr (refl, (a.peer, refl, refl)); brings = refl; known = tt })
     | inr j ↦ elim j [
       | inl e ↦ moved 2 _ t e (record { number_is = refl; is_of = (0x4000, refl); asks = (refl, refl, refl); brings = refl; known = tt })
       | inr none ↦ absurd none
     ]
   ]
-  told_so (suc (suc (suc zero))) t i = absurd i
-  told_so (suc (suc (suc (suc zero)))) t i = elim i [
+  reported_so (suc (suc (suc zero))) t i = absurd i
+  reported_so (suc (suc (suc (suc zero)))) t i = elim i [
     | inl e ↦ moved 4 _ t e (record { number_is = refl; is_of = (a.local, 7, refl); asks = (refl, refl); brings = refl; known = (refl, refl) })
     | inr none ↦ absurd none
   ]
-  told_so (suc (suc (suc (suc (suc n))))) t i = absurd i
+  reported_so (suc (suc (suc (suc (suc n))))) t i = absurd i
 
-  pub told_once : (n : ℕ) → NoneTwice told_for (told_at a n)
-  told_once zero = ((λ y i e. i), tt)
-  told_once (suc zero) = ((λ y i e. i), tt)
-  told_once (suc (suc zero)) = (
+  pub reported_once : (n : ℕ) → NoneTwice reported_for (reported_at a n)
+  reported_once zero = ((λ y i e. i), tt)
+  reported_once (suc zero) = ((λ y i e. i), tt)
+  reported_once (suc (suc zero)) = (
     (λ y i e. elim i [
-      | inl f ↦ (let no : PermissionCreated Tcp (socket_ip a.peer) ≡ ChannelCreated Tcp a.peer = sym (ap (λ (x : Notice × ℕ). x.0) e) ∙ ap (λ (t : Told). t.notice) (sym f) in let never : ⊥ = cc in never)
+      | inl f ↦ (let no : PermissionCreated Tcp (socket_ip a.peer) ≡ ChannelCreated Tcp a.peer = sym (ap (λ (x : Notice × ℕ). x.0) e) ∙ ap (λ (t : Reported). t.notice) (sym f) in let never : ⊥ = cc in never)
       | inr none ↦ none
     ]),
     ((λ y i e. i), tt),
   )
-  told_once (suc (suc (suc zero))) = tt
-  told_once (suc (suc (suc (suc zero)))) = ((λ y i e. i), tt)
-  told_once (suc (suc (suc (suc (suc n))))) = tt
+  reported_once (suc (suc (suc zero))) = tt
+  reported_once (suc (suc (suc (suc zero)))) = ((λ y i e. i), tt)
+  reported_once (suc (suc (suc (suc (suc n))))) = tt
 
-  -- the connection waits once the CONNECT is answered
+  -- The connection may be bound once the CONNECT is answered.
   pub waits_next : (n : ℕ) (number : ℕ) (to : SocketAddr) → WaitsAfter a (suc n) number to →
       WaitsAfter a n number to
       ⊎ (Asks (request_at a n) (Knows number to) × Brings (response_at a n) (Knows number to))

@@ -1,21 +1,22 @@
--- A getter that answers a connection behind some requests: an account shows that the desk granted that very connection, by
--- a CONNECT to its peer and a CONNECTION_BIND of its number; and where it did, there is one.
+-- A getter returns a connection after some requests. If the run has an account, the server core granted that
+-- very connection, by a CONNECT to its peer and a CONNECTION_BIND of its connection ID. If it did, there is
+-- an account.
 use Rattle.std.proofs.Common.{◌≡◌, ℕ, zero, suc, ◌≤◌, List, map, refl, inl, arith}
 use Rattle.turn_runs.specs.Headline.{ShowsTraced, Unless}
 use Rattle.turn_runs.specs.Members.{IsIn}
 use Rattle.turn_runs.specs.Messages.{Connection, GrantIs, Holds, Knows}
 use Rattle.turn_runs.specs.Names.{SocketAddr}
 use Rattle.turn_runs.specs.Runs.{Step, AtEach, IsCounted}
-use Rattle.turn_runs.specs.Steps.{Told}
+use Rattle.turn_runs.specs.Steps.{Reported}
 use Rattle.turn_runs_laws.proofs.Tools.{in_right}
-use Rattle.turn_runs_laws.specs.Handshakes.{Addresses, grant_at, held_after, told_at}
+use Rattle.turn_runs_laws.specs.Handshakes.{Addresses, grant_at, held_after, reported_at}
 use Rattle.turn_runs_laws.specs.Rounds.{fresh}
 use Rattle.turn_runs_laws.specs.SmallWords.{Client, small}
 use Rattle.turn_runs_laws.specs.Ungranted.{AreSafe, IsJoined, forget, shows_connection}
 use Rattle.turn_runs_laws.proofs.Bound.{account, granted_early, traced_before}
 
 module _ (a : Addresses) where
-  -- one grant alone is of a CONNECTION_BIND, and one of a CONNECT
+  -- Exactly one grant is of a CONNECTION_BIND, and one of a CONNECT.
   the_bind : (d number : ℕ) (local peer : SocketAddr) → GrantIs (grant_at a d) (Holds (Connection local peer number)) →
       (d ≡ 4) × (number ≡ 7)
   the_bind zero number local peer is = absurd (omega (arith, is.0))
@@ -36,31 +37,31 @@ module _ (a : Addresses) where
   joined_by : (n : ℕ) (local : SocketAddr) (number : ℕ) (peer : SocketAddr) (run : List (Step Client ℕ)) (last : Client) → n ≤ 16 →
       map forget run ≡ shows_connection a n local number peer → IsCounted (small a) fresh run last →
       Unless (small a) fresh run last (AtEach (ShowsTraced (small a)) run) → IsJoined a n number peer
-  joined_by n local number peer run last few told counts shown =
-      let traced = traced_before a n (Connection local peer number) run last few told counts shown in
-      let bind = granted_early a n traced.0 (Connection local peer number) (Holds (Connection local peer number)) run told traced.1.0 in
+  joined_by n local number peer run last few reported counts visible =
+      let traced = traced_before a n (Connection local peer number) run last few reported counts visible in
+      let bind = granted_early a n traced.0 (Connection local peer number) (Holds (Connection local peer number)) run reported traced.1.0 in
       let fifth = the_bind bind.0 number local peer bind.2 in
       let known = traced.1.1 in
-      let connect = granted_early a n known.0 (Connection local peer number) (Knows number peer) run told known.1 in
+      let connect = granted_early a n known.0 (Connection local peer number) (Knows number peer) run reported known.1 in
       record { granted = omega (arith, bind.1, fifth.0); number_is = fifth.1; peer_is = the_connect connect.0 number peer connect.2 }
 
-  pub joined_where_shown : (n : ℕ) (local : SocketAddr) (number : ℕ) (peer : SocketAddr) → n ≤ 16 →
+  pub joined_where_listed : (n : ℕ) (local : SocketAddr) (number : ℕ) (peer : SocketAddr) → n ≤ 16 →
       AreSafe a fresh (shows_connection a n local number peer) → IsJoined a n number peer
-  joined_where_shown n local number peer few is = joined_by n local number peer is.run is.last few is.told is.counted is.shown
+  joined_where_listed n local number peer few is = joined_by n local number peer is.run is.last few is.reported is.counted is.visible
 
   held_from : (k : ℕ) → IsIn (Connection a.local a.peer 7) (held_after a (suc (suc (suc (suc (suc k))))))
   held_from zero = inl refl
   held_from (suc k) =
-      in_right (Connection a.local a.peer 7) (map (λ (t : Told). t.held) (told_at a (suc (suc (suc (suc (suc k)))))))
+      in_right (Connection a.local a.peer 7) (map (λ (t : Reported). t.held) (reported_at a (suc (suc (suc (suc (suc k)))))))
       (held_after a (suc (suc (suc (suc (suc k)))))) (held_from k)
 
-  held_behind : (n : ℕ) → 5 ≤ n → IsIn (Connection a.local a.peer 7) (held_after a n)
-  held_behind zero le = absurd (omega (arith, le))
-  held_behind (suc zero) le = absurd (omega (arith, le))
-  held_behind (suc (suc zero)) le = absurd (omega (arith, le))
-  held_behind (suc (suc (suc zero))) le = absurd (omega (arith, le))
-  held_behind (suc (suc (suc (suc zero)))) le = absurd (omega (arith, le))
-  held_behind (suc (suc (suc (suc (suc k))))) le = held_from k
+  held_following : (n : ℕ) → 5 ≤ n → IsIn (Connection a.local a.peer 7) (held_after a n)
+  held_following zero le = absurd (omega (arith, le))
+  held_following (suc zero) le = absurd (omega (arith, le))
+  held_following (suc (suc zero)) le = absurd (omega (arith, le))
+  held_following (suc (suc (suc zero))) le = absurd (omega (arith, le))
+  held_following (suc (suc (suc (suc zero)))) le = absurd (omega (arith, le))
+  held_following (suc (suc (suc (suc (suc k))))) le = held_from k
 
-  pub shown_where_joined : (n : ℕ) → 5 ≤ n → AreSafe a fresh (shows_connection a n a.local 7 a.peer)
-  shown_where_joined n le = account a n (Connection a.local a.peer 7) (held_behind n le)
+  pub listed_where_joined : (n : ℕ) → 5 ≤ n → AreSafe a fresh (shows_connection a n a.local 7 a.peer)
+  listed_where_joined n le = account a n (Connection a.local a.peer 7) (held_following n le)

@@ -1,4 +1,4 @@
--- Whatever the network does, each step of a run is safe, and nothing is told twice.
+-- Whatever the network does, each step of a run is safe, and nothing is reported twice.
 use Rattle.std.proofs.Common.{◌∙◌, ap, inl, inr, ℕ, ◌≤◌, List, [], ◌∷◌, refl, sym, subst, arith}
 use Rattle.turn_runs.specs.Words.{Words, WireLaws}
 use Rattle.turn_runs.specs.Steps.{Call, ClientStep, DeskStep}
@@ -6,43 +6,43 @@ use Rattle.turn_runs.specs.Runs.{Step, AtClient, AtDesk, AtEach, AtSome, Leads, 
 use Rattle.turn_runs.specs.Headline.{IsSafe, AnswersOnce, IsPromised, ShowsTraced}
 use Rattle.turn_runs_laws.proofs.Tools.{both_at, some_weaker, from_some}
 use Rattle.turn_runs_laws.proofs.Numbers.{numbered_growing}
-use Rattle.turn_runs_laws.proofs.Keeps.{Kept, DrewWell, not_own, by_desk, past_of, request_drawn, traced_later, with_later, handled_signed, keeps_call}
+use Rattle.turn_runs_laws.proofs.Keeps.{Stored, DrewWell, not_own, by_desk, past_of, request_transmitted, traced_later, with_later, handled_signed, keeps_call}
 
 module _ {C D : Type 0} (W : Words C D) (laws : WireLaws W.wire) (first last : C) (whole : List (Step C D)) (distinct : AreDistinct W (W.client.seed first) (W.client.count last)) where
-  keeps_desk : (earlier : List (Step C D)) (d : D) (c : C) → Kept W first (W.client.count last) whole earlier c → Kept W first (W.client.count last) whole (AtDesk d ∷ earlier) c
-  keeps_desk earlier d c kept = record {
-    account = kept.account;
-    seed = kept.seed;
-    all = kept.all;
-    numbered = kept.numbered;
-    unique = kept.unique;
-    requests = kept.requests;
-    outstanding = kept.outstanding;
-    queued = kept.queued;
-    taken = kept.taken;
-    attempted = kept.attempted;
-    drew = (tt, kept.drew);
-    kept = λ h k. traced_later W laws (AtDesk d) earlier h (kept.kept h k);
-    waits = λ number peer w. let h = kept.waits number peer w in (h.0, inr h.1);
-    realm = kept.realm;
-    buffered_realm = kept.buffered_realm;
-    buffered = λ bytes key text a m b own valid shows for_it. inr (kept.buffered bytes key text a m b own valid shows for_it);
-    pending = kept.pending;
-    pending_is = kept.pending_is;
-    pending_traced = λ t i. with_later W laws (AtDesk d) earlier t (kept.pending_traced t i);
-    pending_of = kept.pending_of;
-    pending_once = kept.pending_once;
-    told = kept.told;
-    told_is = kept.told_is;
-    told_once = kept.told_once;
-    apart = kept.apart;
-    gone = kept.gone;
+  keeps_desk : (earlier : List (Step C D)) (d : D) (c : C) → Stored W first (W.client.count last) whole earlier c → Stored W first (W.client.count last) whole (AtDesk d ∷ earlier) c
+  keeps_desk earlier d c stored = record {
+    account = stored.account;
+    seed = stored.seed;
+    all = stored.all;
+    numbered = stored.numbered;
+    unique = stored.unique;
+    requests = stored.requests;
+    outstanding = stored.outstanding;
+    queued = stored.queued;
+    taken = stored.taken;
+    attempted = stored.attempted;
+    drew = (tt, stored.drew);
+    stored = λ h k. traced_later W laws (AtDesk d) earlier h (stored.stored h k);
+    waits = λ number peer w. let h = stored.waits number peer w in (h.0, inr h.1);
+    realm = stored.realm;
+    buffered_realm = stored.buffered_realm;
+    buffered = λ bytes key text a m b own valid shows for_it. inr (stored.buffered bytes key text a m b own valid shows for_it);
+    pending = stored.pending;
+    pending_is = stored.pending_is;
+    pending_traced = λ t i. with_later W laws (AtDesk d) earlier t (stored.pending_traced t i);
+    pending_of = stored.pending_of;
+    pending_once = stored.pending_once;
+    reported = stored.reported;
+    reported_is = stored.reported_is;
+    reported_once = stored.reported_once;
+    apart = stored.apart;
+    gone = stored.gone;
   }
 
-  safe_desk : (earlier : List (Step C D)) (d : D) (c : C) → Kept W first (W.client.count last) whole earlier c → DeskStep W.wire W.desk d →
+  safe_desk : (earlier : List (Step C D)) (d : D) (c : C) → Stored W first (W.client.count last) whole earlier c → DeskStep W.wire W.desk d →
       AtEach (λ s _. IsLawful W s) earlier → AtEach (IsAuthentic W first (W.client.count last) whole) earlier → IsAuthentic W first (W.client.count last) whole (AtDesk d) earlier →
       IsSafe W first last whole (AtDesk d) earlier
-  safe_desk earlier d c kept step lawful no_forgery authentic = record {
+  safe_desk earlier d c stored step lawful no_forgery authentic = record {
     desks = tt;
     realms = tt;
     clients = λ key b m own validated shows is has.
@@ -50,37 +50,37 @@ module _ {C D : Type 0} (W : Words C D) (laws : WireLaws W.wire) (first last : C
           v.0,
           v.1,
           some_weaker _ (λ one _. IsSignedByClient W key b v.0 one) (λ one _ h. h.0) earlier
-              (request_drawn W laws first (W.client.count last) whole kept.all d earlier key v.0 b m authentic
-              (past_of W laws first (W.client.count last) whole kept.all earlier no_forgery kept.drew lawful) own v.1 shows is has),
+              (request_transmitted W laws first (W.client.count last) whole stored.all d earlier key v.0 b m authentic
+              (past_of W laws first (W.client.count last) whole stored.all earlier no_forgery stored.drew lawful) own v.1 shows is has),
         );
     reflects = tt;
     holds = tt;
     names = tt;
   }
 
-  safe_call : (earlier : List (Step C D)) (call : Call C) → ((r : List ℕ) → NamesRealm W r (AtClient call) → IsRealmOf W first whole r) → Kept W first (W.client.count last) whole earlier call.before → (step : ClientStep W.client call) →
+  safe_call : (earlier : List (Step C D)) (call : Call C) → ((r : List ℕ) → NamesRealm W r (AtClient call) → IsRealmOf W first whole r) → Stored W first (W.client.count last) whole earlier call.before → (step : ClientStep W.client call) →
       AtEach (λ s _. IsLawful W s) earlier → AtEach (IsAuthentic W first (W.client.count last) whole) earlier → IsAuthentic W first (W.client.count last) whole (AtClient call) earlier → W.client.count call.after ≤ W.client.count last →
-      Kept W first (W.client.count last) whole (AtClient call ∷ earlier) call.after → IsSafe W first last whole (AtClient call) earlier
-  safe_call earlier call named kept step lawful no_forgery authentic fits after = record {
+      Stored W first (W.client.count last) whole (AtClient call ∷ earlier) call.after → IsSafe W first last whole (AtClient call) earlier
+  safe_call earlier call named stored step lawful no_forgery authentic fits after = record {
     desks = λ bytes key text a m came own valid shows responds has.
         some_weaker _ (λ one _. IsSignedByDesk W key a text one)
-        (λ one before h. by_desk W laws kept.all kept.requests bytes key text a m valid shows responds one h.1 h.0)
-        earlier (both_at (λ s _. DrewWell W kept.all s) (λ one _. IsSigned W key a text one) earlier kept.drew (handled_signed W laws first (W.client.count last) distinct whole earlier call named kept step lawful no_forgery authentic fits bytes key text a m came own valid shows (inl has)));
-    realms = kept.realm;
+        (λ one before h. by_desk W laws stored.all stored.requests bytes key text a m valid shows responds one h.1 h.0)
+        earlier (both_at (λ s _. DrewWell W stored.all s) (λ one _. IsSigned W key a text one) earlier stored.drew (handled_signed W laws first (W.client.count last) distinct whole earlier call named stored step lawful no_forgery authentic fits bytes key text a m came own valid shows (inl has)));
+    realms = stored.realm;
     clients = tt;
     reflects = λ bytes key text a m came valid shows responds signed.
-        from_some _ ⊥ (λ one before h. not_own W laws kept.all kept.requests bytes key text a m valid shows responds one h.1 h.0)
-        earlier (both_at (λ s _. DrewWell W kept.all s) (λ one _. IsSignedByClient W key a text one) earlier kept.drew signed);
-    holds = λ h k. after.kept h (step.shows h k);
-    names = λ p i. let n = step.names p i in (step.delivers p i, (n.0, n.1, n.2, after.kept n.0 n.2));
+        from_some _ ⊥ (λ one before h. not_own W laws stored.all stored.requests bytes key text a m valid shows responds one h.1 h.0)
+        earlier (both_at (λ s _. DrewWell W stored.all s) (λ one _. IsSignedByClient W key a text one) earlier stored.drew signed);
+    holds = λ h k. after.stored h (step.shows h k);
+    names = λ p i. let n = step.names p i in (step.delivers p i, (n.0, n.1, n.2, after.stored n.0 n.2));
   }
 
-  -- of the old part of the whole run, whose steps name no realm that doesn't count
+  -- For the older part of the whole run, whose steps name only realms that count.
   safe_from : IsNew W first → (run : List (Step C D)) (c : C) → Leads first run c → AtEach (λ s _. IsLawful W s) run → AtEach (IsAuthentic W first (W.client.count last) whole) run →
       ((r : List ℕ) → AtSome (λ s _. NamesRealm W r s) run → IsRealmOf W first whole r) →
-      W.client.count c ≤ W.client.count last → Kept W first (W.client.count last) whole run c × AtEach (IsSafe W first last whole) run
+      W.client.count c ≤ W.client.count last → Stored W first (W.client.count last) whole run c × AtEach (IsSafe W first last whole) run
   safe_from new [] c leads lawful no_forgery named fits = (
-    subst (λ (x : C). Kept W first (W.client.count last) whole [] x) (sym leads) (record {
+    subst (λ (x : C). Stored W first (W.client.count last) whole [] x) (sym leads) (record {
       account = refl;
       seed = refl;
       all = [];
@@ -92,19 +92,19 @@ module _ {C D : Type 0} (W : Words C D) (laws : WireLaws W.wire) (first last : C
       taken = λ n t. absurd (new.none_taken n t);
       attempted = new.none_attempted;
       drew = tt;
-      kept = λ h k. absurd (new.none_kept h k);
+      stored = λ h k. absurd (new.none_stored h k);
       waits = λ number peer w. absurd (new.none_waits number peer w);
       realm = λ r is. inl is;
-      buffered_realm = λ bytes r b told. absurd (new.none_buffered bytes b);
+      buffered_realm = λ bytes r b reported. absurd (new.none_buffered bytes b);
       buffered = λ bytes key text a m b own valid shows for_it. absurd (new.none_buffered bytes b);
       pending = [];
       pending_is = sym new.none_created;
       pending_traced = λ t i. absurd i;
       pending_of = λ t i. absurd i;
       pending_once = tt;
-      told = [];
-      told_is = refl;
-      told_once = tt;
+      reported = [];
+      reported_is = refl;
+      reported_once = tt;
       apart = λ t u i j e. i;
       gone = λ t i. elim i [
         | inl p ↦ absurd p
@@ -119,32 +119,32 @@ module _ {C D : Type 0} (W : Words C D) (laws : WireLaws W.wire) (first last : C
   safe_from new (AtClient call ∷ earlier) c leads lawful no_forgery named fits =
       let step : ClientStep W.client call = lawful.0 in
       let there : W.client.count call.after ≤ W.client.count last = subst (λ (x : C). W.client.count x ≤ W.client.count last) leads.0 fits in
-      let grows = numbered_growing W.client call.before (W.client.count call.before) (W.client.count call.after) [] step.begun step.numbered in
+      let grows = numbered_growing W.client call.before (W.client.count call.before) (W.client.count call.after) [] step.started step.numbered in
       let h = safe_from new earlier call.before leads.1 lawful.1 no_forgery.1 (λ r n. named r (inr n)) (omega (arith, grows, there)) in
       let here : (r : List ℕ) → NamesRealm W r (AtClient call) → IsRealmOf W first whole r = λ r n. named r (inl n) in
-      let kept : Kept W first (W.client.count last) whole earlier call.before = h.0 in
-      let after = keeps_call W laws first (W.client.count last) distinct whole earlier call here kept step lawful.1 no_forgery.1 no_forgery.0 there in (
-        subst (λ (x : C). Kept W first (W.client.count last) whole (AtClient call ∷ earlier) x) (sym leads.0) after,
-        (safe_call earlier call here kept step lawful.1 no_forgery.1 no_forgery.0 there after, h.1),
+      let stored : Stored W first (W.client.count last) whole earlier call.before = h.0 in
+      let after = keeps_call W laws first (W.client.count last) distinct whole earlier call here stored step lawful.1 no_forgery.1 no_forgery.0 there in (
+        subst (λ (x : C). Stored W first (W.client.count last) whole (AtClient call ∷ earlier) x) (sym leads.0) after,
+        (safe_call earlier call here stored step lawful.1 no_forgery.1 no_forgery.0 there after, h.1),
       )
 
--- the headline: each step is safe, and nothing is told twice in answer to one request
+-- The theorem: each step is safe, and nothing is reported twice for one request.
 pub safe : {C D : Type 0} (W : Words C D) → WireLaws W.wire → (first : C) (run : List (Step C D)) (last : C) → IsUnforged W first run last →
     AtEach (IsSafe W first last run) run × AnswersOnce W run
 safe W laws first run last is =
     let h = safe_from W laws first last run is.distinct is.new run last is.leads is.lawful is.authentic (λ r n. inr n) (omega arith) in
-    (h.1, (h.0.told, h.0.told_is, h.0.told_once))
+    (h.1, (h.0.reported, h.0.reported_is, h.0.reported_once))
 
--- what a getter answers as held was granted before it
-shown_traced : {C D : Type 0} (W : Words C D) (first last : C) (whole run : List (Step C D)) → AtEach (λ s _. IsLawful W s) run → AtEach (IsSafe W first last whole) run → AtEach (ShowsTraced W) run
-shown_traced W first last whole [] lawful safe = tt
-shown_traced W first last whole (AtClient call ∷ earlier) lawful safe = ((λ h i. safe.0.holds h (lawful.0.shown h i)), shown_traced W first last whole earlier lawful.1 safe.1)
-shown_traced W first last whole (AtDesk d ∷ earlier) lawful safe = (tt, shown_traced W first last whole earlier lawful.1 safe.1)
+-- What a getter returns as held was granted before.
+listed_traced : {C D : Type 0} (W : Words C D) (first last : C) (whole run : List (Step C D)) → AtEach (λ s _. IsLawful W s) run → AtEach (IsSafe W first last whole) run → AtEach (ShowsTraced W) run
+listed_traced W first last whole [] lawful safe = tt
+listed_traced W first last whole (AtClient call ∷ earlier) lawful safe = ((λ h i. safe.0.holds h (lawful.0.visible h i)), listed_traced W first last whole earlier lawful.1 safe.1)
+listed_traced W first last whole (AtDesk d ∷ earlier) lawful safe = (tt, listed_traced W first last whole earlier lawful.1 safe.1)
 
-pub shown : {C D : Type 0} (W : Words C D) → WireLaws W.wire → (first : C) (run : List (Step C D)) (last : C) → IsUnforged W first run last → AtEach (ShowsTraced W) run
-shown W laws first run last is = shown_traced W first last run run is.lawful (safe W laws first run last is).0
+pub visible : {C D : Type 0} (W : Words C D) → WireLaws W.wire → (first : C) (run : List (Step C D)) (last : C) → IsUnforged W first run last → AtEach (ShowsTraced W) run
+visible W laws first run last is = listed_traced W first last run run is.lawful (safe W laws first run last is).0
 
--- so many numbers count as drawn as the generator gave
+-- The count of generated transaction IDs grows by what the generator gave.
 pub counted : {C D : Type 0} (W : Words C D) (first : C) (run : List (Step C D)) (last : C) → Leads first run last → AtEach (λ s _. IsLawful W s) run → IsCounted W first run last
 counted W first [] last leads lawful = ap W.client.count leads ∙ omega arith
 counted W first (AtClient call ∷ earlier) last leads lawful =
@@ -152,7 +152,7 @@ counted W first (AtClient call ∷ earlier) last leads lawful =
     omega (arith, ap W.client.count leads.0, lawful.0.counted, before)
 counted W first (AtDesk d ∷ earlier) last leads lawful = counted W first earlier last leads lawful.1
 
--- each lawful run of a new client keeps the promise
+-- Each lawful run of a new client meets the promise.
 module _ {C D : Type 0} (W : Words C D) (laws : WireLaws W.wire) (first : C) (run : List (Step C D)) (last : C) (new : IsNew W first) (leads : Leads first run last) (lawful : AtEach (λ s _. IsLawful W s) run) where
   unforged : NoForgery W first (W.client.count last) run → AreDistinct W (W.client.seed first) (W.client.count last) → IsUnforged W first run last
   unforged authentic distinct = record { new = new; leads = leads; lawful = lawful; authentic = authentic; distinct = distinct }
@@ -161,5 +161,5 @@ module _ {C D : Type 0} (W : Words C D) (laws : WireLaws W.wire) (first : C) (ru
   promised = record {
     safe = λ authentic distinct. (safe W laws first run last (unforged authentic distinct)).0;
     once = λ authentic distinct. (safe W laws first run last (unforged authentic distinct)).1;
-    shown = λ authentic distinct. shown W laws first run last (unforged authentic distinct);
+    visible = λ authentic distinct. visible W laws first run last (unforged authentic distinct);
   }

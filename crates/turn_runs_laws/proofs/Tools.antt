@@ -1,4 +1,4 @@
--- Members of lists; at some step and at each step.
+-- Members of lists, and statements on some step and on each step.
 use Rattle.std.proofs.Common.{◌≡◌, ap, sym, ◌∙◌, List, [], ◌∷◌, ◌++◌, map, ◌⊎◌, inl, inr, refl}
 use Rattle.turn_runs.specs.Members.{IsIn, NoneTwice}
 use Rattle.turn_runs.specs.Runs.{AtSome, AtEach}
@@ -22,7 +22,7 @@ none_twice mark (x ∷ xs) ys p q f = (
   none_twice mark xs ys p.1 q (λ y z i j e. f y z (inr i) j e),
 )
 
--- what holds at some step holds there beside what holds at each step, of it and of those before it
+-- At the step where `Q` holds, `P` holds too, and it holds at each earlier step.
 pub both_at : {S : Type 0} (P Q : S → List S → Type 0) (run : List S) → AtEach P run → AtSome Q run → AtSome (λ s earlier. Q s earlier × P s earlier × AtEach P earlier) run
 both_at P Q [] each some = absurd some
 both_at P Q (s ∷ earlier) each some = elim some [ inl q ↦ inl (q, each.0, each.1) | inr t ↦ inr (both_at P Q earlier each.1 t) ]
@@ -39,7 +39,7 @@ pub each_both : {S : Type 0} (P Q : S → List S → Type 0) (run : List S) → 
 each_both P Q [] p q = tt
 each_both P Q (s ∷ earlier) p q = ((p.0, q.0), each_both P Q earlier p.1 q.1)
 
--- a fact that follows from any such step
+-- A fact that follows from any step where `P` holds.
 pub from_some : {S : Type 0} (P : S → List S → Type 0) (F : Type 0) → ((s : S) (earlier : List S) → P s earlier → F) → (run : List S) → AtSome P run → F
 from_some P F f [] some = absurd some
 from_some P F f (s ∷ earlier) some = elim some [ inl p ↦ f s earlier p | inr t ↦ from_some P F f earlier t ]
@@ -60,18 +60,18 @@ pub map_joined : {X Y : Type 0} (f : X → Y) (xs ys : List X) → map f (xs ++ 
 map_joined f [] ys = refl
 map_joined f (x ∷ xs) ys = ap (λ l. f x ∷ l) (map_joined f xs ys)
 
--- a list in two parts, whose images are known
+-- A list in two parts, whose images are known.
 pub record Parts {X Y : Type 0} (f : X → Y) (xs : List X) (ys zs : List Y) : Type 0 where
-  pub front : List X
+  pub prefix : List X
   pub back : List X
-  pub whole : xs ≡ front ++ back
-  pub front_is : map f front ≡ ys
+  pub whole : xs ≡ prefix ++ back
+  pub head_is : map f prefix ≡ ys
   pub back_is : map f back ≡ zs
 
 pub in_parts : {X Y : Type 0} (f : X → Y) (xs : List X) (ys zs : List Y) → map f xs ≡ ys ++ zs → Parts f xs ys zs
-in_parts f xs [] zs e = record { front = []; back = xs; whole = refl; front_is = refl; back_is = e }
+in_parts f xs [] zs e = record { prefix = []; back = xs; whole = refl; head_is = refl; back_is = e }
 in_parts f [] (y ∷ ys) zs e = absurd (let never : ⊥ = cc in never)
 in_parts f (x ∷ xs) (y ∷ ys) zs e =
     let h = in_parts f xs ys zs (cc) in
     let head : f x ≡ y = cc in
-    record { front = x ∷ h.front; back = h.back; whole = ap (λ l. x ∷ l) h.whole; front_is = ap (λ l. f x ∷ l) h.front_is ∙ ap (λ z. z ∷ ys) head; back_is = h.back_is }
+    record { prefix = x ∷ h.prefix; back = h.back; whole = ap (λ l. x ∷ l) h.whole; head_is = ap (λ l. f x ∷ l) h.head_is ∙ ap (λ z. z ∷ ys) head; back_is = h.back_is }

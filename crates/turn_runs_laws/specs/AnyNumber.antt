@@ -1,4 +1,5 @@
--- A wider premise, which speaks of messages with any transaction ID that arrive at the client.
+-- A wider premise than `NoForgery`: it also covers messages with any transaction ID that arrive at the
+-- client.
 use Rattle.std.specs.Prelude.{ℕ, List}
 use Rattle.turn_runs.specs.Members.{IsIn}
 use Rattle.turn_runs.specs.Names.{IntegrityAlgorithm}

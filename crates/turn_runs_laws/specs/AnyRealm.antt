@@ -1,4 +1,5 @@
--- A wider premise, which speaks of the client's keys in every realm there could be, whether anybody ever named it.
+-- A wider premise than `NoForgery`: it covers the client's keys in every possible realm, also in realms that
+-- nobody named.
 use Rattle.std.specs.Prelude.{◌≡◌, ◌⊎◌, ℕ, List, Some}
 use Rattle.turn_runs.specs.Members.{IsIn}
 use Rattle.turn_runs.specs.Messages.{Message}
@@ -7,12 +8,13 @@ use Rattle.turn_runs.specs.Runs.{Step, AtClient, AtDesk, AtEach, AtSome, HasNumb
 use Rattle.turn_runs.specs.Words.{Words}
 
 module _ {C D : Type 0} (W : Words C D) where
-  -- a key of the client's name and password, in any realm and for any algorithm
+  -- A key of the client's user name and password, in any realm and for any algorithm.
   abbrev pub IsOfAnyRealm : C → List ℕ → Type 0
   IsOfAnyRealm c key =
       (realm : List ℕ) × (a : IntegrityAlgorithm) × (key ≡ W.wire.key (W.client.account c) realm a)
 
-  -- the desk's reply covers the text, and it validated the request with that key, by any algorithm
+  -- The text is what integrity covers in the server core's reply, and the server core validated the request
+  -- under this key, by any algorithm.
   abbrev pub IsSignedByDeskAnyhow : (key : List ℕ) → IntegrityAlgorithm → (text : List ℕ) → Step C D → Type 0
   IsSignedByDeskAnyhow key a text (AtClient call) = ⊥
   IsSignedByDeskAnyhow key a text (AtDesk d) =
@@ -29,7 +31,7 @@ module _ {C D : Type 0} (W : Words C D) where
       W.wire.Validates bytes key a text → WasSignedAnyhow key a text earlier
   IsAuthenticInAnyRealm first count (AtDesk d) earlier =
       (key text : List ℕ) (a : IntegrityAlgorithm) (m : Message) → IsOfAnyRealm first key →
-      W.wire.Validates (W.desk.request d) key a text → W.wire.shown (W.desk.request d) ≡ Some m →
+      W.wire.Validates (W.desk.request d) key a text → W.wire.visible (W.desk.request d) ≡ Some m →
       HasNumber W (W.client.seed first) count m.number → WasSignedAnyhow key a text earlier
 
   abbrev pub NoForgeryInAnyRealm : (first : C) → (count : ℕ) → List (Step C D) → Type 0

@@ -5,5 +5,5 @@ pub mod Ungranted
 pub mod AnyRealm
 pub mod AnyNumber
 pub mod OtherKeys
--- What stands above this crate has these through it.
+-- Crates that build on this one reach these definitions through it.
 pub use Rattle.turn_runs.specs as TurnRuns

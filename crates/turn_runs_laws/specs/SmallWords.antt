@@ -1,4 +1,4 @@
--- A small client and a small desk, in the words of a run.
+-- A small client and a small server core, in the terms of a run.
 use Rattle.std.specs.Prelude.{◌≡◌, ℕ, zero, suc, ◌+◌, ◌-◌, ◌%◌, List, [], ◌∷◌, ◌++◌, Option, Some, None}
 use Rattle.turn_runs.specs.StunTypesWire.declared.algorithm.IntegrityAlgorithm.{IntegrityAlgorithm}
 use Rattle.turn_runs.specs.StunTypesWire.declared.algorithm.IntegrityAlgorithm.TheVariants.{Sha1, Sha256, Sha512}
@@ -7,73 +7,73 @@ use Rattle.turn_runs.specs.Messages.{Message, Payload, FromPeer, Reported, FromC
 use Rattle.turn_runs.specs.Words.{Wire, ClientWords, DeskWords, Words}
 use Rattle.turn_runs_laws.specs.Handshakes.{Addresses, number_at, request_at, response_at, grant_at, recorded_after, held_after, WaitsAfter}
 
--- what the client keeps: how many of its requests were answered, and whether the next is outstanding
+-- What the client stores: the count of its requests that were answered, and whether the next is outstanding.
 pub data Core : Type 0 where
-  -- no challenge has told it a realm yet
+  -- No challenge has brought it a realm yet.
   Fresh : Core
   Idle : (answered : ℕ) → Core
   Waiting : (answered : ℕ) → Core
 
--- a client, as a run tells of it
+-- A client, as a run describes it.
 pub record Client : Type 0 where
   pub core : Core
-  -- how many numbers it has drawn, as the run says: the client doesn't keep this
-  pub drawn : ℕ
+  -- The count of transaction IDs that it has generated, as the run counts them. The client does not store it.
+  pub transmitted : ℕ
 
 abbrev pub answered_in : Core → ℕ
 answered_in Fresh = 0
 answered_in (Idle n) = n
 answered_in (Waiting n) = n
 
--- the place that its generator has come to
-abbrev pub place_in : Core → ℕ
-place_in Fresh = 0
-place_in (Idle n) = n
-place_in (Waiting n) = suc n
+-- The index that its generator has reached.
+abbrev pub index_in : Core → ℕ
+index_in Fresh = 0
+index_in (Idle n) = n
+index_in (Waiting n) = suc n
 
--- how far the generator went from one state to another, by its places in a stream of sixteen
+-- How far the generator advanced from one state to another, by its indexes modulo sixteen.
 abbrev pub given_by : (before after : Core) → ℕ
-given_by before after = (place_in after + (16 - place_in before % 16)) % 16
+given_by before after = (index_in after + (16 - index_in before % 16)) % 16
 
 -- ---- realms, keys and digests
 
--- the desk's realm, and one that a forged challenge names
+-- The server core's realm, and one that a forged challenge names.
 abbrev pub home : List ℕ
 home = 0 ∷ []
 
 abbrev pub abroad : List ℕ
 abroad = 1 ∷ []
 
--- a challenge is two numbers, of which the second is the realm that it names
-abbrev pub told_small : List ℕ → Option (List ℕ)
-told_small (suc (suc zero) ∷ realm ∷ []) = Some (realm ∷ [])
-told_small _ = None
+-- A challenge is the number 2, followed by the realm that it names.
+abbrev pub reported_small : List ℕ → Option (List ℕ)
+reported_small (suc (suc zero) ∷ realm ∷ []) = Some (realm ∷ [])
+reported_small _ = None
 
--- the realm that the client keeps
+-- The realm that the client remembers.
 abbrev pub realm_in : Core → Option (List ℕ)
 realm_in Fresh = None
 realm_in (Idle n) = Some home
 realm_in (Waiting n) = Some home
 
--- the algorithm that the client chose
+-- The algorithm that the client chose.
 abbrev pub algorithm_in : Core → Option IntegrityAlgorithm
 algorithm_in Fresh = None
 algorithm_in (Idle n) = Some Sha1
 algorithm_in (Waiting n) = Some Sha1
 
--- the key of a realm for an algorithm: for SHA-1 it is the realm itself
+-- The key in a realm for an algorithm. For SHA-1 it is the realm itself.
 abbrev pub key_small : (realm : List ℕ) → IntegrityAlgorithm → List ℕ
 key_small realm Sha1 = realm
 key_small realm Sha256 = 2 ∷ realm
 key_small realm Sha512 = 3 ∷ realm
 
--- a digest under a key is one of sixteen numbers, so keys of many realms make the same
+-- A digest is one of sixteen numbers, so keys of many realms give equal digests.
 abbrev pub digest_under : (key : List ℕ) → ℕ
 digest_under [] = 0
 digest_under (n ∷ rest) = n % 16
 
--- the digest that a message carries, made under the desk's key; but two kinds of answer have a digest of their own, and
--- a challenge carries none
+-- The digest that a message carries. It is made under the server core's key, except that two kinds of
+-- response carry a digest of their own. A challenge carries none.
 abbrev pub digest_in : List ℕ → Option ℕ
 digest_in (zero ∷ n ∷ []) = Some 0
 digest_in (suc zero ∷ n ∷ []) = Some 0
@@ -82,57 +82,63 @@ digest_in (suc (suc (suc (suc zero))) ∷ n ∷ digest ∷ []) = Some digest
 digest_in (suc (suc (suc (suc (suc zero)))) ∷ n ∷ digest ∷ []) = Some digest
 digest_in _ = None
 
--- the algorithm by which that was made: SHA-1, but for one kind of answer
+-- The algorithm of that digest: SHA-1, except for one kind of response.
 abbrev pub algorithm_by : List ℕ → IntegrityAlgorithm
 algorithm_by (suc (suc (suc (suc (suc zero)))) ∷ n ∷ digest ∷ []) = Sha256
 algorithm_by _ = Sha1
 
--- a message is right under a key, by an algorithm: it is covered whole, and it carries the digest under this key
+-- The message validates under the key, by the algorithm: integrity covers the whole message, which carries
+-- the digest under this key.
 abbrev pub IsRight : (bytes key : List ℕ) → IntegrityAlgorithm → (text : List ℕ) → Type 0
 IsRight bytes key algorithm text =
     (text ≡ bytes) × (algorithm ≡ algorithm_by bytes) × (digest_in bytes ≡ Some (digest_under key))
 
 module _ (a : Addresses) where
-  -- what the desk answered to that request in an earlier run of the same account, in which the client had other
-  -- transaction IDs
+  -- What the server core answered to that request in an earlier run of the same account, in which the client
+  -- had other transaction IDs.
   abbrev pub earlier_response : ℕ → Message
   earlier_response n = record (response_at a n) { number = 16 + number_at n }
 
-  -- a message begins with its kind and with how many requests came before: a request, the desk's answer, its answer in an
-  -- earlier run, an answer with a digest of its own, by SHA-1 or by SHA-256
-  abbrev pub shown_small : List ℕ → Option Message
-  shown_small (zero ∷ n ∷ []) = Some (request_at a n)
-  shown_small (suc zero ∷ n ∷ []) = Some (response_at a n)
-  shown_small (suc (suc (suc zero)) ∷ n ∷ []) = Some (earlier_response n)
-  shown_small (suc (suc (suc (suc zero))) ∷ n ∷ digest ∷ []) = Some (response_at a n)
-  shown_small (suc (suc (suc (suc (suc zero)))) ∷ n ∷ digest ∷ []) = Some (response_at a n)
-  shown_small _ = None
+  -- A message begins with its kind and with the count of requests before it. The kinds are:
+  --
+  -- - 0: a request
+  -- - 1: the server core's response
+  -- - 3: its response in an earlier run
+  -- - 4: a response with a digest of its own, by SHA-1
+  -- - 5: a response with a digest of its own, by SHA-256
+  abbrev pub listed_small : List ℕ → Option Message
+  listed_small (zero ∷ n ∷ []) = Some (request_at a n)
+  listed_small (suc zero ∷ n ∷ []) = Some (response_at a n)
+  listed_small (suc (suc (suc zero)) ∷ n ∷ []) = Some (earlier_response n)
+  listed_small (suc (suc (suc (suc zero))) ∷ n ∷ digest ∷ []) = Some (response_at a n)
+  listed_small (suc (suc (suc (suc (suc zero)))) ∷ n ∷ digest ∷ []) = Some (response_at a n)
+  listed_small _ = None
 
   abbrev pub IsOutstandingIn : Core → Message → Type 0
   IsOutstandingIn Fresh m = ⊥
   IsOutstandingIn (Idle n) m = ⊥
   IsOutstandingIn (Waiting n) m = m ≡ request_at a n
 
-  -- a response carries a payload of its own bytes, too
+  -- A frame also carries a payload, which is the frame's own bytes.
   abbrev pub CarriesIn : List ℕ → Payload → Type 0
   CarriesIn frame (FromPeer transport peer bytes) = bytes ≡ frame
   CarriesIn frame (Reported transport peer report) = ⊥
-  CarriesIn frame (FromChannel number peer bytes) = bytes ≡ frame
+  CarriesIn frame (FromChannel transaction_id peer bytes) = bytes ≡ frame
   CarriesIn frame (FromConnection local peer bytes) = ⊥
 
-  -- there is one account
+  -- There is one account.
   abbrev pub small_wire : Wire
   small_wire = record {
     Account = Unit {0};
     Seed = Unit {0};
-    shown = shown_small;
+    visible = listed_small;
     Validates = IsRight;
     Covers = λ bytes algorithm text. text ≡ bytes;
     ShowsSame = λ one other. one ≡ other;
     Carries = CarriesIn;
-    told_realm = told_small;
+    reported_realm = reported_small;
     key = λ account realm algorithm. key_small realm algorithm;
-    number = λ seed place. number_at place;
+    number = λ seed index. number_at index;
   }
 
   abbrev pub small_client : ClientWords small_wire Client
@@ -141,20 +147,20 @@ module _ (a : Addresses) where
     realm = λ c. realm_in c.core;
     algorithm = λ c. algorithm_in c.core;
     seed = λ c. tt;
-    count = λ c. c.drawn;
+    count = λ c. c.transmitted;
     given = λ before after. given_by before.core after.core;
     IsOutstanding = λ c m. IsOutstandingIn c.core m;
     IsQueued = λ c m. ⊥;
     IsTaken = λ c n. ⊥;
-    IsKept = λ c h. IsIn h (held_after a (answered_in c.core));
+    IsStored = λ c h. IsIn h (held_after a (answered_in c.core));
     IsHeld = λ c h. IsIn h (held_after a (answered_in c.core));
-    Waits = λ c number to. WaitsAfter a (answered_in c.core) number to;
+    Waits = λ c transaction_id to. WaitsAfter a (answered_in c.core) transaction_id to;
     IsAttempted = λ c n. ⊥;
     IsBuffered = λ c bytes. ⊥;
     created = λ c. [];
   }
 
-  -- a step of the desk is named by how many requests came before
+  -- A step of the server core is identified by the count of requests before it.
   abbrev pub small_desk : DeskWords ℕ
   small_desk = record {
     request = λ n. 0 ∷ n ∷ [];

@@ -1,5 +1,5 @@
--- Runs of the small client in which it holds, tells or shows what no desk granted, and what it is that the
--- promise stands of an account of a run.
+-- Runs of the small client in which it holds, reports or lists what no server core granted, and what it means
+-- that the promise holds for an account of a run.
 use Rattle.std.specs.Prelude.{◌≡◌, ◌≤◌, ℕ, List, [], ◌∷◌, map, Some}
 use Rattle.turn_types.specs.StunTypesBase.declared.transport.TransportType.TheVariants.{Tcp}
 use Rattle.turn_runs.specs.Headline.{AnswersOnce, IsSafe, ShowsTraced, Unless}
@@ -11,15 +11,15 @@ use Rattle.turn_runs_laws.specs.Handshakes.{Addresses}
 use Rattle.turn_runs_laws.specs.Rounds.{granted, quiet, rounds}
 use Rattle.turn_runs_laws.specs.SmallWords.{Client, Core, Idle, Waiting, small}
 
--- a call, without what a run says of how many numbers were drawn
+-- A call, without the run's counts of generated transaction IDs.
 abbrev pub forget_call : Call Client → Call Core
 forget_call call = record {
   before = call.before.core;
   came = call.came;
   handled = call.handled;
-  drawn = call.drawn;
+  transmitted = call.transmitted;
   answered = call.answered;
-  shown = call.shown;
+  visible = call.visible;
   payloads = call.payloads;
   after = call.after.core;
 }
@@ -29,59 +29,60 @@ forget (AtClient call) = AtClient (forget_call call)
 forget (AtDesk d) = AtDesk d
 
 module _ (a : Addresses) where
-  -- an account of what a client and the desk did, of which the promise stands. That each step is one by
-  -- the contracts is left out
+  -- An account of what a client and the server core did, for which the promise holds. It is not required that
+  -- each step meets its contract.
   pub record AreSafe (first : Client) (steps : List (Step Core ℕ)) : Type 0 where
     pub run : List (Step Client ℕ)
-    pub told : map forget run ≡ steps
+    pub reported : map forget run ≡ steps
     pub last : Client
     pub leads : Leads first run last
-    -- it counts as many numbers as the generator gave. Else it could count seventeen, of which two
-    -- are the same, and nothing would be promised
+    -- The account counts as many transaction IDs as the generator gave. Otherwise it could count seventeen,
+    -- of which two are equal, and nothing would be promised.
     pub counted : IsCounted (small a) first run last
     pub safe : Unless (small a) first run last (AtEach (IsSafe (small a) first last run) run)
     pub once : Unless (small a) first run last (AnswersOnce (small a) run)
-    pub shown : Unless (small a) first run last (AtEach (ShowsTraced (small a)) run)
+    pub visible : Unless (small a) first run last (AtEach (ShowsTraced (small a)) run)
 
-  -- the client asks for an address and holds it, but no desk did anything
+  -- The client requests an address and holds it, but no server core did anything.
   abbrev pub holds_ungranted : List (Step Core ℕ)
   holds_ungranted =
       AtClient (quiet (Waiting 0) (Idle 1))
-      ∷ AtClient (record (quiet (Idle 0) (Waiting 0)) { drawn = Some (0 ∷ 0 ∷ []) }) ∷ []
+      ∷ AtClient (record (quiet (Idle 0) (Waiting 0)) { transmitted = Some (0 ∷ 0 ∷ []) }) ∷ []
 
-  -- one address was granted and told, and it is told once more
-  abbrev pub tells_twice : List (Step Core ℕ)
-  tells_twice =
+  -- One address was granted and reported, and it is reported once more.
+  abbrev pub reports_twice : List (Step Core ℕ)
+  reports_twice =
       AtClient (record (quiet (Idle 1) (Idle 1)) { answered = AllocationCreated Tcp a.relayed ∷ [] })
       ∷ map forget (granted a 0 [])
 
-  -- a getter answers an address, but nothing was asked for and nothing is held
+  -- A getter returns an address, but nothing was requested and nothing is held.
   abbrev pub shows_ungranted : List (Step Core ℕ)
   shows_ungranted =
-      AtClient (record (quiet (Idle 0) (Idle 0)) { shown = Allocation Tcp a.relayed ∷ [] }) ∷ []
+      AtClient (record (quiet (Idle 0) (Idle 0)) { visible = Allocation Tcp a.relayed ∷ [] }) ∷ []
 
-  -- behind so many requests, each granted and answered, a getter answers this
-  abbrev pub shows_behind : (n : ℕ) → Held → List (Step Core ℕ)
-  shows_behind n h =
-      AtClient (record (quiet (Idle n) (Idle n)) { shown = h ∷ [] }) ∷ map forget (rounds a n)
+  -- After `n` requests, each granted and answered, a getter returns this.
+  abbrev pub shows_after : (n : ℕ) → Held → List (Step Core ℕ)
+  shows_after n h =
+      AtClient (record (quiet (Idle n) (Idle n)) { visible = h ∷ [] }) ∷ map forget (rounds a n)
 
-  -- it answers a channel
+  -- The getter returns a channel.
   abbrev pub shows_channel : (n number : ℕ) → SocketAddr → List (Step Core ℕ)
-  shows_channel n number peer = shows_behind n (Channel number peer)
+  shows_channel n number peer = shows_after n (Channel number peer)
 
-  -- it answers a connection from this address of the client's
+  -- The getter returns a connection from this local address.
   abbrev pub shows_connection : (n : ℕ) → (local : SocketAddr) → (number : ℕ) → (peer : SocketAddr)
       → List (Step Core ℕ)
-  shows_connection n local number peer = shows_behind n (Connection local peer number)
+  shows_connection n local number peer = shows_after n (Connection local peer number)
 
-  -- the desk granted the channel by then: the third request is a CHANNEL_BIND of this number to this peer
+  -- The server core has granted the channel by then: the third request is a CHANNEL_BIND of this number to
+  -- this peer.
   pub record IsBound (n number : ℕ) (peer : SocketAddr) : Type 0 where
     pub granted : 3 ≤ n
     pub number_is : number ≡ 0x4000
     pub peer_is : peer ≡ a.peer
 
-  -- the desk granted the connection by then: the fourth request is a CONNECT to this peer, which this number answers, and
-  -- the fifth a CONNECTION_BIND of it
+  -- The server core has granted the connection by then: the fourth request is a CONNECT to this peer, whose
+  -- response has this connection ID, and the fifth is a CONNECTION_BIND of it.
   pub record IsJoined (n number : ℕ) (peer : SocketAddr) : Type 0 where
     pub granted : 5 ≤ n
     pub number_is : number ≡ 7

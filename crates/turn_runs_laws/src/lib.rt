@@ -1,5 +1,6 @@
-//! Laws: what holds of every run whose steps keep what they promise; a client and a server in small
-//! that do, and runs that don't; the same for the bytes of STUN.
+//! Theorems on runs: what holds of every run in which each step meets its contract. A small client
+//! and server core show that there are such runs, and what the theorems rule out. One more theorem
+//! is on the bytes of STUN.
 #![tactic(auto)]
 
 pub mod runs;

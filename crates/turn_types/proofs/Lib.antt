@@ -1,3 +1,3 @@
-pub mod Told
--- What stands above this crate has these through it.
+pub mod Decoded
+-- Crates above this one reach these proofs through it.
 pub use Rattle.stun_types_message.proofs as StunTypesMessage

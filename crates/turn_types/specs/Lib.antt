@@ -1,5 +1,5 @@
--- The definitions that the contracts below this face cite, each file under its own name.
-pub mod FrontKinds
+-- The definitions used in the contracts of this facade, each file under its own name.
+pub mod FrameHeads
 pub mod IncomingFrames
 pub mod StoredFrames
 pub use Rattle.turn_types_attributes.specs.FamilyValues
@@ -10,11 +10,11 @@ pub use Rattle.turn_types_peer.specs.TurnShows
 pub use Rattle.turn_types_frame.specs.ChannelFrames
 pub use Rattle.turn_types_frame.specs.Frames
 pub use Rattle.turn_types_frame.specs.StreamAnswers
-pub use Rattle.turn_types_frame.specs.StreamFronts
+pub use Rattle.turn_types_frame.specs.StreamHeads
 pub use Rattle.turn_types_frame.specs.Streams
 pub use Rattle.turn_types_frame.specs.Channeled
 pub use Rattle.turn_types_frame.specs.Indications
--- What stands above this crate has these through it.
+-- Crates above this one reach these definitions through it.
 pub use Rattle.stun_types_base.specs as StunTypesBase
 pub use Rattle.stun_types_message.specs as StunTypesMessage
 pub use Rattle.turn_types_attributes.specs as Attributes

@@ -1,9 +1,15 @@
-//! What TURN adds to STUN (RFC 8656, RFC 6062): its attributes and methods, channel frames, streams of
-//! frames, and what is sent before its bytes are written. Nothing here does IO.
+//! What TURN adds to STUN (RFC 8656, RFC 6062): attributes, methods, channel frames, streams of
+//! frames, and delayed sends, which are encoded only when they are sent. Nothing here does I/O.
 //!
-//! [`attribute`] has the attributes, [`message`] the methods, [`channel`] channel frames, [`tcp`] the
-//! buffer of a stream, [`transmit`] delayed sends, and [`prelude`] the trait that a caller wants in
-//! scope. [`laws`] says what the definitions of the contracts mean. Messages are those of `stun_types`.
+//! - [`attribute`]: the attributes.
+//! - [`message`]: the methods.
+//! - [`channel`]: channel frames.
+//! - [`tcp`]: the buffer of a stream.
+//! - [`transmit`]: delayed sends.
+//! - [`prelude`]: the trait that a caller needs in scope.
+//! - [`laws`]: theorems on what the definitions used in contracts mean.
+//!
+//! Messages are those of `stun_types`.
 #![tactic(auto)]
 
 pub mod attribute;

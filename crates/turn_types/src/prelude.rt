@@ -1,3 +1,3 @@
-//! The trait that a caller wants in scope.
+//! The trait that a caller needs in scope.
 
 pub use turn_types_frame::build::DelayedTransmitBuild;

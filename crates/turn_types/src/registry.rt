@@ -1,4 +1,4 @@
-//! The numbers that TURN adds, each once (RFC 8656; RFC 6062).
+//! The constants that TURN adds, each defined once (RFC 8656; RFC 6062).
 
 pub use turn_types_attributes::registry::{
     ADDITIONAL_ADDRESS_FAMILY, ALLOCATE, CHANNEL_BIND, CHANNEL_HEADER_LENGTH, CHANNEL_NUMBER,

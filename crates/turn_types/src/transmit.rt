@@ -1,4 +1,4 @@
-//! What is sent, before its bytes are written (RFC 8656, sections 11 and 12).
+//! Delayed sends: bytes that are encoded only when they are sent (RFC 8656, sections 11 and 12).
 
 pub use turn_types_frame::build::{DelayedTransmitBuild, TransmitBuild};
 pub use turn_types_frame::delayed_channel::DelayedChannel;

@@ -1,7 +1,7 @@
 pub mod FamilyValues
 pub mod Transports
 pub mod TurnRegistry
--- What stands above this crate has these through it.
+-- Crates above this one reach these definitions through it.
 pub use Rattle.stun_types_wire.specs as StunTypesWire
 pub use Rattle.stun_types_attributes.specs as StunTypesAttributes
 pub use Rattle.stun_types_integrity.specs as StunTypesIntegrity

@@ -1,4 +1,4 @@
--- The numbers that TURN adds, each once: methods, types of attributes and transports (RFC 8656,
+-- The constants that TURN adds, each defined once: methods, attribute types and transports (RFC 8656,
 -- sections 17 and 18). `src/registry.rt` has the same numbers for the code.
 use Rattle.std.specs.Prelude.{ℕ}
 
@@ -86,7 +86,7 @@ additional_address_family_kind = 0x8000
 abbrev pub icmp_kind : ℕ
 icmp_kind = 0x8004
 
--- ---- transports, by the numbers of IP (section 18.8; RFC 6062, section 4.1)
+-- ---- transports, by the transaction IDs of IP (section 18.8; RFC 6062, section 4.1)
 
 -- TCP
 abbrev pub tcp_protocol : ℕ
@@ -98,17 +98,17 @@ udp_protocol = 17
 
 -- ---- channels and payloads (sections 12 and 12.4)
 
--- the least and the greatest number of a channel; RFC 8656 itself keeps those from 0x5000 on for later
+-- The lowest and the highest channel number. RFC 8656 itself reserves the numbers from 0x5000 on.
 abbrev pub least_channel : ℕ
 least_channel = 0x4000
 
 abbrev pub greatest_channel : ℕ
 greatest_channel = 0x7FFF
 
--- how many bytes the header of a channel frame has
+-- The length of a channel frame's header in bytes.
 abbrev pub channel_header_size : ℕ
 channel_header_size = 4
 
--- how many bytes of a peer's data an indication holds at most beside an address of IPv6
+-- The maximum number of bytes of a peer's data in an indication that also carries an IPv6 address.
 abbrev pub most_payload : ℕ
 most_payload = 65504

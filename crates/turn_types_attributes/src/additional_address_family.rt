@@ -17,8 +17,8 @@ use stun_types_write::attribute::{
 };
 use stun_types_write::text::write_attribute;
 
-/// The family of a second address that a client asks for beside one of IPv4 (RFC 8656, section 18.11).
-/// Contracts see the family.
+/// The family of a second relayed address that a client requests in addition to an IPv4 one (RFC
+/// 8656, section 18.11). Contracts see the family.
 #[derive(Debug, Drop)]
 pub struct AdditionalAddressFamily {
     family: AddressFamily,
@@ -33,7 +33,7 @@ impl Model for AdditionalAddressFamily {
 }
 
 impl AdditionalAddressFamily {
-    /// The ADDITIONAL-ADDRESS-FAMILY of a family. RFC 8656 allows IPv6 alone.
+    /// Creates the attribute for a family. RFC 8656 allows only IPv6.
     pub fn new(family: AddressFamily) -> AdditionalAddressFamily
         ensures { result ≡ family }
     {
@@ -85,9 +85,14 @@ impl AttributeWrite for AdditionalAddressFamily {
     }
 }
 
-/// The family in the first of four bytes. The other three are not looked at. Refused, in this order:
-/// `WrongAttributeImplementation` where it is another type, `Truncated` where the value is shorter,
-/// `TooLarge` where it is longer, `InvalidAttributeData` where the number is that of no family.
+/// Decodes the family in the first of four bytes. The other three are ignored.
+///
+/// # Errors
+///
+/// 1. `WrongAttributeImplementation`: the attribute has another type.
+/// 2. `Truncated`: the value has fewer than four bytes.
+/// 3. `TooLarge`: the value has more than four bytes.
+/// 4. `InvalidAttributeData`: the first byte is not a known family.
 impl<'a, 'raw> TryFrom<&'raw RawAttribute<'a>> for AdditionalAddressFamily {
     ghost use Rattle.std.specs.Prelude.{◌≡◌, MatchResult, Some, None, slice_index};
     ghost use Rattle.stun_types_write.specs.ValueReading.{IsNamed};
@@ -106,7 +111,7 @@ impl<'a, 'raw> TryFrom<&'raw RawAttribute<'a>> for AdditionalAddressFamily {
     }
 }
 
-/// Refused as `try_from` is; no memory is taken.
+/// Fails as `try_from` does. It allocates no memory.
 impl<'a> AttributeFromRaw<'a> for AdditionalAddressFamily {
     ghost use Rattle.std.specs.Prelude.{false, slice_index};
     ghost use Rattle.turn_types_attributes.specs.FamilyValues.{family_entry, family_read_refusal};
@@ -133,5 +138,5 @@ impl<'a> AttributeFromRaw<'a> for AdditionalAddressFamily {
     }
 
     #[tactic(auto, using(crate::proofs::Families::families))]
-    fn is_read_back(&self, _read: &AdditionalAddressFamily) {}
+    fn proof_is_read_back(&self, _read: &AdditionalAddressFamily) {}
 }

@@ -26,7 +26,11 @@ impl Model for TurnCredentials {
 }
 
 impl TurnCredentials {
-    /// The credentials of this name and password. Where memory is refused, `NoMemory`.
+    /// Creates the credentials of copies of this name and password.
+    ///
+    /// # Errors
+    ///
+    /// - `NoMemory`: an allocation failed.
     pub fn new(alloc: Global, username: &str, password: &str) -> Result<TurnCredentials, NoMemory>
         ensures { IfOk result (λ made. made
             ≡ record { username = username.now; password = password.now }) }
@@ -53,7 +57,7 @@ impl TurnCredentials {
 }
 
 impl fmt::Debug for TurnCredentials {
-    /// Shows the name, and nothing of the password.
+    /// Prints the name and hides the password.
     fn fmt<W: fmt::Write>(&self, f: &mut fmt::Formatter<W>) -> fmt::Result {
         write!(
             f,
@@ -63,7 +67,7 @@ impl fmt::Debug for TurnCredentials {
     }
 }
 
-/// The same name and password.
+/// Keeps the name and the password.
 impl From<TurnCredentials> for LongTermCredentials {
     ghost use Rattle.std.specs.Prelude.{◌≡◌};
 

@@ -14,13 +14,13 @@ use stun_types_write::attribute::{
 use stun_types_write::reading::value_of;
 use stun_types_write::text::write_attribute;
 
-/// Asks that datagrams to a peer be sent with the bit DF of IPv4 (RFC 8656, section 18.9). It has no
-/// value.
+/// Requests that the server set the DF bit in the IPv4 header of datagrams to a peer (RFC 8656,
+/// section 18.9). It has no value.
 #[derive(Debug, Drop)]
 pub struct DontFragment {}
 
 impl DontFragment {
-    /// The DONT-FRAGMENT.
+    /// Creates the attribute.
     pub fn new() -> DontFragment {
         DontFragment {}
     }
@@ -62,8 +62,12 @@ impl AttributeWrite for DontFragment {
     }
 }
 
-/// Refused, in this order: `WrongAttributeImplementation` where it is another type, `TooLarge` where
-/// there is a value.
+/// Decodes the attribute, which has no value.
+///
+/// # Errors
+///
+/// 1. `WrongAttributeImplementation`: the attribute has another type.
+/// 2. `TooLarge`: the value is not empty.
 impl<'a, 'raw> TryFrom<&'raw RawAttribute<'a>> for DontFragment {
     ghost use Rattle.std.specs.Prelude.{◌≡◌, MatchResult, None};
     ghost use Rattle.stun_types_write.specs.ValueReading.{IsNamed, value_refusal};
@@ -80,7 +84,7 @@ impl<'a, 'raw> TryFrom<&'raw RawAttribute<'a>> for DontFragment {
     }
 }
 
-/// Refused as `try_from` is; no memory is taken.
+/// Fails as `try_from` does. It allocates no memory.
 impl<'a> AttributeFromRaw<'a> for DontFragment {
     ghost use Rattle.std.specs.Prelude.{[], false};
     ghost use Rattle.stun_types_write.specs.ValueReading.{value_refusal};
@@ -104,5 +108,5 @@ impl<'a> AttributeFromRaw<'a> for DontFragment {
     }
 
     #[tactic(auto, using(stun_types_write::proofs::Values::value_is_accepted))]
-    fn is_read_back(&self, _read: &DontFragment) {}
+    fn proof_is_read_back(&self, _read: &DontFragment) {}
 }

@@ -1,4 +1,4 @@
-//! Values that ask for a family of addresses.
+//! Attribute values that request an address family.
 
 ghost use Rattle.std.specs.Prelude.{◌≡◌, None, MatchResult, slice_index};
 ghost use Rattle.stun_types_write.specs.ValueReading.{IsNamed};
@@ -10,7 +10,7 @@ use stun_types_wire::error::StunParseError;
 use stun_types_wire::registry::{IPV4_FAMILY, IPV6_FAMILY};
 use stun_types_write::reading::value_of;
 
-/// The value that names a family: its number, and three zeros.
+/// Returns the value for a family: its number and three zero bytes.
 pub(crate) fn value_of_family(family: AddressFamily) -> [u8; 4]
     ensures { result ≡ family_value family }
 {
@@ -20,10 +20,14 @@ pub(crate) fn value_of_family(family: AddressFamily) -> [u8; 4]
     }
 }
 
-/// The family in the first of four bytes. The other three are not looked at. Refused, in this order:
-/// `WrongAttributeImplementation` where the attribute has another type, `Truncated` where the value is
-/// shorter, `TooLarge` where it is longer, `InvalidAttributeData` where the number is that of no
-/// family.
+/// Decodes the family in the first of four bytes. The other three are ignored.
+///
+/// # Errors
+///
+/// 1. `WrongAttributeImplementation`: the attribute has another type.
+/// 2. `Truncated`: the value has fewer than four bytes.
+/// 3. `TooLarge`: the value has more than four bytes.
+/// 4. `InvalidAttributeData`: the first byte is not a known family.
 #[tactic(auto, unfolding(crate::specs::FamilyValues::family_read_refusal))]
 pub(crate) fn read_family(
     raw: &RawAttribute<'_>,
@@ -37,7 +41,7 @@ pub(crate) fn read_family(
     family_of(value[0])
 }
 
-/// The family of a number. Refused with `InvalidAttributeData` where it is that of no family.
+/// Returns the family with a number, or fails with `InvalidAttributeData` if there is none.
 #[tactic(auto, unfolding(crate::specs::FamilyValues::family_refusal))]
 fn family_of(number: u8) -> Result<AddressFamily, StunParseError>
     ensures { MatchResult result (λ family. (family_refusal number ≡ None)

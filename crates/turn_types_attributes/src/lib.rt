@@ -1,5 +1,5 @@
-//! The attributes of TURN that ask for an allocation and tell of it, each with a type of its own
-//! (RFC 8656, section 18), and the registry of TURN.
+//! The attributes of TURN with which a client requests an allocation and a server describes it (RFC
+//! 8656, section 18), and the constants of TURN. Each attribute has a type of its own.
 #![tactic(auto)]
 
 pub mod additional_address_family;

@@ -16,8 +16,8 @@ use stun_types_write::attribute::{
 };
 use stun_types_write::text::write_attribute;
 
-/// For how many seconds an allocation stands without a refresh (RFC 8656, section 18.2). Any number
-/// of 32 bits is lawful. Contracts see the number.
+/// The lifetime of an allocation in seconds, if it is not refreshed (RFC 8656, section 18.2). Any
+/// 32-bit number is allowed. Contracts see the number.
 #[derive(Debug, Drop)]
 pub struct Lifetime {
     seconds: u32,
@@ -32,14 +32,14 @@ impl Model for Lifetime {
 }
 
 impl Lifetime {
-    /// The LIFETIME of so many seconds.
+    /// Creates the LIFETIME of a number of seconds.
     pub fn new(seconds: u32) -> Lifetime
         ensures { result ≡ seconds }
     {
         Lifetime { seconds }
     }
 
-    /// How many seconds.
+    /// The number of seconds.
     pub fn seconds(&self) -> u32
         ensures { result ≡ self.now }
     {
@@ -80,8 +80,13 @@ impl AttributeWrite for Lifetime {
     }
 }
 
-/// The number in four bytes, the highest first. Refused, in this order: `WrongAttributeImplementation`
-/// where it is another type, `Truncated` where the value is shorter, `TooLarge` where it is longer.
+/// Decodes the four bytes of the value as a big-endian number.
+///
+/// # Errors
+///
+/// 1. `WrongAttributeImplementation`: the attribute has another type.
+/// 2. `Truncated`: the value has fewer than four bytes.
+/// 3. `TooLarge`: the value has more than four bytes.
 impl<'a, 'raw> TryFrom<&'raw RawAttribute<'a>> for Lifetime {
     ghost use Rattle.std.specs.Prelude.{◌≡◌, MatchResult, Some, None};
     ghost use Rattle.stun_types_write.specs.ValueReading.{IsNamed, value_refusal};
@@ -100,7 +105,7 @@ impl<'a, 'raw> TryFrom<&'raw RawAttribute<'a>> for Lifetime {
     }
 }
 
-/// Refused as `try_from` is; no memory is taken.
+/// Fails as `try_from` does. It allocates no memory.
 impl<'a> AttributeFromRaw<'a> for Lifetime {
     ghost use Rattle.std.specs.Prelude.{false};
     ghost use Rattle.stun_types_write.specs.ValueReading.{value_refusal};
@@ -121,7 +126,7 @@ impl<'a> AttributeFromRaw<'a> for Lifetime {
     }
 
     #[tactic(auto, using(crate::proofs::Numbers::numbers))]
-    fn is_read_back(&self, read: &Lifetime) {
+    fn proof_is_read_back(&self, read: &Lifetime) {
         let _ = (self.seconds(), read.seconds());
     }
 }

@@ -1,4 +1,4 @@
-//! Values that are a number of 32 bits.
+//! Attribute values that are a 32-bit number.
 
 ghost use Rattle.std.specs.Prelude.{◌≡◌, None, length, MatchResult};
 ghost use Rattle.stun_types_write.specs.ValueReading.{IsNamed, value_refusal};
@@ -9,9 +9,13 @@ use stun_types_wire::attribute::{AttributeType, RawAttribute};
 use stun_types_wire::error::StunParseError;
 use stun_types_write::reading::value_of;
 
-/// The number in the four bytes of an attribute of this type, the highest first. Refused, in this
-/// order: `WrongAttributeImplementation` where it is another type, `Truncated` where the value is
-/// shorter, `TooLarge` where it is longer.
+/// Decodes the four bytes of an attribute of this type as a big-endian number.
+///
+/// # Errors
+///
+/// 1. `WrongAttributeImplementation`: the attribute has another type.
+/// 2. `Truncated`: the value has fewer than four bytes.
+/// 3. `TooLarge`: the value has more than four bytes.
 pub fn read_number(raw: &RawAttribute<'_>, atype: AttributeType) -> Result<u32, StunParseError>
     ensures { MatchResult result (λ number. (value_refusal atype.0 4 4 raw.now ≡ None)
         × (raw.now.kind ≡ atype.0) × (number ≡ big_number 4 raw.now.value)
@@ -21,11 +25,11 @@ pub fn read_number(raw: &RawAttribute<'_>, atype: AttributeType) -> Result<u32, 
     Ok(number_of(value))
 }
 
-/// The number in four bytes, the highest first.
+/// Returns the big-endian number in four bytes.
 #[tactic(auto, using(crate::proofs::Numbers::bytes_again))]
 fn number_of(value: &[u8]) -> u32
     requires { length value.now ≡ 4 }
-    ensures told { result ≡ big_number 4 value.now }
+    ensures decoded { result ≡ big_number 4 value.now }
     ensures again { big_bytes 4 result ≡ value.now }
 {
     BigEndian::read_u32(value)

@@ -17,8 +17,8 @@ use stun_types_write::attribute::{
 };
 use stun_types_write::text::write_attribute;
 
-/// The family of the address that a client asks for; without it, IPv4 (RFC 8656, section 18.6).
-/// Contracts see the family.
+/// The family of the relayed address that a client requests. Without this attribute, it is IPv4
+/// (RFC 8656, section 18.6). Contracts see the family.
 #[derive(Debug, Drop)]
 pub struct RequestedAddressFamily {
     family: AddressFamily,
@@ -33,7 +33,7 @@ impl Model for RequestedAddressFamily {
 }
 
 impl RequestedAddressFamily {
-    /// The REQUESTED-ADDRESS-FAMILY of a family.
+    /// Creates the attribute for a family.
     pub fn new(family: AddressFamily) -> RequestedAddressFamily
         ensures { result ≡ family }
     {
@@ -85,9 +85,14 @@ impl AttributeWrite for RequestedAddressFamily {
     }
 }
 
-/// The family in the first of four bytes. The other three are not looked at. Refused, in this order:
-/// `WrongAttributeImplementation` where it is another type, `Truncated` where the value is shorter,
-/// `TooLarge` where it is longer, `InvalidAttributeData` where the number is that of no family.
+/// Decodes the family in the first of four bytes. The other three are ignored.
+///
+/// # Errors
+///
+/// 1. `WrongAttributeImplementation`: the attribute has another type.
+/// 2. `Truncated`: the value has fewer than four bytes.
+/// 3. `TooLarge`: the value has more than four bytes.
+/// 4. `InvalidAttributeData`: the first byte is not a known family.
 impl<'a, 'raw> TryFrom<&'raw RawAttribute<'a>> for RequestedAddressFamily {
     ghost use Rattle.std.specs.Prelude.{◌≡◌, MatchResult, Some, None, slice_index};
     ghost use Rattle.stun_types_write.specs.ValueReading.{IsNamed};
@@ -106,7 +111,7 @@ impl<'a, 'raw> TryFrom<&'raw RawAttribute<'a>> for RequestedAddressFamily {
     }
 }
 
-/// Refused as `try_from` is; no memory is taken.
+/// Fails as `try_from` does. It allocates no memory.
 impl<'a> AttributeFromRaw<'a> for RequestedAddressFamily {
     ghost use Rattle.std.specs.Prelude.{false, slice_index};
     ghost use Rattle.turn_types_attributes.specs.FamilyValues.{family_entry, family_read_refusal};
@@ -133,5 +138,5 @@ impl<'a> AttributeFromRaw<'a> for RequestedAddressFamily {
     }
 
     #[tactic(auto, using(crate::proofs::Families::families))]
-    fn is_read_back(&self, _read: &RequestedAddressFamily) {}
+    fn proof_is_read_back(&self, _read: &RequestedAddressFamily) {}
 }

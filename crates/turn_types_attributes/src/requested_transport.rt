@@ -18,8 +18,8 @@ use stun_types_write::attribute::{
 use stun_types_write::reading::value_of;
 use stun_types_write::text::write_attribute;
 
-/// The transport by which an allocation is to reach its peers (RFC 8656, section 18.8): a number of
-/// a protocol as in the header of IPv4, from 0 to 255. Contracts see the number.
+/// The transport between an allocation and its peers (RFC 8656, section 18.8): an IP protocol
+/// number from 0 to 255. Contracts see the number.
 #[derive(Debug, Drop)]
 pub struct RequestedTransport {
     protocol: u8,
@@ -34,26 +34,26 @@ impl Model for RequestedTransport {
 }
 
 impl RequestedTransport {
-    /// The number of TCP.
+    /// The protocol number of TCP.
     pub const TCP: u8 = registry::TCP;
-    /// The number of UDP, the one that RFC 8656 itself allows.
+    /// The protocol number of UDP, the only one that RFC 8656 itself allows.
     pub const UDP: u8 = registry::UDP;
 
-    /// The REQUESTED-TRANSPORT of a protocol.
+    /// Creates the attribute for a protocol number.
     pub fn new(protocol: u8) -> RequestedTransport
         ensures { result ≡ protocol }
     {
         RequestedTransport { protocol }
     }
 
-    /// The number of the protocol.
+    /// The protocol number.
     pub fn protocol(&self) -> u8
         ensures { result ≡ self.now }
     {
         self.protocol
     }
 
-    /// The value: the protocol, and three zeros.
+    /// Returns the value: the protocol number and three zero bytes.
     fn value(&self) -> [u8; 4]
         ensures { result ≡ transport_value self.now }
     {
@@ -94,9 +94,13 @@ impl AttributeWrite for RequestedTransport {
     }
 }
 
-/// The first of four bytes. The other three are not looked at. Refused, in this order:
-/// `WrongAttributeImplementation` where it is another type, `Truncated` where the value is shorter,
-/// `TooLarge` where it is longer.
+/// Decodes the first of four bytes. The other three are ignored.
+///
+/// # Errors
+///
+/// 1. `WrongAttributeImplementation`: the attribute has another type.
+/// 2. `Truncated`: the value has fewer than four bytes.
+/// 3. `TooLarge`: the value has more than four bytes.
 impl<'a, 'raw> TryFrom<&'raw RawAttribute<'a>> for RequestedTransport {
     ghost use Rattle.std.specs.Prelude.{◌≡◌, MatchResult, Some, None, slice_index};
     ghost use Rattle.stun_types_write.specs.ValueReading.{IsNamed, value_refusal};
@@ -114,7 +118,7 @@ impl<'a, 'raw> TryFrom<&'raw RawAttribute<'a>> for RequestedTransport {
     }
 }
 
-/// Refused as `try_from` is; no memory is taken.
+/// Fails as `try_from` does. It allocates no memory.
 impl<'a> AttributeFromRaw<'a> for RequestedTransport {
     ghost use Rattle.std.specs.Prelude.{false, slice_index};
     ghost use Rattle.stun_types_write.specs.ValueReading.{value_refusal};
@@ -142,10 +146,10 @@ impl<'a> AttributeFromRaw<'a> for RequestedTransport {
     }
 
     #[tactic(auto, using(stun_types_write::proofs::Values::value_is_accepted))]
-    fn is_read_back(&self, _read: &RequestedTransport) {}
+    fn proof_is_read_back(&self, _read: &RequestedTransport) {}
 }
 
-/// The number in the value of a REQUESTED-TRANSPORT. Refused as `try_from` is.
+/// Decodes the protocol number in the value of a REQUESTED-TRANSPORT. Fails as `try_from` does.
 fn protocol_of(raw: &RawAttribute<'_>) -> Result<u8, StunParseError>
     ensures { MatchResult result (λ protocol. (value_refusal requested_transport_kind 4 4 raw.now
         ≡ None)

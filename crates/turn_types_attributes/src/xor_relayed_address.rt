@@ -20,8 +20,8 @@ use stun_types_write::attribute::{
     Attribute, AttributeFromRaw, AttributeStaticType, AttributeWrite,
 };
 
-/// The address that a server gave to an allocation, xored as a XOR-MAPPED-ADDRESS is (RFC 8656, section
-/// 18.5). Contracts see the bytes of the value.
+/// The relayed address of an allocation, XORed as in XOR-MAPPED-ADDRESS (RFC 8656, section 18.5).
+/// Contracts see the bytes of the value.
 #[derive(Debug, Drop)]
 pub struct XorRelayedAddress {
     addr: XorSocketAddr,
@@ -36,22 +36,23 @@ impl Model for XorRelayedAddress {
 }
 
 impl XorRelayedAddress {
-    /// The attribute of an address under the number of the message that is to hold it.
-    pub fn new(addr: SocketAddr, number: TransactionId) -> XorRelayedAddress
-        ensures { result ≡ xored number (address_value addr) }
+    /// Creates the attribute for an address and the transaction ID of the message that will carry
+    /// it.
+    pub fn new(addr: SocketAddr, transaction_id: TransactionId) -> XorRelayedAddress
+        ensures { result ≡ xored transaction_id (address_value addr) }
     {
         XorRelayedAddress {
-            addr: XorSocketAddr::new(addr, number),
+            addr: XorSocketAddr::new(addr, transaction_id),
         }
     }
 
-    /// The address, under the number of the message that holds it, with no flow information and no
-    /// scope.
-    pub fn addr(&self, number: TransactionId) -> SocketAddr
-        ensures told { Some result ≡ address_of (xored number self.now) }
-        ensures value { address_value result ≡ xored number self.now }
+    /// Returns the address, given the transaction ID of the message that carries it. It has no flow
+    /// information and no scope.
+    pub fn addr(&self, transaction_id: TransactionId) -> SocketAddr
+        ensures decoded { Some result ≡ address_of (xored transaction_id self.now) }
+        ensures value { address_value result ≡ xored transaction_id self.now }
     {
-        self.addr.addr(number)
+        self.addr.addr(transaction_id)
     }
 }
 
@@ -86,10 +87,15 @@ impl AttributeWrite for XorRelayedAddress {
     }
 }
 
-/// A xored address. Its first byte is not looked at. Refused, in this order:
-/// `WrongAttributeImplementation` where it is another type, `Truncated` where the value has fewer than
-/// four bytes, `InvalidAttributeData` where the family is unknown, `Truncated` or `TooLarge` where it
-/// has not the 8 bytes of IPv4 or the 20 of IPv6.
+/// Decodes a XORed address. Its first byte is ignored.
+///
+/// # Errors
+///
+/// 1. `WrongAttributeImplementation`: the attribute has another type.
+/// 2. `Truncated`: the value has fewer than four bytes.
+/// 3. `InvalidAttributeData`: the family is unknown.
+/// 4. `Truncated` or `TooLarge`: the value does not have the 8 bytes of IPv4 or the 20 bytes of
+///    IPv6.
 impl<'a, 'raw> TryFrom<&'raw RawAttribute<'a>> for XorRelayedAddress {
     ghost use Rattle.std.specs.Prelude.{◌≡◌, MatchResult, Some, None};
     ghost use Rattle.stun_types_write.specs.ValueReading.{IsNamed};
@@ -108,7 +114,7 @@ impl<'a, 'raw> TryFrom<&'raw RawAttribute<'a>> for XorRelayedAddress {
     }
 }
 
-/// Refused as `try_from` is; no memory is taken.
+/// Fails as `try_from` does. It allocates no memory.
 impl<'a> AttributeFromRaw<'a> for XorRelayedAddress {
     ghost use Rattle.std.specs.Prelude.{false};
     ghost use Rattle.stun_types_attributes.specs.Addresses.{address_again, address_read_refusal};
@@ -131,7 +137,7 @@ impl<'a> AttributeFromRaw<'a> for XorRelayedAddress {
         XorRelayedAddress::from_raw_ref(alloc, &raw)
     }
 
-    fn is_read_back(&self, _read: &XorRelayedAddress) {
-        self.addr.is_read_back();
+    fn proof_is_read_back(&self, _read: &XorRelayedAddress) {
+        self.addr.proof_is_read_back();
     }
 }

@@ -1,4 +1,4 @@
-pub mod Fronts
+pub mod Heads
 pub mod Feeding
 pub mod Framing
 pub mod Texts

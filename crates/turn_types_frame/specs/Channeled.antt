@@ -1,8 +1,8 @@
--- Channel frames that are sent by datagrams or in a stream (RFC 8656, section 12.5).
+-- Channel frames sent in datagrams or in a stream (RFC 8656, section 12.5).
 use Rattle.std.specs.Prelude.{ℕ, List, Bool, true, false}
 use Rattle.turn_types_frame.specs.ChannelFrames.{Frame, frame_text, padded_frame_text}
 
--- a frame, and whether padding follows it
+-- A frame, and whether padding follows it.
 pub record Channeled : Type 0 where
   pub frame : Frame
   pub padded : Bool
@@ -11,6 +11,6 @@ abbrev pub text_when : Bool → Frame → List ℕ
 text_when true frame = padded_frame_text frame
 text_when false frame = frame_text frame
 
--- the bytes that are sent
+-- The bytes to be sent.
 abbrev pub channeled_text : Channeled → List ℕ
 channeled_text channeled = text_when channeled.padded channeled.frame

@@ -1,4 +1,4 @@
--- Indications that carry data of a peer or for one (RFC 8656, sections 11.1 and 11.3).
+-- Indications that carry data from a peer or for a peer (RFC 8656, sections 11.1 and 11.3).
 use Rattle.std.specs.Prelude.{ℕ, List, [], ◌∷◌, ◌<◌, ◌≤◌, ◌^◌}
 use Rattle.std.specs.declared.net.socket_addr.SocketAddr.{SocketAddr}
 use Rattle.stun_types_write.specs.Adding.{attr_of}
@@ -10,27 +10,27 @@ use Rattle.stun_types_wire.specs.Types.{type_of}
 use Rattle.turn_types_attributes.specs.StunTypesAttributes.Xor.{xored}
 use Rattle.turn_types_attributes.specs.TurnRegistry.{data_kind, most_payload, xor_peer_address_kind}
 
--- an indication of a method, with the address of a peer and the data
+-- An indication with a method, a peer's address and data.
 pub record Sent : Type 0 where
   pub method : ℕ
   pub peer : SocketAddr
   pub number : ℕ
   pub payload : List ℕ
 
--- XOR-PEER-ADDRESS of the peer
+-- XOR-PEER-ADDRESS of the peer.
 abbrev pub peer_attribute : Sent → Attr
 peer_attribute sent = attr_of xor_peer_address_kind (xored sent.number (address_value sent.peer))
 
--- DATA
+-- DATA with the payload.
 abbrev pub data_attribute : Sent → Attr
 data_attribute sent = attr_of data_kind sent.payload
 
--- the indication: these two attributes
+-- The encoding of the indication: XOR-PEER-ADDRESS and DATA.
 abbrev pub indication_text : Sent → List ℕ
 indication_text sent =
     message_text (type_of Indication sent.method) sent.number (peer_attribute sent ∷ data_attribute sent ∷ [])
 
--- a method that an indication can have, and data for which it has room
+-- The method has 12 bits, and the data fits into an indication.
 pub record IsMethod (method len : ℕ) : Type 0 where
   pub short : method < 2 ^ 12
   pub room : len ≤ most_payload

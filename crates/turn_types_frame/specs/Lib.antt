@@ -1,11 +1,11 @@
 pub mod ChannelFrames
 pub mod Frames
 pub mod StreamAnswers
-pub mod StreamFronts
+pub mod StreamHeads
 pub mod Streams
 pub mod Channeled
 pub mod Indications
--- What stands above this crate has these through it.
+-- Crates above this one reach these definitions through it.
 pub use Rattle.stun_types_base.specs as StunTypesBase
 pub use Rattle.stun_types_wire.specs as StunTypesWire
 pub use Rattle.stun_types_write.specs as StunTypesWrite

@@ -1,81 +1,81 @@
--- What a stream buffer answers to a piece of bytes, and when it is asked for a frame.
+-- What a stream buffer returns for a chunk of bytes, and when it is polled for a frame.
 use Rattle.std.specs.Prelude.{◌≡◌, ◌≢◌, ⊤, ℕ, List, [], ◌++◌, take, Option, Some, None, if◌then◌else◌}
 use Rattle.stun_types_base.specs.declared.transmit.Transmit.{Transmit}
-use Rattle.turn_types_frame.specs.declared.front.Front.{Front}
-use Rattle.turn_types_frame.specs.declared.front.Front.TheVariants.{Message, Channel, Partial, Broken}
+use Rattle.turn_types_frame.specs.declared.head.FrameHead.{FrameHead}
+use Rattle.turn_types_frame.specs.declared.head.FrameHead.TheVariants.{Message, Channel, Incomplete, Invalid}
 use Rattle.turn_types_frame.specs.declared.tcp.IncomingTcp.{IncomingTcp}
 use Rattle.turn_types_frame.specs.declared.tcp.IncomingTcp.TheVariants.{CompleteMessage, CompleteChannel, StoredMessage, StoredChannel, NoMemory}
 use Rattle.turn_types_frame.specs.declared.tcp.StoredTcp.{StoredTcp}
 use Rattle.turn_types_frame.specs.declared.tcp.StoredTcp.TheVariants.{Message as AMessage, Channel as AChannel}
-use Rattle.turn_types_frame.specs.StreamFronts.{front, given_of}
+use Rattle.turn_types_frame.specs.StreamHeads.{head, given_of}
 use Rattle.turn_types_frame.specs.Streams.{Stream, left_by}
 
-abbrev pub IsMessage : Front → Type 0
+abbrev pub IsMessage : FrameHead → Type 0
 IsMessage (Message _) = ⊤
 IsMessage (Channel _) = ⊥
-IsMessage Partial = ⊥
-IsMessage Broken = ⊥
+IsMessage Incomplete = ⊥
+IsMessage Invalid = ⊥
 
-abbrev pub IsChannel : Front → Type 0
+abbrev pub IsChannel : FrameHead → Type 0
 IsChannel (Message _) = ⊥
 IsChannel (Channel _) = ⊤
-IsChannel Partial = ⊥
-IsChannel Broken = ⊥
+IsChannel Incomplete = ⊥
+IsChannel Invalid = ⊥
 
--- no whole frame
-abbrev pub IsNone : Front → Type 0
+-- There is no complete frame.
+abbrev pub IsNone : FrameHead → Type 0
 IsNone (Message _) = ⊥
 IsNone (Channel _) = ⊥
-IsNone Partial = ⊤
-IsNone Broken = ⊤
+IsNone Incomplete = ⊤
+IsNone Invalid = ⊤
 
--- a stream to which more bytes came
+-- The stream with more bytes appended.
 abbrev pub joined : Stream → List ℕ → Stream
-joined stream more = record { kept = stream.kept ++ more; dead = stream.dead }
+joined stream more = record { stored = stream.stored ++ more; dead = stream.dead }
 
--- what stands at the front of a stream: a dead one begins nothing
-abbrev pub looked : Stream → Front
-looked stream = if stream.dead then Broken else front stream.kept
+-- What the first bytes of a stream are. Those of a dead stream are invalid.
+abbrev pub looked : Stream → FrameHead
+looked stream = if stream.dead then Invalid else head stream.stored
 
--- and what is kept of it when the frame there is taken
+-- The stream after the frame at its head, if any, is removed.
 abbrev pub after_look : Stream → Stream
-after_look stream = left_by (looked stream) stream.kept
+after_look stream = left_by (looked stream) stream.stored
 
--- the bytes are those of the frame at the front, without the padding of a channel frame
+-- The bytes are the frame at the head of the stream, without the padding of a channel frame.
 abbrev pub IsGiven : Stream → List ℕ → Type 0
-IsGiven stream bytes = bytes ≡ take (given_of (looked stream)) stream.kept
+IsGiven stream bytes = bytes ≡ take (given_of (looked stream)) stream.stored
 
--- the range is that of the frame at the front of a piece
+-- The range covers the frame at the start of a chunk.
 pub record IsRange (size start end : ℕ) : Type 0 where
   pub start_is : start ≡ 0
   pub end_is : end ≡ size
 
--- what a buffer answers to a piece that a transmit brought, by the stream to which its bytes came. A frame
--- that the piece itself begins is told by its range, one that began before is given in a vector. An
--- allocation can fail where bytes were kept before, or are kept afterwards
+-- What a buffer returns for a chunk, given the stream with the chunk's bytes appended. A frame that starts in
+-- the chunk is reported by its range; a frame that starts in buffered bytes is returned in a vector. An
+-- allocation can fail only if bytes were buffered before the call, or would be after it.
 abbrev pub IsAnswer : {T : Type 0} → Stream → List ℕ → Transmit T → Option (IncomingTcp T) → Type 0
-IsAnswer old piece transmit None = IsNone (looked (joined old piece))
-IsAnswer old piece transmit (Some (CompleteMessage came range)) = IsMessage (looked (joined old piece))
-    × (old.kept ≡ []) × (came ≡ transmit) × IsRange (given_of (looked (joined old piece))) range.start range.end
-IsAnswer old piece transmit (Some (CompleteChannel came range)) = IsChannel (looked (joined old piece))
-    × (old.kept ≡ []) × (came ≡ transmit) × IsRange (given_of (looked (joined old piece))) range.start range.end
-IsAnswer old piece transmit (Some (StoredMessage bytes came)) = IsMessage (looked (joined old piece))
-    × (old.kept ≢ []) × (came ≡ transmit) × IsGiven (joined old piece) bytes.items
-IsAnswer old piece transmit (Some (StoredChannel bytes came)) = IsChannel (looked (joined old piece))
-    × (old.kept ≢ []) × (came ≡ transmit) × IsGiven (joined old piece) bytes.items
-IsAnswer old piece transmit (Some (NoMemory came)) =
-    (came ≡ transmit) × (old.kept ≡ [] → (after_look (joined old piece)).kept ≢ [])
+IsAnswer old chunk transmit None = IsNone (looked (joined old chunk))
+IsAnswer old chunk transmit (Some (CompleteMessage came range)) = IsMessage (looked (joined old chunk))
+    × (old.stored ≡ []) × (came ≡ transmit) × IsRange (given_of (looked (joined old chunk))) range.start range.end
+IsAnswer old chunk transmit (Some (CompleteChannel came range)) = IsChannel (looked (joined old chunk))
+    × (old.stored ≡ []) × (came ≡ transmit) × IsRange (given_of (looked (joined old chunk))) range.start range.end
+IsAnswer old chunk transmit (Some (StoredMessage bytes came)) = IsMessage (looked (joined old chunk))
+    × (old.stored ≢ []) × (came ≡ transmit) × IsGiven (joined old chunk) bytes.items
+IsAnswer old chunk transmit (Some (StoredChannel bytes came)) = IsChannel (looked (joined old chunk))
+    × (old.stored ≢ []) × (came ≡ transmit) × IsGiven (joined old chunk) bytes.items
+IsAnswer old chunk transmit (Some (NoMemory came)) =
+    (came ≡ transmit) × (old.stored ≡ [] → (after_look (joined old chunk)).stored ≢ [])
 
--- what the buffer is afterwards: as it was where an allocation failed
+-- The buffer after the call. It is unchanged if an allocation failed.
 abbrev pub after_incoming : {T : Type 0} → Stream → List ℕ → Option (IncomingTcp T) → Stream
-after_incoming old piece None = after_look (joined old piece)
-after_incoming old piece (Some (CompleteMessage _ _)) = after_look (joined old piece)
-after_incoming old piece (Some (CompleteChannel _ _)) = after_look (joined old piece)
-after_incoming old piece (Some (StoredMessage _ _)) = after_look (joined old piece)
-after_incoming old piece (Some (StoredChannel _ _)) = after_look (joined old piece)
-after_incoming old piece (Some (NoMemory _)) = old
+after_incoming old chunk None = after_look (joined old chunk)
+after_incoming old chunk (Some (CompleteMessage _ _)) = after_look (joined old chunk)
+after_incoming old chunk (Some (CompleteChannel _ _)) = after_look (joined old chunk)
+after_incoming old chunk (Some (StoredMessage _ _)) = after_look (joined old chunk)
+after_incoming old chunk (Some (StoredChannel _ _)) = after_look (joined old chunk)
+after_incoming old chunk (Some (NoMemory _)) = old
 
--- what a buffer gives when it is asked for a frame
+-- What a buffer returns when it is polled for a frame.
 abbrev pub IsStored : Stream → Option StoredTcp → Type 0
 IsStored old None = IsNone (looked old)
 IsStored old (Some (AMessage bytes)) = IsMessage (looked old) × IsGiven old bytes.items

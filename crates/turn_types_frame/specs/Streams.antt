@@ -1,30 +1,30 @@
--- A stream that is cut anywhere: what is kept of it, and which frames it gave.
+-- A stream split into chunks anywhere: the bytes that it buffers, and the frames that it has returned.
 use Rattle.std.specs.Prelude.{ℕ, zero, suc, Bool, true, false, List, [], ◌∷◌, ◌++◌, length, take, drop, if◌then◌else◌}
-use Rattle.turn_types_frame.specs.declared.front.Front.{Front}
-use Rattle.turn_types_frame.specs.declared.front.Front.TheVariants.{Message, Channel, Partial, Broken}
-use Rattle.turn_types_frame.specs.StreamFronts.{front, size_of}
+use Rattle.turn_types_frame.specs.declared.head.FrameHead.{FrameHead}
+use Rattle.turn_types_frame.specs.declared.head.FrameHead.TheVariants.{Message, Channel, Incomplete, Invalid}
+use Rattle.turn_types_frame.specs.StreamHeads.{head, size_of}
 
--- the bytes that are kept, and whether the stream is dead: then it gives nothing more and keeps nothing
+-- The buffered bytes, and whether the stream is dead. A dead stream returns nothing more and buffers nothing.
 pub record Stream : Type 0 where
-  pub kept : List ℕ
+  pub stored : List ℕ
   pub dead : Bool
 
 abbrev pub alive : List ℕ → Stream
-alive kept = record { kept = kept; dead = false }
+alive stored = record { stored = stored; dead = false }
 
 abbrev pub dead_stream : Stream
-dead_stream = record { kept = []; dead = true }
+dead_stream = record { stored = []; dead = true }
 
--- what is kept of some bytes when their front was looked at and its frame taken
-abbrev pub left_by : Front → List ℕ → Stream
+-- The stream that remains of these bytes after the frame at their head, if any, is removed.
+abbrev pub left_by : FrameHead → List ℕ → Stream
 left_by (Message size) bytes = alive (drop (size_of (Message size)) bytes)
 left_by (Channel len) bytes = alive (drop (size_of (Channel len)) bytes)
-left_by Partial bytes = alive bytes
-left_by Broken bytes = dead_stream
+left_by Incomplete bytes = alive bytes
+left_by Invalid bytes = dead_stream
 
 -- ---- all frames
 
--- the frames that a stream gave, padding included, and what is kept of it
+-- The frames that a stream has returned, with padding, and the stream that remains.
 pub record Fed : Type 0 where
   pub frames : List (List ℕ)
   pub stream : Stream
@@ -32,27 +32,28 @@ pub record Fed : Type 0 where
 abbrev pub one_more : List ℕ → Fed → Fed
 one_more frame fed = record { frames = frame ∷ fed.frames; stream = fed.stream }
 
--- of bytes with this at their front, and what the bytes behind that give
-abbrev pub fed_by : Front → List ℕ → Fed → Fed
-fed_by Partial bytes later = record { frames = []; stream = alive bytes }
-fed_by Broken bytes later = record { frames = []; stream = dead_stream }
+-- The result of feeding bytes with this head, given the result `later` of the bytes after the frame.
+abbrev pub fed_by : FrameHead → List ℕ → Fed → Fed
+fed_by Incomplete bytes later = record { frames = []; stream = alive bytes }
+fed_by Invalid bytes later = record { frames = []; stream = dead_stream }
 fed_by (Message size) bytes later = one_more (take (size_of (Message size)) bytes) later
 fed_by (Channel len) bytes later = one_more (take (size_of (Channel len)) bytes) later
 
--- the frames at the front of some bytes, at most so many
+-- The result of feeding these bytes, limited to a number of frames.
 unfoldable pub fed_within : ℕ → List ℕ → Fed
 fed_within zero bytes = record { frames = []; stream = alive bytes }
-fed_within (suc n) bytes = fed_by (front bytes) bytes (fed_within n (drop (size_of (front bytes)) bytes))
+fed_within (suc n) bytes = fed_by (head bytes) bytes (fed_within n (drop (size_of (head bytes)) bytes))
 
--- what a stream of these bytes gives: each frame has a byte at least
+-- The result of feeding these bytes to a new stream. Each frame has at least one byte, so the limit is not
+-- reached.
 abbrev pub fed : List ℕ → Fed
 fed bytes = fed_within (suc (length bytes)) bytes
 
--- and what it gives when more bytes come
+-- The result of feeding more bytes to a stream.
 abbrev pub feeding : List ℕ → Fed → Fed
 feeding more before =
     if before.stream.dead then before
     else record {
-      frames = before.frames ++ (fed (before.stream.kept ++ more)).frames;
-      stream = (fed (before.stream.kept ++ more)).stream;
+      frames = before.frames ++ (fed (before.stream.stored ++ more)).frames;
+      stream = (fed (before.stream.stored ++ more)).stream;
     }

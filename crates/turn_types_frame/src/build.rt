@@ -1,4 +1,4 @@
-//! Bytes that are to be sent and aren't written yet.
+//! Bytes to be sent that are not encoded yet.
 
 ghost use Rattle.std.specs.Prelude.{◌≡◌, ◌==◌, ℕ, List, length, IfOk};
 
@@ -9,41 +9,44 @@ use stun_types_base::memory::NoMemory;
 use stun_types_base::transmit::Transmit;
 use stun_types_base::transport::TransportType;
 
-/// Bytes that can be written when they are sent, straight to where they are wanted. Contracts know
-/// them by the text.
+/// Bytes that can be encoded when they are sent, directly into the buffer where they are needed.
+/// Contracts see the encoded bytes.
 pub trait DelayedTransmitBuild: Debug {
-    // The bytes.
+    // The encoded bytes.
     ghost text: { Self → List ℕ };
 
-    /// How many bytes there are.
+    /// Returns the number of bytes.
     fn len(&self) -> usize
         ensures { result ≡ length (text self.now) };
 
-    /// Whether there are none.
+    /// Returns whether there are no bytes.
     fn is_empty(&self) -> bool
         ensures { result ≡ (length (text self.now) == 0) }
     {
         self.len() == 0
     }
 
-    /// Writes the bytes into a slice of exactly that length, and answers how many there are.
+    /// Writes the bytes into a slice of exactly their length, and returns that length.
     fn write_into(self, dest: &mut [u8]) -> usize
         requires { length dest.old ≡ length (Self.text self) }
         ensures bytes { dest.new ≡ Self.text self }
         ensures count { result ≡ length (Self.text self) };
 
-    /// The bytes in a vector. Where memory is refused, `NoMemory`.
+    /// Returns the bytes in a vector.
+    ///
+    /// # Errors
+    ///
+    /// - `NoMemory`: an allocation failed.
     fn build(self, alloc: Global) -> Result<Vec<u8>, NoMemory>
         ensures { IfOk result (λ bytes. bytes.items ≡ Self.text self) };
 }
 
-/// Bytes that can be written when they are sent, with the transport and the addresses between which
-/// they go.
+/// Bytes that can be encoded when they are sent, with their transport, sender and receiver.
 #[derive(Debug, Drop)]
 pub struct TransmitBuild<T> {
     /// The bytes.
     pub bytes: T,
-    /// The transport by which they go.
+    /// The transport that carries them.
     pub transport: TransportType,
     /// The address that sends them.
     pub from: SocketAddr,
@@ -52,7 +55,7 @@ pub struct TransmitBuild<T> {
 }
 
 impl<T: DelayedTransmitBuild> TransmitBuild<T> {
-    /// These bytes, by this transport, from one address to another.
+    /// Creates the delayed send of these bytes over a transport, from one address to another.
     pub fn new(
         bytes: T,
         transport: TransportType,
@@ -69,7 +72,11 @@ impl<T: DelayedTransmitBuild> TransmitBuild<T> {
         }
     }
 
-    /// The same with the bytes in a vector. Where memory is refused, `NoMemory`.
+    /// Encodes the bytes into a vector, and keeps transport and addresses.
+    ///
+    /// # Errors
+    ///
+    /// - `NoMemory`: an allocation failed.
     pub fn build(self, alloc: Global) -> Result<Transmit<Vec<u8>>, NoMemory>
         ensures bytes { IfOk result (λ made. made.bytes.items ≡ T.text self.bytes) }
         ensures transport { IfOk result (λ made. made.transport ≡ self.transport) }
@@ -85,7 +92,8 @@ impl<T: DelayedTransmitBuild> TransmitBuild<T> {
         Ok(Transmit::new(bytes.build(alloc)?, transport, from, to))
     }
 
-    /// The same with the bytes written into a slice of exactly their length, which is given back.
+    /// Encodes the bytes into a slice of exactly their length, and keeps transport and addresses.
+    /// The result holds the slice.
     pub fn write_into(self, dest: &mut [u8]) -> Transmit<&mut [u8]>
         requires { length dest.old ≡ length (T.text self.bytes) }
         ensures bytes { result.bytes.now ≡ T.text self.bytes }

@@ -12,8 +12,8 @@ use std::marker::Model;
 use stun_types_wire::error::{StunParseError, StunWriteError};
 use turn_types_attributes::registry::{CHANNEL_HEADER_LENGTH, GREATEST_CHANNEL, LEAST_CHANNEL};
 
-/// The data of a channel, as it stands in a channel frame: a number from 0x4000 to 0x7FFF, and at most
-/// 65,535 bytes, which are borrowed (RFC 8656, section 12.4). Contracts see the record `Frame`.
+/// The content of a channel frame: a channel number from 0x4000 to 0x7FFF, and at most 65,535 bytes
+/// of data, which are borrowed (RFC 8656, section 12.4). Contracts see the record `Frame`.
 #[derive(Debug, Drop)]
 pub struct ChannelData<'a> {
     id: u16,
@@ -32,7 +32,8 @@ impl<'a> Model for ChannelData<'a> {
 }
 
 impl<'a> ChannelData<'a> {
-    /// The data of a channel. The number is from 0x4000 to 0x7FFF, and there are at most 65,535 bytes.
+    /// Creates a frame's content. `id` has to be from 0x4000 to 0x7FFF, and `payload` at most
+    /// 65,535 bytes.
     pub fn new(id: u16, payload: &'a [u8]) -> ChannelData<'a>
         requires { IsLawful id (length payload.now) }
         ensures { result ≡ record { id = id; payload = payload.now } }
@@ -40,23 +41,27 @@ impl<'a> ChannelData<'a> {
         ChannelData { id, payload }
     }
 
-    /// The number of the channel.
+    /// The channel number.
     pub fn id(&self) -> u16
         ensures { result ≡ self.now.id }
     {
         self.id
     }
 
-    /// The data, for as long as it is borrowed.
+    /// The data, with the lifetime of the borrow.
     pub fn data(&self) -> &'a [u8]
         ensures { result.now ≡ self.now.payload }
     {
         self.payload
     }
 
-    /// The number and the length of the data in the first four bytes; what follows them is not looked
-    /// at. Refused, in this order: `Truncated` where there are fewer than four bytes, `NotStun` where
-    /// the number is not from 0x4000 to 0x7FFF.
+    /// Decodes the channel number and the length of the data from the first four bytes. Bytes after
+    /// them are ignored.
+    ///
+    /// # Errors
+    ///
+    /// 1. `Truncated`: there are fewer than four bytes.
+    /// 2. `NotStun`: the number is not from 0x4000 to 0x7FFF.
     #[tactic(auto, unfolding(crate::specs::ChannelFrames::channel_header_refusal))]
     pub fn parse_header(bytes: &[u8]) -> Result<(u16, u16), StunParseError>
         ensures { MatchResult result (λ header. (channel_header_refusal bytes.now ≡ None)
@@ -69,16 +74,21 @@ impl<'a> ChannelData<'a> {
                 actual: bytes.len(),
             });
         }
-        let (_, behind_number) = bytes.split_at(2);
+        let (_, after_number) = bytes.split_at(2);
         let id = BigEndian::read_u16(bytes);
         if id < LEAST_CHANNEL || GREATEST_CHANNEL < id {
             return Err(StunParseError::NotStun);
         }
-        Ok((id, BigEndian::read_u16(behind_number)))
+        Ok((id, BigEndian::read_u16(after_number)))
     }
 
-    /// The channel frame at the front; what follows its data, padding too, is not looked at. Refused
-    /// as `parse_header` is, and then with `Truncated` where the data is not there whole.
+    /// Decodes the channel frame at the start of `bytes`. Bytes after its data, padding included,
+    /// are ignored.
+    ///
+    /// # Errors
+    ///
+    /// 1. The errors of `parse_header`.
+    /// 2. `Truncated`: the data is incomplete.
     #[tactic(auto, unfolding(crate::proofs::Framing::refusals))]
     pub fn parse(bytes: &'a [u8]) -> Result<ChannelData<'a>, StunParseError>
         ensures { MatchResult result (λ channel. (channel_refusal bytes.now ≡ None)
@@ -86,26 +96,30 @@ impl<'a> ChannelData<'a> {
     {
         let (id, len) = ChannelData::parse_header(bytes)?;
         let len = usize::from(len);
-        let (_, behind_header) = bytes.split_at(CHANNEL_HEADER_LENGTH);
-        if behind_header.len() < len {
+        let (_, after_header) = bytes.split_at(CHANNEL_HEADER_LENGTH);
+        if after_header.len() < len {
             return Err(StunParseError::Truncated {
                 expected: CHANNEL_HEADER_LENGTH + len,
                 actual: bytes.len(),
             });
         }
-        let (payload, _) = behind_header.split_at(len);
+        let (payload, _) = after_header.split_at(len);
         Ok(ChannelData { id, payload })
     }
 
-    /// How many bytes the frame has: its header and its data, without padding.
+    /// Returns the length of the frame in bytes: header and data, without padding.
     pub fn len(&self) -> usize
         ensures { result ≡ channel_header_size + length self.now.payload }
     {
         CHANNEL_HEADER_LENGTH + self.payload.len()
     }
 
-    /// Writes the frame to the front, and answers how many bytes it has; what stands behind is left.
-    /// Refused with `TooSmall`, nothing being written, where there are fewer.
+    /// Writes the frame to the start of `dest`, and returns its length. Bytes after it do not
+    /// change.
+    ///
+    /// # Errors
+    ///
+    /// - `TooSmall`: `dest` is shorter than the frame. Nothing is written.
     pub fn write_into(&self, dest: &mut [u8]) -> Result<usize, StunWriteError>
         ensures count { IfOk result (λ n. (n ≡ channel_header_size + length self.now.payload)
             × (n ≤ length dest.old)) }
@@ -127,14 +141,15 @@ impl<'a> ChannelData<'a> {
         Ok(size)
     }
 
-    /// Writes the frame to the front of bytes that are enough; what stands behind is left.
+    /// Writes the frame to the start of `dest`, which has to be long enough. Bytes after it do not
+    /// change.
     pub fn write_into_unchecked(&self, dest: &mut [u8])
         requires { channel_header_size + length self.now.payload ≤ length dest.old }
         ensures { dest.new ≡ frame_text self.now
             ++ drop (channel_header_size + length self.now.payload) dest.old }
     {
-        let (header, behind_header) = dest.split_at_mut(CHANNEL_HEADER_LENGTH);
-        let (data, _) = behind_header.split_at_mut(self.payload.len());
+        let (header, after_header) = dest.split_at_mut(CHANNEL_HEADER_LENGTH);
+        let (data, _) = after_header.split_at_mut(self.payload.len());
         let [i0, i1] = self.id.to_be_bytes();
         let [l0, l1] = (self.payload.len() as u16).to_be_bytes();
         header.copy_from_slice(&[i0, i1, l0, l1]);

@@ -1,4 +1,4 @@
-//! Data that is sent by a channel (RFC 8656, sections 12.4 and 12.5).
+//! Data to be sent in a channel frame (RFC 8656, sections 12.4 and 12.5).
 
 ghost use Rattle.std.specs.Prelude.{◌≡◌, ◌+◌, length, true, false, if◌then◌else◌};
 ghost use Rattle.turn_types_frame.specs.ChannelFrames.{IsLawful};
@@ -13,7 +13,7 @@ use stun_types_base::memory::NoMemory;
 use stun_types_wire::attribute::pad_attribute_len;
 use turn_types_attributes::registry::CHANNEL_HEADER_LENGTH;
 
-/// A channel frame that isn't written yet. Over a stream it is padded to a multiple of four bytes
+/// A channel frame that is not encoded yet. For a stream it is padded to a multiple of four bytes
 /// (RFC 8656, section 12.5). Contracts see the record `Channeled`.
 #[derive(Debug, Drop)]
 pub struct DelayedChannel<T: AsSlice<u8>> {
@@ -36,8 +36,8 @@ impl<T: AsSlice<u8>> Model for DelayedChannel<T> {
 }
 
 impl<T: AsSlice<u8> + Debug + Drop> DelayedChannel<T> {
-    /// The frame of a channel's number, from 0x4000 to 0x7FFF, and at most 65,535 bytes, for datagrams:
-    /// without padding.
+    /// Creates a frame for datagrams, without padding. `id` has to be from 0x4000 to 0x7FFF, and
+    /// `payload` at most 65,535 bytes.
     pub fn new(id: u16, payload: T) -> DelayedChannel<T>
         requires { IsLawful id (length (T.items payload)) }
         ensures { result
@@ -50,7 +50,8 @@ impl<T: AsSlice<u8> + Debug + Drop> DelayedChannel<T> {
         }
     }
 
-    /// The same for a stream: with zeros to a multiple of four bytes, which the length does not count.
+    /// Creates a frame for a stream, within the limits of `new`. Zeros pad it to a multiple of four
+    /// bytes; its length field does not count them.
     pub fn padded(id: u16, payload: T) -> DelayedChannel<T>
         requires { IsLawful id (length (T.items payload)) }
         ensures { result

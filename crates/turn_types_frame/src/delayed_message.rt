@@ -1,4 +1,4 @@
-//! Data that is sent by an indication (RFC 8656, sections 11.1 and 11.3).
+//! Data to be sent in an indication (RFC 8656, sections 11.1 and 11.3).
 
 ghost use Rattle.std.specs.Prelude.{◌≡◌, ◌+◌, ◌≤◌, length};
 ghost use Rattle.turn_types_attributes.specs.TurnRegistry.{data_method, most_payload, send_method};
@@ -18,7 +18,7 @@ use stun_types_write::attribute::{Attribute, AttributeWrite};
 use turn_types_attributes::registry::{DATA, DATA_ATTRIBUTE, SEND};
 use turn_types_peer::xor_peer_address::XorPeerAddress;
 
-/// An indication with the address of a peer and data, that isn't written yet. Contracts see the record
+/// An indication with a peer's address and data that is not encoded yet. Contracts see the record
 /// `Sent`.
 #[derive(Debug, Drop)]
 pub struct DelayedMessage<T: AsSlice<u8>> {
@@ -46,40 +46,48 @@ impl<T: AsSlice<u8>> Model for DelayedMessage<T> {
 }
 
 impl<T: AsSlice<u8> + Debug + Drop> DelayedMessage<T> {
-    /// A SEND indication, which asks a server to send at most 65,504 bytes to a peer.
-    pub fn for_server(peer: SocketAddr, number: TransactionId, payload: T) -> DelayedMessage<T>
+    /// Creates a SEND indication, which requests that a server send at most 65,504 bytes to a peer.
+    pub fn for_server(
+        peer: SocketAddr,
+        transaction_id: TransactionId,
+        payload: T,
+    ) -> DelayedMessage<T>
         requires { length (T.items payload) ≤ most_payload }
         ensures { result
             ≡ record {
               method = send_method;
               peer = peer;
-              number = number;
+              number = transaction_id;
               payload = T.items payload;
             } }
     {
         DelayedMessage {
             method: SEND,
             peer,
-            number,
+            number: transaction_id,
             payload,
         }
     }
 
-    /// A DATA indication, which tells a client of at most 65,504 bytes from a peer.
-    pub fn for_client(peer: SocketAddr, number: TransactionId, payload: T) -> DelayedMessage<T>
+    /// Creates a DATA indication, which passes at most 65,504 bytes from a peer to a client.
+    pub fn for_client(
+        peer: SocketAddr,
+        transaction_id: TransactionId,
+        payload: T,
+    ) -> DelayedMessage<T>
         requires { length (T.items payload) ≤ most_payload }
         ensures { result
             ≡ record {
               method = data_method;
               peer = peer;
-              number = number;
+              number = transaction_id;
               payload = T.items payload;
             } }
     {
         DelayedMessage {
             method: DATA,
             peer,
-            number,
+            number: transaction_id,
             payload,
         }
     }
@@ -104,9 +112,9 @@ impl<T: AsSlice<u8> + Debug + Drop> DelayedTransmitBuild for DelayedMessage<T> {
         let len = dest.len();
         let mtype = MessageType::from_class_method(MessageClass::Indication, self.method);
         let header = MessageHeader::new(mtype, (len - MessageHeader::LENGTH) as u16, self.number);
-        let (front, body) = dest.split_at_mut(MessageHeader::LENGTH);
+        let (head, body) = dest.split_at_mut(MessageHeader::LENGTH);
         let (first, second) = body.split_at_mut(peer.padded_len());
-        front.copy_from_slice(&header.to_bytes());
+        head.copy_from_slice(&header.to_bytes());
         peer.write_into_unchecked(first);
         data.write_into_unchecked(second);
         len

@@ -1,12 +1,12 @@
-//! Channel frames (RFC 8656, section 12.4), the buffer of a stream with its laws, and frames and
-//! indications that are written when they are sent.
+//! Channel frames (RFC 8656, section 12.4), the buffer of a stream with its theorems, and frames
+//! and indications that are encoded when they are sent.
 #![tactic(auto)]
 
 pub mod build;
 pub mod channel;
 pub mod delayed_channel;
 pub mod delayed_message;
-pub mod front;
-mod kept;
+pub mod head;
 pub mod laws;
+mod stored;
 pub mod tcp;

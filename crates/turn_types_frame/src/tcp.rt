@@ -1,12 +1,12 @@
-//! The buffer of a stream of frames (RFC 8656, section 12.5).
+//! The receive buffer of a stream of frames (RFC 8656, section 12.5).
 
 ghost use Rattle.std.specs.Prelude.{◌≡◌, ◌≢◌, ◌==◌, ◌++◌, [], false, true, length, take, drop, IfOk, OnOk, OnErr, MatchOption, MatchResult};
 ghost use Rattle.turn_types_frame.specs.StreamAnswers.{IsAnswer, IsGiven, IsNone, IsStored, after_incoming, after_look, looked};
-ghost use Rattle.turn_types_frame.specs.StreamFronts.{front, given_of, size_of};
+ghost use Rattle.turn_types_frame.specs.StreamHeads.{head, given_of, size_of};
 ghost use Rattle.turn_types_frame.specs.Streams.{alive, dead_stream, left_by};
 
-use crate::front::{Front, front_of};
-use crate::kept::Kept;
+use crate::head::{FrameHead, peek_frame};
+use crate::stored::Stored;
 use std::alloc::Global;
 use std::convert::AsSlice;
 use std::fmt::Debug;
@@ -17,23 +17,23 @@ use stun_types_base::transmit::Transmit;
 use stun_types_wire::attribute::pad_attribute_len;
 use turn_types_attributes::registry::CHANNEL_HEADER_LENGTH;
 
-/// What a piece of a stream brought.
+/// What a chunk of a stream completed.
 #[derive(Debug, Drop)]
 pub enum IncomingTcp<T> {
-    /// The piece begins with a message, which stands in this range of its bytes.
+    /// A message at the start of the chunk, in this range of its bytes.
     CompleteMessage(Transmit<T>, Range<usize>),
-    /// The piece begins with a channel frame, which stands in this range of its bytes, without its
-    /// padding.
+    /// A channel frame at the start of the chunk, in this range of its bytes, without its padding.
     CompleteChannel(Transmit<T>, Range<usize>),
-    /// A message whose first bytes came before. The piece is given back.
+    /// A message whose first bytes were buffered. The chunk is returned too.
     StoredMessage(Vec<u8>, Transmit<T>),
-    /// A channel frame whose first bytes came before, without its padding. The piece is given back.
+    /// A channel frame whose first bytes were buffered, without its padding. The chunk is returned
+    /// too.
     StoredChannel(Vec<u8>, Transmit<T>),
-    /// An allocation failed: nothing was taken up, and the piece is given back.
+    /// An allocation failed. The buffer is unchanged, and the chunk is returned.
     NoMemory(Transmit<T>),
 }
 
-/// A frame that a stream kept.
+/// A frame taken out of the buffer.
 #[derive(Debug, Drop)]
 pub enum StoredTcp {
     /// A message.
@@ -42,18 +42,20 @@ pub enum StoredTcp {
     Channel(Vec<u8>),
 }
 
-/// Collects the pieces of a stream, and gives the frames that they make: messages and channel frames
-/// one behind another (RFC 8656, section 12.5). Where the two top bits of a frame are 10 or 11, or a
-/// byte of a message's cookie is wrong, the stream is dead: it gives nothing more and keeps nothing.
+/// Collects the chunks of a stream and returns its frames: messages and channel frames, one after
+/// another (RFC 8656, section 12.5). Contracts see the record `Stream`: the buffered bytes, and
+/// whether the stream is dead.
 ///
-/// One call gives at most one frame. What follows the frame is first looked at by the next call that
-/// looks for one. Contracts see the record `Stream`: the bytes that are kept, and whether the stream is
-/// dead. The cost of all calls grows with the bytes that come, however they are cut, and with the
-/// frames that are given.
+/// - A stream dies if the top two bits of a frame are 10 or 11, or a byte of a message's magic
+///   cookie is wrong. A dead stream returns nothing more and buffers nothing.
+/// - A call returns at most one frame. What follows that frame is examined by the next call that
+///   looks for a frame.
+/// - The cost of all calls together grows with the bytes received, however they are split, and with
+///   the frames returned.
 #[derive(Debug, Drop)]
 pub struct TurnTcpBuffer {
     alloc: Global,
-    kept: Kept,
+    stored: Stored,
     dead: bool,
 }
 
@@ -63,47 +65,50 @@ impl Model for TurnTcpBuffer {
 
     ghost Value = { Stream };
 
-    ghost view = { λ b. record { kept = b.kept; dead = b.dead } };
+    ghost view = { λ b. record { stored = b.stored; dead = b.dead } };
 
-    ghost invariant = { λ b. b.dead ≡ true → b.kept ≡ [] };
+    ghost invariant = { λ b. b.dead ≡ true → b.stored ≡ [] };
 }
 
 impl TurnTcpBuffer {
-    /// The buffer of a new stream. It holds no memory yet.
+    /// Creates the buffer of a new stream. It has allocated no memory yet.
     pub fn new(alloc: Global) -> TurnTcpBuffer
         ensures { result ≡ alive [] }
     {
         TurnTcpBuffer {
             alloc,
-            kept: Kept::new(alloc),
+            stored: Stored::new(alloc),
             dead: false,
         }
     }
 
-    /// Whether no bytes are kept.
+    /// Returns whether no bytes are buffered.
     pub fn is_empty(&self) -> bool
-        ensures { result ≡ (length self.now.kept == 0) }
+        ensures { result ≡ (length self.now.stored == 0) }
     {
-        self.kept.len() == 0
+        self.stored.len() == 0
     }
 
-    /// The bytes that are kept, which no call has given.
+    /// Returns the buffered bytes, which no call has returned.
     pub fn into_inner(self) -> Vec<u8>
-        ensures { result.items ≡ self.kept }
+        ensures { result.items ≡ self.stored }
     {
         let TurnTcpBuffer {
             alloc: _,
-            kept,
+            stored,
             dead: _,
         } = self;
-        kept.into_vec()
+        stored.into_vec()
     }
 
-    /// Takes up a piece of the stream, and gives the frame at the front of all that is kept, where one
-    /// is whole. Where nothing was kept, the frame stands in the piece itself, which is given back with
-    /// its range (`CompleteMessage`, `CompleteChannel`); else it is given in a vector (`StoredMessage`,
-    /// `StoredChannel`). `None` where no frame is whole yet, or the stream is dead: then the piece is
-    /// dropped. Where an allocation fails, `NoMemory`, and nothing is taken up.
+    /// Receives a chunk of the stream, and returns the frame at the head of the stream if it is
+    /// complete.
+    ///
+    /// - If nothing was buffered, the frame is a range of the chunk, which is returned with that
+    ///   range (`CompleteMessage`, `CompleteChannel`).
+    /// - Otherwise the frame is returned in a vector (`StoredMessage`, `StoredChannel`).
+    /// - `None`: no frame is complete, or the stream is dead. The chunk is dropped.
+    /// - `NoMemory`: an allocation failed. The buffer is unchanged, and the chunk is returned.
     pub fn incoming_tcp<T: AsSlice<u8> + Debug + Drop>(
         &mut self,
         transmit: Transmit<T>,
@@ -120,8 +125,12 @@ impl TurnTcpBuffer {
         self.go_on(transmit)
     }
 
-    /// Gives the frame at the front of what is kept, where one is whole. `None` where none is, or the
-    /// stream is dead. Where an allocation fails, `NoMemory`, and the frame is kept.
+    /// Removes the frame at the head of the buffer and returns it. Returns `None` if no frame is
+    /// complete or the stream is dead.
+    ///
+    /// # Errors
+    ///
+    /// - `NoMemory`: an allocation failed. The frame stays buffered.
     pub fn poll_recv(&mut self) -> Result<Option<StoredTcp>, NoMemory>
         ensures answer { IfOk result (IsStored self.old) }
         ensures state { MatchResult result (λ _. self.new ≡ after_look self.old)
@@ -131,50 +140,53 @@ impl TurnTcpBuffer {
         if self.dead {
             return Ok(None);
         }
-        self.take_front()
+        self.take_head()
     }
 
-    /// The frame at the front of what is kept, where one is whole; it stays there. A channel frame is
-    /// shown without its padding. `None` where none is whole, or the stream is dead. It takes no memory.
-    #[tactic(auto, using(crate::proofs::Fronts::given_fits))]
-    pub fn front(&self) -> Option<&[u8]>
+    /// Returns the frame at the head of the buffer and leaves it there, a channel frame without its
+    /// padding. Returns `None` if no frame is complete or the stream is dead. It allocates no
+    /// memory.
+    #[tactic(auto, using(crate::proofs::Heads::given_fits))]
+    pub fn head(&self) -> Option<&[u8]>
         ensures { MatchOption result (IsNone (looked self.now)) (λ bytes.
             (¬ IsNone (looked self.now)) × IsGiven self.now bytes.now) }
     {
         if self.dead {
             return None;
         }
-        let front = front_of(self.kept.as_slice());
-        match front {
-            Front::Message(_) | Front::Channel(_) => {
-                let (bytes, _) = self.kept.as_slice().split_at(size_given(front));
+        let head = peek_frame(self.stored.as_slice());
+        match head {
+            FrameHead::Message(_) | FrameHead::Channel(_) => {
+                let (bytes, _) = self.stored.as_slice().split_at(size_given(head));
                 Some(bytes)
             }
-            Front::Partial | Front::Broken => None,
+            FrameHead::Incomplete | FrameHead::Invalid => None,
         }
     }
 
-    /// Lets the frame at the front go, which `front` shows; with its padding, where it is a channel
-    /// frame. Where none is whole, nothing changes, unless no frame can begin there: then the stream is
-    /// dead. It takes no memory.
-    #[tactic(auto, using(crate::proofs::Fronts::taken_fits))]
-    pub fn drop_front(&mut self)
+    /// Removes the frame that `head` returns, and the padding of a channel frame. It allocates no
+    /// memory.
+    ///
+    /// If no frame is complete, nothing changes, unless no frame can begin at the head: then the
+    /// stream is dead.
+    #[tactic(auto, using(crate::proofs::Heads::taken_fits))]
+    pub fn drop_head(&mut self)
         ensures { self.new ≡ after_look self.old }
     {
         if self.dead {
             return;
         }
-        let front = front_of(self.kept.as_slice());
-        if front == Front::Broken {
+        let head = peek_frame(self.stored.as_slice());
+        if head == FrameHead::Invalid {
             self.die();
             return;
         }
-        let size = size_taken(front);
-        self.kept.advance(size);
+        let size = size_taken(head);
+        self.stored.advance(size);
     }
 
-    /// `incoming_tcp`, where nothing is kept and the stream is alive.
-    #[tactic(auto, using(crate::proofs::Fronts::taken_fits))]
+    /// Does `incoming_tcp` when nothing is buffered and the stream is alive.
+    #[tactic(auto, using(crate::proofs::Heads::taken_fits))]
     fn begin<T: AsSlice<u8> + Debug + Drop>(
         &mut self,
         transmit: Transmit<T>,
@@ -184,38 +196,38 @@ impl TurnTcpBuffer {
         ensures state { self.new ≡ after_incoming self.old (T.items transmit.bytes) result }
     {
         let bytes = transmit.bytes.as_slice();
-        let front = front_of(bytes);
-        if front == Front::Broken {
+        let head = peek_frame(bytes);
+        if head == FrameHead::Invalid {
             self.die();
             return None;
         }
-        let (_, rest) = bytes.split_at(size_taken(front));
+        let (_, rest) = bytes.split_at(size_taken(head));
         if self.keep(rest).is_err() {
             return Some(IncomingTcp::NoMemory(transmit));
         }
-        let range = 0..size_given(front);
-        match front {
-            Front::Message(_) => Some(IncomingTcp::CompleteMessage(transmit, range)),
-            Front::Channel(_) => Some(IncomingTcp::CompleteChannel(transmit, range)),
+        let range = 0..size_given(head);
+        match head {
+            FrameHead::Message(_) => Some(IncomingTcp::CompleteMessage(transmit, range)),
+            FrameHead::Channel(_) => Some(IncomingTcp::CompleteChannel(transmit, range)),
             _ => None,
         }
     }
 
-    /// `incoming_tcp`, where bytes are kept.
+    /// Does `incoming_tcp` when bytes are buffered.
     fn go_on<T: AsSlice<u8> + Debug + Drop>(
         &mut self,
         transmit: Transmit<T>,
     ) -> Option<IncomingTcp<T>>
         requires alive { self.old.dead ≡ false }
-        requires kept { self.old.kept ≢ [] }
+        requires stored { self.old.stored ≢ [] }
         ensures answer { IsAnswer self.old (T.items transmit.bytes) transmit result }
         ensures state { self.new ≡ after_incoming self.old (T.items transmit.bytes) result }
     {
-        let before = self.kept.len();
-        if self.kept.push(transmit.bytes.as_slice()).is_err() {
+        let before = self.stored.len();
+        if self.stored.push(transmit.bytes.as_slice()).is_err() {
             return Some(IncomingTcp::NoMemory(transmit));
         }
-        match self.take_front() {
+        match self.take_head() {
             Ok(Some(StoredTcp::Message(bytes))) => {
                 Some(IncomingTcp::StoredMessage(bytes, transmit))
             }
@@ -224,86 +236,86 @@ impl TurnTcpBuffer {
             }
             Ok(None) => None,
             Err(NoMemory) => {
-                self.kept.shorten(before);
+                self.stored.shorten(before);
                 Some(IncomingTcp::NoMemory(transmit))
             }
         }
     }
 
-    /// `poll_recv`, where the stream is alive.
-    fn take_front(&mut self) -> Result<Option<StoredTcp>, NoMemory>
+    /// Does `poll_recv` when the stream is alive.
+    fn take_head(&mut self) -> Result<Option<StoredTcp>, NoMemory>
         requires { self.old.dead ≡ false }
         ensures answer { IfOk result (IsStored self.old) }
         ensures state { MatchResult result (λ _. self.new ≡ after_look self.old)
             (λ _. self.new ≡ self.old) }
         ensures memory { OnErr result (¬ IsNone (looked self.old)) }
     {
-        let front = front_of(self.kept.as_slice());
-        match front {
-            Front::Message(_) => Ok(Some(StoredTcp::Message(self.take(front)?))),
-            Front::Channel(_) => Ok(Some(StoredTcp::Channel(self.take(front)?))),
-            Front::Partial => Ok(None),
-            Front::Broken => {
+        let head = peek_frame(self.stored.as_slice());
+        match head {
+            FrameHead::Message(_) => Ok(Some(StoredTcp::Message(self.take(head)?))),
+            FrameHead::Channel(_) => Ok(Some(StoredTcp::Channel(self.take(head)?))),
+            FrameHead::Incomplete => Ok(None),
+            FrameHead::Invalid => {
                 self.die();
                 Ok(None)
             }
         }
     }
 
-    /// Takes the frame at the front out of what is kept.
-    #[tactic(auto, using(crate::proofs::Fronts::taken_fits, crate::proofs::Fronts::given_fits))]
-    fn take(&mut self, front: Front) -> Result<Vec<u8>, NoMemory>
-        requires front { front ≡ looked self.old }
+    /// Removes the frame at the head of the buffer and returns it without padding.
+    #[tactic(auto, using(crate::proofs::Heads::taken_fits, crate::proofs::Heads::given_fits))]
+    fn take(&mut self, head: FrameHead) -> Result<Vec<u8>, NoMemory>
+        requires head { head ≡ looked self.old }
         requires alive { self.old.dead ≡ false }
-        ensures given { IfOk result (λ bytes. bytes.items ≡ take (given_of front) self.old.kept) }
-        ensures rest { OnOk result (self.new ≡ alive (drop (size_of front) self.old.kept)) }
+        ensures given { IfOk result (λ bytes. bytes.items ≡ take (given_of head) self.old.stored) }
+        ensures rest { OnOk result (self.new ≡ alive (drop (size_of head) self.old.stored)) }
         ensures err { OnErr result (self.new ≡ self.old) }
     {
-        let (bytes, _) = self.kept.as_slice().split_at(size_given(front));
+        let (bytes, _) = self.stored.as_slice().split_at(size_given(head));
         let bytes = Vec::from_slice(self.alloc, bytes)?;
-        self.kept.advance(size_taken(front));
+        self.stored.advance(size_taken(head));
         Ok(bytes)
     }
 
-    /// Keeps bytes behind those that are kept. Where there are none, no memory is taken.
+    /// Appends bytes to the buffer. If there are none, it allocates no memory.
     fn keep(&mut self, bytes: &[u8]) -> Result<(), NoMemory>
         requires { self.old.dead ≡ false }
-        ensures ok { OnOk result (self.new ≡ alive (self.old.kept ++ bytes.now)) }
+        ensures ok { OnOk result (self.new ≡ alive (self.old.stored ++ bytes.now)) }
         ensures err { OnErr result ((self.new ≡ self.old) × (bytes.now ≢ [])) }
     {
         if bytes.is_empty() {
             return Ok(());
         }
-        self.kept.push(bytes)
+        self.stored.push(bytes)
     }
 
-    /// Ends the stream.
+    /// Marks the stream as dead and drops the buffered bytes.
     fn die(&mut self)
         ensures { self.new ≡ dead_stream }
     {
-        self.kept.clear();
+        self.stored.clear();
         self.dead = true;
     }
 }
 
-/// How many bytes the frame at the front takes, padding included.
-fn size_taken(front: Front) -> usize
-    ensures { result ≡ size_of front }
+/// Returns the number of bytes of the frame at the head, with padding.
+fn size_taken(head: FrameHead) -> usize
+    ensures { result ≡ size_of head }
 {
-    match front {
-        Front::Message(size) => size,
-        Front::Channel(len) => CHANNEL_HEADER_LENGTH + pad_attribute_len(usize::from(len)),
-        Front::Partial | Front::Broken => 0,
+    match head {
+        FrameHead::Message(size) => size,
+        FrameHead::Channel(len) => CHANNEL_HEADER_LENGTH + pad_attribute_len(usize::from(len)),
+        FrameHead::Incomplete | FrameHead::Invalid => 0,
     }
 }
 
-/// How many of them are given.
-fn size_given(front: Front) -> usize
-    ensures { result ≡ given_of front }
+/// Returns the number of bytes of the frame at the head that are returned: without padding.
+fn size_given(head: FrameHead) -> usize
+    ensures { result ≡ given_of head }
 {
-    match front {
-        Front::Message(size) => size,
-        Front::Channel(len) => CHANNEL_HEADER_LENGTH + usize::from(len),
-        Front::Partial | Front::Broken => 0,
+    match head {
+        FrameHead::Message(size) => size,
+        FrameHead::Channel(len) => CHANNEL_HEADER_LENGTH + usize::from(len),
+        FrameHead::Incomplete | FrameHead::Invalid => 0,
     }
 }

@@ -20,8 +20,8 @@ use stun_types_write::reading::value_of;
 use stun_types_write::text::write_attribute;
 use turn_types_attributes::registry;
 
-/// The number of a channel to a peer (RFC 8656, section 18.1): any number of 16 bits, also one that no
-/// channel frame can carry. Contracts see the number.
+/// The number of a channel to a peer (RFC 8656, section 18.1). It is any 16-bit number, even one
+/// that no channel frame can carry. Contracts see the number.
 #[derive(Debug, Drop)]
 pub struct ChannelNumber {
     channel: u16,
@@ -36,21 +36,21 @@ impl Model for ChannelNumber {
 }
 
 impl ChannelNumber {
-    /// The CHANNEL-NUMBER of a number.
+    /// Creates the attribute for a channel number.
     pub fn new(channel: u16) -> ChannelNumber
         ensures { result ≡ channel }
     {
         ChannelNumber { channel }
     }
 
-    /// The number.
+    /// The channel number.
     pub fn channel(&self) -> u16
         ensures { result ≡ self.now }
     {
         self.channel
     }
 
-    /// The value: the number, and two zeros.
+    /// Returns the value: the channel number in big-endian order and two zero bytes.
     fn value(&self) -> [u8; 4]
         ensures { result ≡ channel_value self.now }
     {
@@ -92,9 +92,13 @@ impl AttributeWrite for ChannelNumber {
     }
 }
 
-/// The number in the first two of four bytes, the highest first. The other two are not looked at.
-/// Refused, in this order: `WrongAttributeImplementation` where it is another type, `Truncated` where
-/// the value is shorter, `TooLarge` where it is longer.
+/// Decodes the first two of four bytes as a big-endian number. The other two are ignored.
+///
+/// # Errors
+///
+/// 1. `WrongAttributeImplementation`: the attribute has another type.
+/// 2. `Truncated`: the value has fewer than four bytes.
+/// 3. `TooLarge`: the value has more than four bytes.
 impl<'a, 'raw> TryFrom<&'raw RawAttribute<'a>> for ChannelNumber {
     ghost use Rattle.std.specs.Prelude.{◌≡◌, MatchResult, Some, None};
     ghost use Rattle.stun_types_write.specs.ValueReading.{IsNamed, value_refusal};
@@ -113,7 +117,7 @@ impl<'a, 'raw> TryFrom<&'raw RawAttribute<'a>> for ChannelNumber {
     }
 }
 
-/// Refused as `try_from` is; no memory is taken.
+/// Fails as `try_from` does. It allocates no memory.
 impl<'a> AttributeFromRaw<'a> for ChannelNumber {
     ghost use Rattle.std.specs.Prelude.{false};
     ghost use Rattle.byteorder.specs.Endian.{big_number};
@@ -139,12 +143,12 @@ impl<'a> AttributeFromRaw<'a> for ChannelNumber {
     }
 
     #[tactic(auto, using(crate::proofs::Peers::channels))]
-    fn is_read_back(&self, read: &ChannelNumber) {
+    fn proof_is_read_back(&self, read: &ChannelNumber) {
         let _ = (self.channel(), read.channel());
     }
 }
 
-/// The number in the value of a CHANNEL-NUMBER. Refused as `try_from` is.
+/// Decodes the channel number in the value of a CHANNEL-NUMBER. Fails as `try_from` does.
 fn channel_of(raw: &RawAttribute<'_>) -> Result<u16, StunParseError>
     ensures { MatchResult result (λ channel. (value_refusal channel_number_kind 4 4 raw.now ≡ None)
         × (raw.now.kind ≡ channel_number_kind) × (channel ≡ big_number 2 raw.now.value))

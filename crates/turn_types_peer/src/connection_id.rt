@@ -16,8 +16,8 @@ use stun_types_write::text::write_attribute;
 use turn_types_attributes::number::read_number;
 use turn_types_attributes::registry;
 
-/// The number by which a server knows a connection to a peer (RFC 6062, section 6.2.1). Any number of
-/// 32 bits is lawful. Contracts see the number.
+/// The number with which a server identifies a connection to a peer (RFC 6062, section 6.2.1). Any
+/// 32-bit number is allowed. Contracts see the number.
 #[derive(Debug, Drop)]
 pub struct ConnectionId {
     id: u32,
@@ -32,14 +32,14 @@ impl Model for ConnectionId {
 }
 
 impl ConnectionId {
-    /// The CONNECTION-ID of a number.
+    /// Creates the attribute for a connection's number.
     pub fn new(id: u32) -> ConnectionId
         ensures { result ≡ id }
     {
         ConnectionId { id }
     }
 
-    /// The number.
+    /// The connection's number.
     pub fn id(&self) -> u32
         ensures { result ≡ self.now }
     {
@@ -80,8 +80,13 @@ impl AttributeWrite for ConnectionId {
     }
 }
 
-/// The number in four bytes, the highest first. Refused, in this order: `WrongAttributeImplementation`
-/// where it is another type, `Truncated` where the value is shorter, `TooLarge` where it is longer.
+/// Decodes the four bytes of the value as a big-endian number.
+///
+/// # Errors
+///
+/// 1. `WrongAttributeImplementation`: the attribute has another type.
+/// 2. `Truncated`: the value has fewer than four bytes.
+/// 3. `TooLarge`: the value has more than four bytes.
 impl<'a, 'raw> TryFrom<&'raw RawAttribute<'a>> for ConnectionId {
     ghost use Rattle.std.specs.Prelude.{◌≡◌, MatchResult, Some, None};
     ghost use Rattle.stun_types_write.specs.ValueReading.{IsNamed, value_refusal};
@@ -100,7 +105,7 @@ impl<'a, 'raw> TryFrom<&'raw RawAttribute<'a>> for ConnectionId {
     }
 }
 
-/// Refused as `try_from` is; no memory is taken.
+/// Fails as `try_from` does. It allocates no memory.
 impl<'a> AttributeFromRaw<'a> for ConnectionId {
     ghost use Rattle.std.specs.Prelude.{false};
     ghost use Rattle.stun_types_write.specs.ValueReading.{value_refusal};
@@ -124,7 +129,7 @@ impl<'a> AttributeFromRaw<'a> for ConnectionId {
     }
 
     #[tactic(auto, using(turn_types_attributes::proofs::Numbers::numbers))]
-    fn is_read_back(&self, read: &ConnectionId) {
+    fn proof_is_read_back(&self, read: &ConnectionId) {
         let _ = (self.id(), read.id());
     }
 }

@@ -18,8 +18,9 @@ use stun_types_write::reading::value_of;
 use stun_types_write::text::write_attribute;
 use turn_types_attributes::registry;
 
-/// What a peer sends, or what is sent to it (RFC 8656, section 18.4): at most 65,535 bytes of its own.
-/// [`Data::bytes_of`] tells them where they stand, without a copy. Contracts see the bytes.
+/// Data that a peer sends or that is sent to a peer (RFC 8656, section 18.4): at most 65,535 bytes,
+/// which it owns. Use [`Data::bytes_of`] to read them from a message without a copy. Contracts see
+/// the bytes.
 #[derive(Debug, Drop)]
 pub struct Data {
     raw: RawAttribute<'static>,
@@ -37,7 +38,11 @@ impl Model for Data {
 }
 
 impl Data {
-    /// The DATA of a copy of some bytes, at most 65,535 of them. Where memory is refused, `NoMemory`.
+    /// Creates the attribute with a copy of at most 65,535 bytes.
+    ///
+    /// # Errors
+    ///
+    /// - `NoMemory`: an allocation failed.
     pub fn new(alloc: Global, bytes: &[u8]) -> Result<Data, NoMemory>
         requires { length bytes.now < 2 ^ 16 }
         ensures { IfOk result (λ made. made ≡ bytes.now) }
@@ -56,8 +61,11 @@ impl Data {
         self.raw.value()
     }
 
-    /// The bytes of a DATA that is shown, where they stand. Refused with `WrongAttributeImplementation`
-    /// where the attribute has another type.
+    /// Returns the bytes of a DATA attribute without copying them.
+    ///
+    /// # Errors
+    ///
+    /// - `WrongAttributeImplementation`: the attribute has another type.
     pub fn bytes_of<'raw>(raw: &'raw RawAttribute<'_>) -> Result<&'raw [u8], StunParseError>
         ensures { MatchResult result
             (λ bytes. (value_refusal data_kind 0 longest_value raw.now ≡ None)
@@ -103,8 +111,13 @@ impl AttributeWrite for Data {
     }
 }
 
-/// Any bytes. Refused with `WrongAttributeImplementation` where it is another type. Bytes that are owned
-/// already are kept, others are copied.
+/// Decodes any bytes. `from_raw` keeps bytes that are already owned; bytes that are borrowed are
+/// copied.
+///
+/// # Errors
+///
+/// 1. `WrongAttributeImplementation`: the attribute has another type.
+/// 2. `NoMemory`: an allocation failed.
 impl<'a> AttributeFromRaw<'a> for Data {
     ghost use Rattle.stun_types_wire.specs.Registry.{longest_value};
     ghost use Rattle.stun_types_write.specs.ValueReading.{value_refusal};
@@ -126,7 +139,7 @@ impl<'a> AttributeFromRaw<'a> for Data {
     }
 
     #[tactic(auto, using(stun_types_write::proofs::Values::value_is_accepted))]
-    fn is_read_back(&self, _read: &Data) {
+    fn proof_is_read_back(&self, _read: &Data) {
         let _ = self.data();
     }
 }

@@ -3,7 +3,7 @@
 ghost use Rattle.std.specs.Prelude.{◌≡◌, None, MatchResult, length};
 ghost use Rattle.stun_types_write.specs.ValueReading.{IsNamed, value_refusal};
 ghost use Rattle.turn_types_attributes.specs.TurnRegistry.{icmp_kind};
-ghost use Rattle.turn_types_peer.specs.PeerValues.{icmp_told, icmp_value};
+ghost use Rattle.turn_types_peer.specs.PeerValues.{icmp_decoded, icmp_value};
 
 use byteorder::{BigEndian, ByteOrder};
 use std::alloc::Global;
@@ -19,8 +19,8 @@ use stun_types_write::reading::value_of;
 use stun_types_write::text::write_attribute;
 use turn_types_attributes::registry;
 
-/// What a host or a router on the way to a peer reported by ICMP (RFC 8656, section 18.13). Contracts
-/// see the record `IcmpReport`.
+/// An ICMP error that a host or router on the path to a peer reported (RFC 8656, section 18.13).
+/// Contracts see the record `IcmpReport`.
 #[derive(Debug, Drop)]
 pub struct Icmp {
     icmp_type: u8,
@@ -37,7 +37,8 @@ impl Model for Icmp {
 }
 
 impl Icmp {
-    /// The ICMP of a type, a code and the data of the error, such as the greatest size of a datagram.
+    /// Creates the attribute from a type, a code and the error data, for example the maximum size
+    /// of a datagram.
     pub fn new(icmp_type: u8, code: u8, details: u32) -> Icmp
         ensures { result ≡ record { icmp_type = icmp_type; code = code; details = details } }
     {
@@ -48,28 +49,28 @@ impl Icmp {
         }
     }
 
-    /// The type, which counts as one of ICMPv4 or of ICMPv6 by the family of the peer's address.
+    /// The ICMP type. It belongs to ICMPv4 or ICMPv6 according to the family of the peer's address.
     pub fn icmp_type(&self) -> u8
         ensures { result ≡ self.now.icmp_type }
     {
         self.icmp_type
     }
 
-    /// The code, which tells more of the type.
+    /// The ICMP code, which refines the type.
     pub fn code(&self) -> u8
         ensures { result ≡ self.now.code }
     {
         self.code
     }
 
-    /// The data of the error: the last four bytes of the header of ICMP.
+    /// The error data: the last four bytes of the ICMP header.
     pub fn data(&self) -> u32
         ensures { result ≡ self.now.details }
     {
         self.details
     }
 
-    /// The value: two zeros, type, code and data.
+    /// Returns the value: two zero bytes, the type, the code and the error data.
     fn value(&self) -> [u8; 8]
         ensures { result ≡ icmp_value self.now }
     {
@@ -111,18 +112,22 @@ impl AttributeWrite for Icmp {
     }
 }
 
-/// Type, code and data in eight bytes. The first two are not looked at. Refused, in this order:
-/// `WrongAttributeImplementation` where it is another type, `Truncated` where the value is shorter,
-/// `TooLarge` where it is longer.
+/// Decodes type, code and error data from eight bytes. The first two are ignored.
+///
+/// # Errors
+///
+/// 1. `WrongAttributeImplementation`: the attribute has another type.
+/// 2. `Truncated`: the value has fewer than eight bytes.
+/// 3. `TooLarge`: the value has more than eight bytes.
 impl<'a, 'raw> TryFrom<&'raw RawAttribute<'a>> for Icmp {
     ghost use Rattle.std.specs.Prelude.{◌≡◌, MatchResult, None};
     ghost use Rattle.stun_types_write.specs.ValueReading.{IsNamed, value_refusal};
-    ghost use Rattle.turn_types_peer.specs.PeerValues.{icmp_told};
+    ghost use Rattle.turn_types_peer.specs.PeerValues.{icmp_decoded};
 
     type Error = StunParseError;
 
     ghost try_from_gives = { λ raw result. MatchResult result
-        (λ read. (value_refusal icmp_kind 8 8 raw.now ≡ None) × (read ≡ icmp_told raw.now.value))
+        (λ read. (value_refusal icmp_kind 8 8 raw.now ≡ None) × (read ≡ icmp_decoded raw.now.value))
         (IsNamed (value_refusal icmp_kind 8 8 raw.now)) };
 
     fn try_from(raw: &'raw RawAttribute<'a>) -> Result<Icmp, StunParseError> {
@@ -130,15 +135,15 @@ impl<'a, 'raw> TryFrom<&'raw RawAttribute<'a>> for Icmp {
     }
 }
 
-/// Refused as `try_from` is; no memory is taken.
+/// Fails as `try_from` does. It allocates no memory.
 impl<'a> AttributeFromRaw<'a> for Icmp {
     ghost use Rattle.std.specs.Prelude.{false};
     ghost use Rattle.stun_types_write.specs.ValueReading.{value_refusal};
-    ghost use Rattle.turn_types_peer.specs.PeerValues.{icmp_told, icmp_value};
+    ghost use Rattle.turn_types_peer.specs.PeerValues.{icmp_decoded, icmp_value};
 
     ghost read_refusal = { value_refusal icmp_kind 8 8 };
 
-    ghost read_value = { λ value. icmp_value (icmp_told value) };
+    ghost read_value = { λ value. icmp_value (icmp_decoded value) };
 
     ghost reading_takes_memory = { false };
 
@@ -151,15 +156,15 @@ impl<'a> AttributeFromRaw<'a> for Icmp {
     }
 
     #[tactic(auto, using(crate::proofs::Peers::reports))]
-    fn is_read_back(&self, read: &Icmp) {
+    fn proof_is_read_back(&self, read: &Icmp) {
         let _ = (self.data(), read.data());
     }
 }
 
-/// The report in the value of an ICMP. Refused as `try_from` is.
+/// Decodes the report in the value of an ICMP attribute. Fails as `try_from` does.
 fn read_report(raw: &RawAttribute<'_>) -> Result<Icmp, StunParseError>
     ensures { MatchResult result (λ read. (value_refusal icmp_kind 8 8 raw.now ≡ None)
-        × (raw.now.kind ≡ icmp_kind) × (read ≡ icmp_told raw.now.value))
+        × (raw.now.kind ≡ icmp_kind) × (read ≡ icmp_decoded raw.now.value))
         (IsNamed (value_refusal icmp_kind 8 8 raw.now)) }
 {
     let value = value_of(raw, Icmp::TYPE, 8, 8)?;

@@ -1,5 +1,5 @@
-//! The attributes of TURN that speak of peers: their addresses, channels and connections, and what
-//! they send (RFC 8656, section 18; RFC 6062, section 6.2).
+//! The attributes of TURN that concern peers: their addresses, channels, connections and data (RFC
+//! 8656, section 18; RFC 6062, section 6.2).
 #![tactic(auto)]
 
 pub mod channel_number;

@@ -1,4 +1,5 @@
-//! The CRC-32 bit by bit, as its definition reads. It needs no table; the fast one agrees with it.
+//! The CRC-32 computed bit by bit, as its definition says. It needs no table. The fast version
+//! returns the same values.
 
 ghost use Rattle.std.specs.Prelude.{◌≡◌};
 ghost use Rattle.stun_types_digest.specs.Crc.{crc32, bit_step, byte_step};
@@ -8,7 +9,7 @@ use crate::crc::ALL_ONES;
 /// The generator without its term x^32; bit 0 is the coefficient of x^31.
 const GENERATOR: u32 = 0xedb8_8320;
 
-/// The register after one more bit.
+/// Returns the register after one more bit.
 fn after_bit(register: u32) -> u32
     ensures { result ≡ bit_step register }
 {
@@ -19,7 +20,7 @@ fn after_bit(register: u32) -> u32
     }
 }
 
-/// The register after one more byte.
+/// Returns the register after one more byte.
 #[tactic(auto, using(crate::proofs::Register::more_steps), unfolding(crate::specs::Crc::bit_steps))]
 fn after_byte(register: u32, byte: u8) -> u32
     ensures { result ≡ byte_step register byte }
@@ -31,7 +32,7 @@ fn after_byte(register: u32, byte: u8) -> u32
     mixed
 }
 
-/// The CRC-32 of a text.
+/// Returns the CRC-32 of a text.
 #[tactic(auto, unfolding(crate::specs::Crc::crc32))]
 pub fn checksum(text: &[u8]) -> u32
     ensures { result ≡ crc32 text.now }

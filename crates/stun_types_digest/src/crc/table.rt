@@ -1,10 +1,10 @@
-//! The table of the fast CRC-32: what a byte leaves in the register once it has gone through, and
-//! up to fifteen zero bytes behind it.
+//! The table of the fast CRC-32: the register that a byte leaves after it and up to fifteen zero
+//! bytes after it were processed.
 
 ghost use Rattle.std.specs.Prelude.{◌≡◌, ◌*◌, ◌+◌, ◌<◌};
 ghost use Rattle.stun_types_digest.specs.Crc.{bit_steps, text_polynomial};
 
-/// Entry `256 * zeros + byte` is the register that `byte` leaves with `zeros` zero bytes behind it.
+/// Entry `256 * zeros + byte` is the register that `byte` leaves when `zeros` zero bytes follow it.
 static TABLE: [u32; 4096] = [
     0x00000000, 0x77073096, 0xee0e612c, 0x990951ba, 0x076dc419, 0x706af48f, 0xe963a535, 0x9e6495a3,
     0x0edb8832, 0x79dcb8a4, 0xe0d5e91e, 0x97d2d988, 0x09b64c2b, 0x7eb17cbd, 0xe7b82d07, 0x90bf1d91,
@@ -520,8 +520,7 @@ static TABLE: [u32; 4096] = [
     0xf088c1a2, 0x5ee05033, 0x7728e4c1, 0xd9407550, 0x24b98d25, 0x8ad11cb4, 0xa319a846, 0x0d7139d7,
 ];
 
-/// The register that a byte leaves, once it and a number of zero bytes behind it, at most 15, have
-/// gone through.
+/// Returns the register that a byte leaves when `zeros` zero bytes follow it, at most 15.
 pub(crate) fn left_by(byte: u8, zeros: usize) -> u32
     requires { zeros < 16 }
     ensures { result ≡ bit_steps (8 * (zeros + 1)) byte }
@@ -529,8 +528,7 @@ pub(crate) fn left_by(byte: u8, zeros: usize) -> u32
     TABLE[256 * zeros + usize::from(byte)]
 }
 
-/// The register that four bytes leave, once they and a number of zero bytes behind them, at most 12,
-/// have gone through.
+/// Returns the register that four bytes leave when `zeros` zero bytes follow them, at most 12.
 pub(crate) fn left_by_four(bytes: [u8; 4], zeros: usize) -> u32
     requires { zeros < 13 }
     ensures { result ≡ bit_steps (8 * (zeros + 4)) (text_polynomial bytes) }

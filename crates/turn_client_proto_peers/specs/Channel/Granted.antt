@@ -1,50 +1,50 @@
--- What the response to a CREATE_PERMISSION or a CHANNEL_BIND makes of permissions and channels (RFC 8656, sections 10.3
--- and 12.3).
+-- The effect of a response to a CREATE_PERMISSION or a CHANNEL_BIND on permissions and channels (RFC 8656,
+-- sections 10.3 and 12.3).
 use Rattle.std.specs.Prelude.{ℕ, List, [], ◌∷◌, ◌++◌, map, filter, find, Option}
 use Rattle.std.specs.Option.{option_map}
 use Rattle.std.specs.declared.net.ip_addr.IpAddr.{IpAddr}
 use Rattle.std.specs.declared.net.socket_addr.SocketAddr.{SocketAddr}
-use Rattle.stun_types_base.specs.Moments.{moment_after}
+use Rattle.stun_types_base.specs.Times.{time_after}
 use Rattle.turn_client_proto_allocation.specs.Awaited.{asks_for_permission, renews_channel}
 use Rattle.turn_client_proto_allocation.specs.Changes.{change_first}
 use Rattle.turn_client_proto_allocation.specs.declared.allocation.Allocation.{Allocation}
 use Rattle.turn_client_proto_allocation.specs.declared.channel.Channel.{Channel}
 use Rattle.turn_client_proto_peers.specs.Permission.Granted.{permitted}
-use Rattle.turn_client_proto_allocation.specs.Requested.{awaits_reply}
-use Rattle.turn_client_proto_allocation.specs.Channels.{channel_lifetime, lapsed_of, not_asked_by, not_renewed_by, renewed_channel}
+use Rattle.turn_client_proto_allocation.specs.PendingRequests.{awaits_reply}
+use Rattle.turn_client_proto_allocation.specs.Channels.{channel_lifetime, expired_of, not_pending_request, not_renewed_by, renewed_channel}
 
--- the end of a channel that is granted at a moment
+-- The expiry of a channel that is granted at `now`.
 abbrev pub channel_end : ℕ → ℕ
-channel_end now = moment_after now channel_lifetime
+channel_end now = time_after now channel_lifetime
 
--- a channel that was granted at a moment
+-- A channel that was granted at `now`.
 abbrev pub granted_to : (channel : ℕ) → SocketAddr → (now : ℕ) → Channel
 granted_to channel peer now = record { number = channel; peer = peer; expiry = channel_end now; renewals = [] }
 
--- an allocation in which a channel to a peer was granted, for which the request of a number asks
+-- The allocation after the request `number` for a channel to the peer was granted at `now`.
 abbrev pub bound : (channel : ℕ) → SocketAddr → (number now : ℕ) → Allocation → Allocation
 bound channel peer number now a = record a {
   channels = a.channels ++ granted_to channel peer now ∷ [];
-  pending_channels = not_asked_by number a.pending_channels;
+  pending_channels = not_pending_request number a.pending_channels;
 }
 
--- the first allocation that awaits the response to the request of a number binds a channel to a peer
+-- The allocations after that: the first one that awaits the response gets the channel.
 abbrev pub all_bound : (channel : ℕ) → SocketAddr → (number now : ℕ) → List Allocation → List Allocation
 all_bound channel peer number now allocations =
     change_first (awaits_reply number) (bound channel peer number now) allocations
 
--- an allocation after the request of a number was granted: each channel that it was to renew stands on
+-- The allocation after a success response to this request: each channel that it was to renew is extended.
 unfoldable pub renewed : (number now : ℕ) → Allocation → Allocation
 renewed number now a = record a { channels = map (renewed_channel number (channel_end now)) a.channels }
 
--- an allocation after the request of a number was refused: each channel that it asked for goes
-unfoldable pub turned_down : ℕ → Allocation → Allocation
-turned_down number a = record a { pending_channels = not_asked_by number a.pending_channels }
+-- The allocation after an error response to this request: each pending channel that it requested is removed.
+unfoldable pub rejected : ℕ → Allocation → Allocation
+rejected number a = record a { pending_channels = not_pending_request number a.pending_channels }
 
--- an allocation after the request of a number was refused: each channel that it was to renew lapses, with its end as it
--- is
-unfoldable pub let_lapse : ℕ → Allocation → Allocation
-let_lapse number a = record a {
+-- The allocation after an error response to this request: each channel that it was to renew is moved to the
+-- expired channels, with its expiry unchanged.
+unfoldable pub expire_due : ℕ → Allocation → Allocation
+expire_due number a = record a {
   channels = not_renewed_by number a.channels;
-  lapsed_channels = a.lapsed_channels ++ map lapsed_of (filter (renews_channel number) a.channels);
+  expired_channels = a.expired_channels ++ map expired_of (filter (renews_channel number) a.channels);
 }

@@ -1,4 +1,4 @@
--- Permissions that are asked for (RFC 8656, section 10.1).
+-- Permissions that the client requests (RFC 8656, section 10.1).
 use Rattle.turn_client_proto_allocation.specs.Permits.{permits}
 use Rattle.std.specs.Prelude.{ℕ, nat_le, Bool, true, not, ◌&&◌, ◌||◌, [], ◌∷◌, ◌++◌}
 use Rattle.std.specs.List.{list_any}
@@ -14,15 +14,15 @@ use Rattle.turn_client_proto_allocation.specs.Same.{is_same_ip, is_same_transpor
 
 -- ---- which allocation
 
--- an allocation of this transport, whose address is of this family
+-- The allocation is of this transport, and its relayed address of this family.
 abbrev pub is_of : TransportType → AddressFamily → Allocation → Bool
 is_of transport family a = is_same_transport a.transport transport && is_same_family (family_of_socket a.address) family
 
--- the time of an allocation is over
+-- The allocation has expired.
 abbrev pub is_past : ℕ → Allocation → Bool
 is_past now a = nat_le a.expiry now
 
--- an allocation that is marked as expired
+-- The allocation, marked as expired.
 abbrev pub marked : Allocation → Allocation
 marked a = record a { is_expired = true }
 
@@ -31,20 +31,21 @@ marked a = record a { is_expired = true }
 abbrev pub is_pending_for : IpAddr → PendingPermission → Bool
 is_pending_for ip p = is_same_ip p.ip ip
 
--- a permission for an address was asked for
+-- The allocation has a pending permission for the address.
 abbrev pub asks_for : IpAddr → Allocation → Bool
 asks_for ip a = list_any (is_pending_for ip) a.pending_permissions
 
--- a permission for an address stands, or was asked for
+-- The allocation has an active or pending permission for the address.
 abbrev pub knows : IpAddr → Allocation → Bool
 knows ip a = permits ip a || asks_for ip a
 
--- a permission for an address stands, in an allocation of a transport that is not marked as expired
+-- The allocation is of this transport, is not marked as expired, and has an active permission for the
+-- address.
 abbrev pub permits_over : TransportType → IpAddr → Allocation → Bool
 permits_over transport ip a = not a.is_expired && (is_same_transport a.transport transport && permits ip a)
 
 -- ---- a request
 
--- an allocation for which a permission was asked
+-- The allocation after a permission was requested in it.
 abbrev pub asking : PendingPermission → Allocation → Allocation
 asking pending a = record a { pending_permissions = a.pending_permissions ++ pending ∷ [] }

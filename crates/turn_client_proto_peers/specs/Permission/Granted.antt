@@ -1,33 +1,34 @@
--- What the response to a CREATE_PERMISSION makes of permissions (RFC 8656, section 10.3).
+-- The effect of a response to a CREATE_PERMISSION on the permissions (RFC 8656, section 10.3).
 use Rattle.std.specs.Prelude.{ℕ, [], ◌∷◌, ◌++◌, map}
 use Rattle.std.specs.declared.net.ip_addr.IpAddr.{IpAddr}
-use Rattle.stun_types_base.specs.Moments.{moment_after}
-use Rattle.turn_client_proto_allocation.specs.Permissions.{not_asked_by, not_renewed_by, permission_lifetime, renewed_permission}
+use Rattle.stun_types_base.specs.Times.{time_after}
+use Rattle.turn_client_proto_allocation.specs.Permissions.{not_pending_request, not_renewed_by, permission_lifetime, renewed_permission}
 use Rattle.turn_client_proto_allocation.specs.declared.allocation.Allocation.{Allocation}
 use Rattle.turn_client_proto_allocation.specs.declared.permission.Permission.{Permission}
 
--- the end of a permission that is granted at a moment
+-- The expiry of a permission that is granted at `now`.
 abbrev pub permission_end : ℕ → ℕ
-permission_end now = moment_after now permission_lifetime
+permission_end now = time_after now permission_lifetime
 
--- a permission that was granted at a moment
+-- A permission that was granted at `now`.
 abbrev pub granted_for : IpAddr → ℕ → Permission
 granted_for ip now = record { ip = ip; expiry = permission_end now; renewals = [] }
 
--- an allocation in which a permission for an address was granted, for which the request of a number asks
-abbrev pub permitted : IpAddr → (number now : ℕ) → Allocation → Allocation
-permitted ip number now a = record a {
+-- The allocation after the request `transaction_id` for a permission for the address was granted at `now`.
+abbrev pub permitted : IpAddr → (transaction_id now : ℕ) → Allocation → Allocation
+permitted ip transaction_id now a = record a {
   permissions = a.permissions ++ granted_for ip now ∷ [];
-  pending_permissions = not_asked_by number a.pending_permissions;
+  pending_permissions = not_pending_request transaction_id a.pending_permissions;
 }
 
--- an allocation after the request of a number was granted: the permissions that it was to renew stand on
-unfoldable pub renewed : (number now : ℕ) → Allocation → Allocation
-renewed number now a = record a { permissions = map (renewed_permission number (permission_end now)) a.permissions }
+-- The allocation after a success response to this request: the permissions that it was to renew are extended.
+unfoldable pub renewed : (transaction_id now : ℕ) → Allocation → Allocation
+renewed transaction_id now a = record a { permissions = map (renewed_permission transaction_id (permission_end now)) a.permissions }
 
--- an allocation after the request of a number was refused: the permissions that it asked for, or was to renew, go
-unfoldable pub turned_down : ℕ → Allocation → Allocation
-turned_down number a = record a {
-  permissions = not_renewed_by number a.permissions;
-  pending_permissions = not_asked_by number a.pending_permissions;
+-- The allocation after an error response to this request: the permissions that it requested or was to renew
+-- are removed.
+unfoldable pub rejected : ℕ → Allocation → Allocation
+rejected transaction_id a = record a {
+  permissions = not_renewed_by transaction_id a.permissions;
+  pending_permissions = not_pending_request transaction_id a.pending_permissions;
 }

@@ -1,4 +1,4 @@
-//! Which channels are to be renewed at a moment (RFC 8656, section 12.1).
+//! Which channels are to be renewed (RFC 8656, section 12.1).
 
 ghost use Rattle.std.specs.Prelude.{◌≡◌, OnOk, OnErr, find, position};
 ghost use Rattle.std.specs.Option.{option_map};
@@ -14,7 +14,7 @@ use turn_client_proto_allocation::allocation::Allocation;
 use turn_client_proto_allocation::channel::{Channel, ChannelId};
 use turn_client_proto_allocation::channel_of::wants_renewal;
 
-/// Number and peer of the first channel that is to be renewed at a moment.
+/// Returns the number and peer of the first channel that is to be renewed at `now`.
 fn first_renewal(channels: &[Channel], now: Instant) -> Option<(ChannelId, SocketAddr)>
     ensures { result ≡ option_map (λ (c : Standing). (c.number, c.peer))
         (find (wants_renewal now) channels.now) }
@@ -23,9 +23,11 @@ fn first_renewal(channels: &[Channel], now: Instant) -> Option<(ChannelId, Socke
     Some((found.number, found.peer))
 }
 
-/// Number and peer of the first channel that is to be renewed at a moment, where the allocation
-/// stands: it is not marked as expired, and its time isn't over. A channel is to be renewed from a
-/// minute before it lapses on, where no request is to renew it.
+/// Returns the number and peer of the first channel of the allocation that is to be renewed at
+/// `now`, or `None` if the allocation is marked as expired or its expiry is before `now`.
+///
+/// A channel is to be renewed in the last 60 s before its expiry, if no request is to renew it
+/// already.
 #[tactic(auto, unfolding(crate::specs::Channel::Wanting::renewal_wanted))]
 pub fn renewal_wanted(a: &Allocation, now: Instant) -> Option<(ChannelId, SocketAddr)>
     ensures { result ≡ renewal_wanted now a.now }
@@ -37,26 +39,26 @@ pub fn renewal_wanted(a: &Allocation, now: Instant) -> Option<(ChannelId, Socket
     }
 }
 
-/// The place of the first channel that is to be renewed at a moment.
-fn place_wanting(channels: &[Channel], now: Instant) -> Option<usize>
+/// Returns the index of the first channel that is to be renewed at `now`.
+fn index_wanting(channels: &[Channel], now: Instant) -> Option<usize>
     ensures { result ≡ position (wants_renewal now) channels.now }
 {
     channels.iter().position(|c| wants_renewal(c, now))
 }
 
-/// The first channel that is to be renewed at a moment is to be so by the request of this number.
-/// Where memory is refused, nothing changes.
-#[tactic(auto, using(turn_client_proto_allocation::proofs::Changes::first_by_place))]
+/// Remembers that the request with this transaction ID is to renew the first channel that is to be
+/// renewed at `now`. If memory runs out, fails with `NoMemory` and nothing changes.
+#[tactic(auto, using(turn_client_proto_allocation::proofs::Changes::first_by_index))]
 pub fn renew_first(
     channels: &mut [Channel],
     now: Instant,
-    number: TransactionId,
+    transaction_id: TransactionId,
 ) -> Result<(), NoMemory>
-    ensures ok { OnOk result (channels.new ≡ renewed_first now number channels.old) }
+    ensures ok { OnOk result (channels.new ≡ renewed_first now transaction_id channels.old) }
     ensures err { OnErr result (channels.new ≡ channels.old) }
 {
-    let Some(place) = place_wanting(channels, now) else {
+    let Some(index) = index_wanting(channels, now) else {
         return Ok(());
     };
-    channels[place].renewals.push(number)
+    channels[index].renewals.push(transaction_id)
 }

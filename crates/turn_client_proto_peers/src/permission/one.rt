@@ -2,8 +2,8 @@
 
 ghost use Rattle.std.specs.Prelude.{◌≡◌, OnOk, OnErr};
 ghost use Rattle.turn_client_proto_peers.specs.Permission.Asking.{asks_for, is_of, is_past, knows, permits_over};
-ghost use Rattle.turn_client_proto_peers.specs.Permission.Granted.{permission_end, permitted, renewed, turned_down};
-ghost use Rattle.turn_client_proto_peers.specs.Permission.Telling.{polled};
+ghost use Rattle.turn_client_proto_peers.specs.Permission.Granted.{permission_end, permitted, renewed, rejected};
+ghost use Rattle.turn_client_proto_peers.specs.Permission.Reporting.{polled};
 
 use std::alloc::Global;
 use std::net::IpAddr;
@@ -19,62 +19,62 @@ use turn_client_proto_allocation::permission::Permission;
 use turn_client_proto_allocation::permissions;
 use turn_client_proto_allocation::permitted::permits;
 
-/// A permission stands so long, in seconds, unless it is renewed (RFC 8656, section 9).
+/// The lifetime of a permission in seconds, unless it is renewed (RFC 8656, section 9).
 const PERMISSION_LIFETIME: u64 = 300;
 
-/// The end of a permission that is granted at a moment.
+/// Returns the expiry of a permission that is granted at `now`.
 pub(crate) fn permission_end(now: Instant) -> Instant
     ensures { result ≡ permission_end now }
 {
     now.saturating_add(Duration::from_secs(PERMISSION_LIFETIME))
 }
 
-/// Whether an allocation is of this transport, and its address of this family.
+/// Returns whether the allocation is of this transport and its relayed address of this family.
 pub(crate) fn is_of(a: &Allocation, transport: TransportType, family: AddressFamily) -> bool
     ensures { result ≡ is_of transport family a.now }
 {
     a.transport == transport && AddressFamily::from(&a.address) == family
 }
 
-/// Whether the time of an allocation is over.
+/// Returns whether the allocation has expired at `now`.
 pub fn is_past(a: &Allocation, now: Instant) -> bool
     ensures { result ≡ is_past now a.now }
 {
     a.expiry <= now
 }
 
-/// Whether a permission for an address was asked for.
+/// Returns whether the allocation has a pending permission for the address.
 fn asks_for(a: &Allocation, ip: IpAddr) -> bool
     ensures { result ≡ asks_for ip a.now }
 {
     a.pending_permissions.as_slice().iter().any(|p| p.ip == ip)
 }
 
-/// Whether a permission for an address stands, or was asked for.
+/// Returns whether the allocation has an active or pending permission for the address.
 pub fn knows(a: &Allocation, ip: IpAddr) -> bool
     ensures { result ≡ knows ip a.now }
 {
     permits(a, ip) || asks_for(a, ip)
 }
 
-/// Whether a permission for an address stands, where the allocation is of a transport, and is not
-/// marked as expired.
+/// Returns whether the allocation is of this transport, is not marked as expired, and has an active
+/// permission for the address.
 pub(crate) fn permits_over(a: &Allocation, transport: TransportType, ip: IpAddr) -> bool
     ensures { result ≡ permits_over transport ip a.now }
 {
     !a.is_expired && a.transport == transport && permits(a, ip)
 }
 
-/// A permission for an address was granted, for which the request of this number asks. Where memory
-/// is refused, nothing changes.
+/// Adds an active permission for the address and removes the pending permissions of the request
+/// with this transaction ID. If memory runs out, fails with `NoMemory` and nothing changes.
 pub fn permit(
     alloc: Global,
     a: &mut Allocation,
     ip: IpAddr,
-    number: TransactionId,
+    transaction_id: TransactionId,
     now: Instant,
 ) -> Result<(), NoMemory>
-    ensures ok { OnOk result (a.new ≡ permitted ip number now a.old) }
+    ensures ok { OnOk result (a.new ≡ permitted ip transaction_id now a.old) }
     ensures err { OnErr result (a.new ≡ a.old) }
 {
     let permission = Permission {
@@ -83,33 +83,42 @@ pub fn permit(
         renewals: ListOf::new(alloc),
     };
     a.permissions.push(permission)?;
-    a.pending_permissions.retain(|p| !p.is_asked_by(number));
+    a.pending_permissions
+        .retain(|p| !p.is_requested_by(transaction_id));
     Ok(())
 }
 
-/// The request of this number was granted: the permissions that it was to renew stand on.
+/// Handles the success response to the request with this transaction ID: renews the permissions
+/// that it was to renew.
 #[tactic(auto, unfolding(crate::specs::Permission::Granted::renewed))]
-pub(crate) fn renew(a: &mut Allocation, number: TransactionId, now: Instant)
-    ensures { a.new ≡ renewed number now a.old }
+pub(crate) fn renew(a: &mut Allocation, transaction_id: TransactionId, now: Instant)
+    ensures { a.new ≡ renewed transaction_id now a.old }
 {
-    permissions::renew(a.permissions.as_mut_slice(), number, permission_end(now));
+    permissions::renew(
+        a.permissions.as_mut_slice(),
+        transaction_id,
+        permission_end(now),
+    );
 }
 
-/// The request of this number was refused: the permissions that it asked for, or was to renew, go.
-#[tactic(auto, unfolding(crate::specs::Permission::Granted::turned_down))]
-pub(crate) fn turn_down(a: &mut Allocation, number: TransactionId)
-    ensures { a.new ≡ turned_down number a.old }
+/// Handles an error response to the request with this transaction ID: removes the permissions that
+/// it requested or was to renew.
+#[tactic(auto, unfolding(crate::specs::Permission::Granted::rejected))]
+pub(crate) fn reject(a: &mut Allocation, transaction_id: TransactionId)
+    ensures { a.new ≡ rejected transaction_id a.old }
 {
-    a.permissions.retain(|p| !p.is_renewed_by(number));
-    a.pending_permissions.retain(|p| !p.is_asked_by(number));
+    a.permissions.retain(|p| !p.is_renewed_by(transaction_id));
+    a.pending_permissions
+        .retain(|p| !p.is_requested_by(transaction_id));
 }
 
-/// Time has come to a moment, and the transaction of this number has ended.
-#[tactic(auto, unfolding(crate::specs::Permission::Telling::polled))]
+/// Removes the permissions that have expired at `now` and the pending permissions whose request
+/// timed out, and forgets renewals that timed out.
+#[tactic(auto, unfolding(crate::specs::Permission::Reporting::polled))]
 pub(crate) fn poll(a: &mut Allocation, ended: &Option<TransactionId>, now: Instant)
     ensures { a.new ≡ polled ended.now now a.old }
 {
-    a.permissions.retain(|p| !p.has_lapsed(now));
+    a.permissions.retain(|p| !p.has_expired(now));
     permissions::poll(a.permissions.as_mut_slice(), ended);
     a.pending_permissions.retain(|p| !p.is_over(ended));
 }

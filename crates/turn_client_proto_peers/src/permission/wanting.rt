@@ -1,4 +1,4 @@
-//! Which permissions are to be renewed at a moment (RFC 8656, section 10.1).
+//! Which permissions are to be renewed (RFC 8656, section 10.1).
 
 ghost use Rattle.std.specs.Prelude.{◌≡◌, find};
 ghost use Rattle.std.specs.Option.{option_map};
@@ -11,7 +11,7 @@ use stun_types_base::instant::Instant;
 use turn_client_proto_allocation::allocation::Allocation;
 use turn_client_proto_allocation::permission::Permission;
 
-/// The address of the first permission that is to be renewed at a moment.
+/// Returns the address of the first permission that is to be renewed at `now`.
 fn first_renewal(permissions: &[Permission], now: Instant) -> Option<IpAddr>
     ensures { result ≡ option_map (λ (p : Standing). p.ip)
         (find (wants_renewal now) permissions.now) }
@@ -20,9 +20,11 @@ fn first_renewal(permissions: &[Permission], now: Instant) -> Option<IpAddr>
     Some(found.ip)
 }
 
-/// The address of the first permission that is to be renewed at a moment, where the allocation
-/// stands: it is not marked as expired, and its time isn't over. A permission is to be renewed from
-/// a minute before it lapses on, where no request is to renew it.
+/// Returns the address of the first permission of the allocation that is to be renewed at `now`, or
+/// `None` if the allocation is marked as expired or its expiry is before `now`.
+///
+/// A permission is to be renewed in the last 60 s before its expiry, if no request is to renew it
+/// already.
 #[tactic(auto, unfolding(crate::specs::Permission::Wanting::renewal_wanted))]
 pub fn renewal_wanted(a: &Allocation, now: Instant) -> Option<IpAddr>
     ensures { result ≡ renewal_wanted now a.now }

@@ -1,4 +1,4 @@
--- When a client is asked for a permission, and what becomes of it then.
+-- When a client may request a permission, and what becomes of it then.
 use Rattle.std.proofs.Common.{◌≡◌, ◌≢◌, ℕ, ◌<◌, arith, Bool, true, false, ◌||◌, List, [], ◌∷◌, Option, Some, None, refl, sym, ap, ◌∙◌, subst, inl, inr}
 use Rattle.std.specs.Prelude.{◌&&◌, if◌then◌else◌, MatchResult, IfNone, IfSome, Result, Ok, Err, find, is_some}
 use Rattle.std.specs.FinMap as finite
@@ -14,7 +14,7 @@ use Rattle.turn_client_proto_messages.specs.StunTypesBase.declared.transport.Tra
 use Rattle.turn_client_proto_messages.specs.StunTypesBase.declared.transport.TransportType.TheVariants.{Udp, Tcp}
 use Rattle.turn_client_proto_messages.specs.StunProtoTransaction.Agents.{Transaction}
 use Rattle.turn_client_proto_messages.specs.StunProtoTransaction.Schedule.{end_at}
-use Rattle.turn_client_proto_messages.specs.StunProtoAgent.Sending.{begun}
+use Rattle.turn_client_proto_messages.specs.StunProtoAgent.Sending.{started}
 use Rattle.turn_client_proto_messages.specs.Allocation.Awaited.{asks_for_channel, asks_for_permission, is_awaited, is_refresh, renews_channel, renews_permission}
 use Rattle.turn_client_proto_messages.specs.Allocation.Changes.{change_first}
 use Rattle.turn_client_proto_messages.specs.Allocation.Listed.{is_any_awaited}
@@ -22,10 +22,10 @@ use Rattle.turn_client_proto_messages.specs.Allocation.declared.allocation.Alloc
 use Rattle.turn_client_proto_messages.specs.Allocation.declared.permission.PendingPermission.{PendingPermission}
 use Rattle.turn_client_proto_messages.specs.Api.declared.error.CreatePermissionError.{CreatePermissionError}
 use Rattle.turn_client_proto_messages.specs.Api.declared.error.CreatePermissionError.TheVariants as not_permitted
-use Rattle.turn_client_proto_handshake_laws.specs.Core.Asking.{asked}
+use Rattle.turn_client_proto_handshake_laws.specs.Core.Asking.{requested}
 use Rattle.turn_client_proto_handshake_laws.specs.Core.Deleting.{is_authenticated}
 use Rattle.turn_client_proto_handshake_laws.specs.Core.Numbering.{after_number, awaits, is_taken}
-use Rattle.turn_client_proto_handshake_laws.specs.Core.Permitting.{IsPermissionAnswered, IsPermissionAsked, after_asking, allocation_for, permission_refusal, refusal_in, refused_in}
+use Rattle.turn_client_proto_handshake_laws.specs.Core.Permitting.{IsPermissionAnswered, IsPermissionRequested, after_asking, allocation_for, permission_refusal, refusal_in, refused_in}
 use Rattle.turn_client_proto_messages.specs.Requests.{request_text}
 use Rattle.turn_client_proto_messages.specs.declared.request.TurnRequest.TheVariants.{CreatePermission}
 use Rattle.turn_client_proto_handshake_laws.specs.Core.declared.protocol.Phase.{Phase}
@@ -39,7 +39,7 @@ use Rattle.turn_client_proto_messages.proofs.Reading.{number_law}
 use Rattle.turn_client_proto_step_laws.proofs.Numbers.{number_small}
 use Rattle.turn_client_proto_progress_laws.proofs.Asking.Tools.{put_or, put_there}
 use Rattle.turn_client_proto_handshake_laws.specs.Sent.{Beginning}
-use Rattle.turn_client_proto_progress_laws.specs.Asking.{APermission, AwaitsPermission, HasAsked, IsMade, MayPermit}
+use Rattle.turn_client_proto_progress_laws.specs.Asking.{APermission, AwaitsPermission, HasRequested, IsMade, MayPermit}
 use Rattle.turn_client_proto_progress_laws.specs.Speaking.{AreHeldBeyond, HasAtMost, IsOwn, Speaks}
 use Rattle.turn_client_proto_progress_laws.proofs.Asking.Lists.{first_not, second_not, found_last, none_of_any, one_changed, one_found}
 use Rattle.turn_client_proto_progress_laws.proofs.Asking.Moving.{speaks_on}
@@ -78,23 +78,23 @@ pub itself_family : (x : AddressFamily) → is_same_family x x ≡ true
 itself_family IPV4 = refl
 itself_family IPV6 = refl
 
-pub goes_on : (f : Phase) → is_authenticated f ≡ true → f ≡ Authenticated
-goes_on Initial is = absurd (Prim.cc is)
-goes_on (InitialSent numbers) is = absurd (Prim.cc is)
-goes_on (Authenticating numbers) is = absurd (Prim.cc is)
-goes_on Authenticated is = refl
-goes_on Ended is = absurd (Prim.cc is)
+pub continues : (f : Phase) → is_authenticated f ≡ true → f ≡ Authenticated
+continues Initial is = absurd (Prim.cc is)
+continues (InitialSent numbers) is = absurd (Prim.cc is)
+continues (Authenticating numbers) is = absurd (Prim.cc is)
+continues Authenticated is = refl
+continues Ended is = absurd (Prim.cc is)
 
 -- ---- the allocation
 
--- of a transport and of the family of an address
+-- The allocation has this transport and the family of this address.
 pub of_both : (b : Beginning) (address : SocketAddr) (transport : TransportType) (family : AddressFamily) (a : Allocation) → IsOwn b address a → transport ≡ b.config.transport → family_of_socket address ≡ family → is_of transport family a ≡ true
 of_both b address transport family a own same kin =
     both_so (is_same_transport a.transport transport) (is_same_family (family_of_socket a.address) family)
     (ap (λ (t : TransportType). is_same_transport t transport) (own.transport ∙ sym same) ∙ itself_transport transport)
     (ap (λ (x : SocketAddr). is_same_family (family_of_socket x) family) own.address_is ∙ ap (λ (f : AddressFamily). is_same_family f family) kin ∙ itself_family family)
 
--- and the other way round
+-- The converse.
 pub record IsOfBoth (b : Beginning) (address : SocketAddr) (transport : TransportType) (family : AddressFamily) : Type 0 where
   pub same : transport ≡ b.config.transport
   pub kin : family_of_socket address ≡ family
@@ -105,18 +105,18 @@ both_of b address transport family a own is = record {
   kin = ap family_of_socket (sym own.address_is) ∙ same_family (family_of_socket a.address) family (second_so (is_same_transport a.transport transport) _ is);
 }
 
--- what isn't past
+-- An expiry that has not passed is later than now.
 pub later_than : (at : ℕ) (a : Allocation) → is_past at a ≡ false → at < a.expiry
 later_than at a is = leb-false a.expiry at is
 
--- ---- when a permission is asked for
+-- ---- when a permission is requested
 
--- what is answered where it is
+-- The result if a permission is requested.
 abbrev pub ok : Result (Unit {0}) CreatePermissionError
 ok = Ok tt
 
 module _ (b : Beginning) (realm : List ℕ) (address : SocketAddr) (p : Protocol) (speaks : Speaks b realm address p) (transport : TransportType) (ip : IpAddr) (at : ℕ) where
-  -- why not, by the allocations
+  -- Why the call is refused, by the allocations.
   abbrev why_not : List Allocation → Option CreatePermissionError
   why_not allocations = refusal_in (find (is_of transport (family_of_ip ip)) allocations) p.phase ip at
 
@@ -140,7 +140,7 @@ module _ (b : Beginning) (realm : List ℕ) (address : SocketAddr) (p : Protocol
                       | inl on ↦ (
                           let of = both_of b address transport (family_of_ip ip) a own passes in
                           record {
-                            phase = goes_on p.phase on;
+                            phase = continues p.phase on;
                             allocation = a;
                             only = only;
                             same = of.same;
@@ -177,11 +177,11 @@ module _ (b : Beginning) (realm : List ℕ) (address : SocketAddr) (p : Protocol
       let on : is_authenticated p.phase ≡ true = ap is_authenticated m.phase in
       here ∙ rw (past, m.unknown, on) refl
 
-  -- ---- the answer
+  -- ---- the result
 
   answered_by : (ret : Result (Unit {0}) CreatePermissionError) (q : Protocol) (refusal : Option CreatePermissionError) → permission_refusal p transport ip at ≡ refusal → ret ≢ Err not_permitted.NoMemory
       → IfSome refusal (λ error. (ret ≡ Err error) × (q ≡ refused_in (allocation_for transport ip p) transport ip at p))
-      → IfNone refusal (MatchResult ret (λ _. IsPermissionAsked p transport ip at q) (λ error. (error ≡ not_permitted.NoMemory) × (q ≡ after_number p)))
+      → IfNone refusal (MatchResult ret (λ _. IsPermissionRequested p transport ip at q) (λ error. (error ≡ not_permitted.NoMemory) × (q ≡ after_number p)))
       → (ret ≡ Ok tt → MayPermit b address transport ip at p) × (MayPermit b address transport ip at p → ret ≡ Ok tt)
   answered_by ret q (Some error) why ample refused made = (λ done. absurd (Prim.cc (sym done ∙ refused.0)), λ may. absurd (Prim.cc (sym (not_refused may) ∙ why)))
   answered_by (Ok done) q None why ample refused made = (λ is. is_wanted why, λ may. refl)
@@ -189,21 +189,21 @@ module _ (b : Beginning) (realm : List ℕ) (address : SocketAddr) (p : Protocol
 
   pub answered : (ret : Result (Unit {0}) CreatePermissionError) (q : Protocol) → IsPermissionAnswered p transport ip at ret q → ret ≢ Err not_permitted.NoMemory
       → (ret ≡ Ok tt → MayPermit b address transport ip at p) × (MayPermit b address transport ip at p → ret ≡ Ok tt)
-  answered ret q is ample = answered_by ret q (permission_refusal p transport ip at) refl ample is.refused is.asked
+  answered ret q is ample = answered_by ret q (permission_refusal p transport ip at) refl ample is.refused is.requested
 
   -- ---- the request
 
   made_by : (q : Protocol) (refusal : Option CreatePermissionError) → permission_refusal p transport ip at ≡ refusal
       → IfSome refusal (λ error. (ok ≡ Err error) × (q ≡ refused_in (allocation_for transport ip p) transport ip at p))
-      → IfNone refusal (MatchResult ok (λ _. IsPermissionAsked p transport ip at q) (λ error. (error ≡ not_permitted.NoMemory) × (q ≡ after_number p)))
-      → MayPermit b address transport ip at p × IsPermissionAsked p transport ip at q
+      → IfNone refusal (MatchResult ok (λ _. IsPermissionRequested p transport ip at q) (λ error. (error ≡ not_permitted.NoMemory) × (q ≡ after_number p)))
+      → MayPermit b address transport ip at p × IsPermissionRequested p transport ip at q
   made_by q (Some error) why refused made = absurd (Prim.cc refused.0)
   made_by q None why refused made = (is_wanted why, made)
 
-  pub made : (q : Protocol) → IsPermissionAnswered p transport ip at (Ok tt) q → MayPermit b address transport ip at p × IsPermissionAsked p transport ip at q
-  made q is = made_by q (permission_refusal p transport ip at) refl is.refused is.asked
+  pub made : (q : Protocol) → IsPermissionAnswered p transport ip at (Ok tt) q → MayPermit b address transport ip at p × IsPermissionRequested p transport ip at q
+  made q is = made_by q (permission_refusal p transport ip at) refl is.refused is.requested
 
-  module _ (q : Protocol) (may : MayPermit b address transport ip at p) (is : IsPermissionAsked p transport ip at q) where
+  module _ (q : Protocol) (may : MayPermit b address transport ip at p) (is : IsPermissionRequested p transport ip at q) where
     abbrev number : ℕ
     number = is.number
 
@@ -237,7 +237,7 @@ module _ (b : Beginning) (realm : List ℕ) (address : SocketAddr) (p : Protocol
           no_refresh = none_of_any (is_refresh number) a.pending_refreshes (first_not (list_any (is_refresh number) a.pending_refreshes) _ four);
           no_channel = none_of_any (asks_for_channel number) a.pending_channels (first_not (list_any (asks_for_channel number) a.pending_channels) _ three);
           no_renewal = none_of_any (renews_channel number) a.channels (first_not (list_any (renews_channel number) a.channels) _ one);
-          asked = found_last (asks_for_permission number) a.pending_permissions pending
+          requested = found_last (asks_for_permission number) a.pending_permissions pending
               (none_of_any (asks_for_permission number) a.pending_permissions (first_not (list_any (asks_for_permission number) a.pending_permissions) _ two))
               (ap (λ (x : Bool). x || false) (eq-eqb number number refl));
         }
@@ -245,10 +245,10 @@ module _ (b : Beginning) (realm : List ℕ) (address : SocketAddr) (p : Protocol
     -- ---- the client then
 
     abbrev transaction : Transaction
-    transaction = begun p.agent text p.server at
+    transaction = started p.agent text p.server at
 
     abbrev after : Protocol
-    after = record (asked (after_number p) (CreatePermission ip) number at) {
+    after = record (requested (after_number p) (CreatePermission ip) number at) {
       allocations = change_first (is_of transport (family_of_ip ip)) (asking pending) p.allocations;
     }
 
@@ -258,16 +258,16 @@ module _ (b : Beginning) (realm : List ℕ) (address : SocketAddr) (p : Protocol
         ∙ one_changed (is_of transport (family_of_ip ip)) (asking pending) may.allocation (of_both b address transport (family_of_ip ip) may.allocation (own_of may.allocation may.only) may.same may.family)
 
     there_after : finite.get after.agent.outstanding number ≡ Some transaction
-    unfolding asked
+    unfolding requested
     there_after = ap (λ (n : ℕ). finite.get (finite.insert p.agent.outstanding (number_at text) transaction) n) (sym shows) ∙ put_there p.agent.outstanding (number_at text) transaction
 
     is_after : after_asking transport ip number at p ≡ after
     unfolding after_asking
     is_after = refl
 
-    -- its request is this one
+    -- The request is this one.
     pub own_request : (request : List ℕ) → IsMade p q request → request ≡ text
-    unfolding asked
+    unfolding requested
     own_request request m =
         let there : finite.get after.agent.outstanding m.number ≡ Some m.transaction = ap (λ (x : Protocol). finite.get x.agent.outstanding m.number) (sym (is.after ∙ is_after)) ∙ m.there in
         elim (put_or p.agent.outstanding (number_at text) transaction m.number m.transaction there) [
@@ -275,8 +275,8 @@ module _ (b : Beginning) (realm : List ℕ) (address : SocketAddr) (p : Protocol
           | inr old ↦ absurd (Prim.cc (sym m.none ∙ old.1))
         ]
 
-    asks_after : (now : ℕ) → AreHeldBeyond now p.allocations → now < end_at at b.config.waits → HasAsked b realm address (APermission ip) text now after
-    unfolding asked
+    asks_after : (now : ℕ) → AreHeldBeyond now p.allocations → now < end_at at b.config.waits → HasRequested b realm address (APermission ip) text now after
+    unfolding requested
     asks_after now held early =
         let a = may.allocation in
         let holds = held a (subst (λ (l : List Allocation). IsIn a l) (sym may.only) (inl refl)) in
@@ -288,7 +288,7 @@ module _ (b : Beginning) (realm : List ℕ) (address : SocketAddr) (p : Protocol
           phase = may.phase;
           allocation = asking pending a;
           only = only_after;
-          stands = holds.0;
+          occurs = holds.0;
           later = holds.1;
           number = number;
           fits = number_small p number is.is_next;
@@ -297,13 +297,13 @@ module _ (b : Beginning) (realm : List ℕ) (address : SocketAddr) (p : Protocol
           awaits = awaits_it;
           transaction = transaction;
           outstanding = there_after;
-          goes_on = lt-leb (end_at at p.agent.waits) now (omega (arith, ends, early));
+          continues = lt-leb (end_at at p.agent.waits) now (omega (arith, ends, early));
         }
 
-    pub asks : (now : ℕ) → AreHeldBeyond now p.allocations → now < end_at at b.config.waits → HasAsked b realm address (APermission ip) text now q
-    asks now held early = subst (λ (x : Protocol). HasAsked b realm address (APermission ip) text now x) (sym (is.after ∙ is_after)) (asks_after now held early)
+    pub asks : (now : ℕ) → AreHeldBeyond now p.allocations → now < end_at at b.config.waits → HasRequested b realm address (APermission ip) text now q
+    asks now held early = subst (λ (x : Protocol). HasRequested b realm address (APermission ip) text now x) (sym (is.after ∙ is_after)) (asks_after now held early)
 
-    -- there is such a request
+    -- Its transaction ID was free, so the request is a new one.
     free : is_some (finite.get p.agent.outstanding number) ≡ false
     unfolding is_taken
     free = first_not (is_some (finite.get p.agent.outstanding number)) _ is.is_next.free

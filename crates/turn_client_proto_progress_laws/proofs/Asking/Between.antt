@@ -1,4 +1,4 @@
--- A client that has asked, while its request waits to be drawn: what draws, polls and calls make of it.
+-- A client with a pending request: what `poll_transmit`, `poll` and other calls do to it.
 use Rattle.std.proofs.Common.{◌≡◌, ◌≢◌, ℕ, ◌≤◌, arith, Bool, true, false, List, [], ◌∷◌, ◌++◌, map, Option, Some, None, refl, sym, ap, ◌∙◌, subst, inl, inr}
 use Rattle.std.specs.Prelude.{MatchOption, MatchResult, IfNone, IfSome, Result, Ok, Err, find, nat_lt}
 use Rattle.std.specs.Bool.{MatchBool}
@@ -11,7 +11,7 @@ use Rattle.turn_client_proto_messages.specs.StunTypesBase.Family.{family_of_ip, 
 use Rattle.turn_client_proto_messages.specs.StunTypesBase.declared.transport.TransportType.{TransportType}
 use Rattle.turn_client_proto_messages.specs.StunProtoAgent.State as agents
 use Rattle.turn_client_proto_messages.specs.Allocation.Changes.{change_first}
-use Rattle.turn_client_proto_messages.specs.Allocation.Polling.{kept, stays}
+use Rattle.turn_client_proto_messages.specs.Allocation.Polling.{stored, stays}
 use Rattle.turn_client_proto_messages.specs.Allocation.Polling as allocation
 use Rattle.turn_client_proto_messages.specs.Allocation.Refreshing.{refreshing}
 use Rattle.turn_client_proto_messages.specs.Allocation.declared.allocation.Allocation.{Allocation}
@@ -24,79 +24,79 @@ use Rattle.turn_client_proto_messages.specs.Api.declared.error.CreatePermissionE
 use Rattle.turn_client_proto_messages.specs.Api.declared.error.CreatePermissionError.TheVariants as not_permitted
 use Rattle.turn_client_proto_messages.specs.Api.declared.event.TurnEvent.{TurnEvent}
 use Rattle.turn_client_proto_step_laws.specs.Peers.Channel.Wanting as channel_wanting
-use Rattle.turn_client_proto_step_laws.specs.Connection.Lapsing as joined
-use Rattle.turn_client_proto_step_laws.specs.Connection.Waiting.{asked_in, has_unasked, unasked}
+use Rattle.turn_client_proto_step_laws.specs.Connection.Expiring as joined
+use Rattle.turn_client_proto_step_laws.specs.Connection.Waiting.{requested_in, has_unasked, unasked}
 use Rattle.turn_client_proto_messages.specs.StunProtoAgent.declared.agent.StunAgentPollRet.{StunAgentPollRet}
-use Rattle.turn_client_proto_handshake_laws.specs.Core.Asking.{asked}
-use Rattle.turn_client_proto_handshake_laws.specs.Core.Binding.{IsBindAnswered, IsBindTried, IsChannelAsked, after_binding, allocation_to, asking_channel, bind_refusal, bind_refused_in}
+use Rattle.turn_client_proto_handshake_laws.specs.Core.Asking.{requested}
+use Rattle.turn_client_proto_handshake_laws.specs.Core.Binding.{IsBindAnswered, IsBindTried, IsChannelRequested, after_binding, allocation_to, asking_channel, bind_refusal, bind_refused_in}
 use Rattle.turn_client_proto_handshake_laws.specs.Core.Numbering.{IsNextNumber, after_number}
-use Rattle.turn_client_proto_handshake_laws.specs.Core.Permitting.{IsPermissionAnswered, IsPermissionAsked, after_asking as after_permission, allocation_for, permission_refusal, refused_in}
+use Rattle.turn_client_proto_handshake_laws.specs.Core.Permitting.{IsPermissionAnswered, IsPermissionRequested, after_asking as after_permission, allocation_for, permission_refusal, refused_in}
 use Rattle.turn_client_proto_messages.specs.Requests.{allocation_lifetime}
-use Rattle.turn_client_proto_messages.specs.ToldRequests.{IsLawfulRequest}
+use Rattle.turn_client_proto_messages.specs.ReportedRequests.{IsLawfulRequest}
 use Rattle.turn_client_proto_messages.specs.declared.request.TurnRequest.{TurnRequest}
 use Rattle.turn_client_proto_messages.specs.declared.request.TurnRequest.TheVariants.{ChannelBind, CreatePermission, Refresh as RefreshRequest}
 use Rattle.turn_client_proto_messages.specs.Waiting.{Queued, is_answer}
 use Rattle.turn_client_proto_handshake_laws.specs.Core.declared.protocol.Phase.{Phase}
 use Rattle.turn_client_proto_handshake_laws.specs.Core.declared.protocol.Protocol.{Protocol}
-use Rattle.turn_client_proto_step_laws.specs.Timers.Drawing.{Again, Fresh, IsAnswerSent, IsBegun, IsChannelRenewalSent, IsDrawn, IsNextSent, IsQueuedSent, IsRefreshSent, IsRenewalSent, IsRenewed, IsRepeated, Sends, after_sending, first_bound, first_permitted, first_refreshed, is_resting, sent_at_once}
+use Rattle.turn_client_proto_step_laws.specs.Timers.Drawing.{Again, Fresh, IsAnswerSent, IsStarted, IsChannelRenewalSent, IsTransmitted, IsNextSent, IsQueuedSent, IsRefreshSent, IsRenewalSent, IsRenewed, IsRepeated, Sends, after_sending, first_bound, first_permitted, first_refreshed, is_resting, sent_at_once}
 use Rattle.turn_client_proto_messages.specs.Api.Sent.{Sent}
 use Rattle.turn_client_proto_step_laws.specs.Peers.Permission.Asking.{is_of, is_past, marked}
 use Rattle.turn_client_proto_step_laws.specs.Peers.Permission.Asking as permission_asking
 use Rattle.turn_client_proto_step_laws.specs.Peers.Permission.Wanting as permission_wanting
-use Rattle.turn_client_proto_step_laws.specs.Timers.Polling.{Answers, IsClosing, IsPolled, IsPolledBy, IsPolledIn, IsWalked, after_asking as after_socket, after_time, answer_of, ended_of, left, socket_for}
-use Rattle.turn_client_proto_step_laws.specs.Timers.Telling as telling
+use Rattle.turn_client_proto_step_laws.specs.Timers.Polling.{Answers, IsClosing, IsPolled, IsPolledBy, IsPolledIn, AreAllocationsPolled, after_asking as after_socket, after_time, answer_of, ended_of, left, socket_for}
+use Rattle.turn_client_proto_step_laws.specs.Timers.Reporting as reporting
 use Rattle.turn_client_proto_step_laws.specs.Timers.Wanting.{wanted as to_renew, wants}
 use Rattle.turn_client_proto_step_laws.specs.Timers.declared.wanting.Want.{Want}
 use Rattle.turn_client_proto_step_laws.specs.Timers.declared.wanting.Want.TheVariants as want
 use Rattle.turn_client_proto_progress_laws.proofs.Asking.Tools.{refused_or}
 use Rattle.turn_client_proto_handshake_laws.specs.Driving.{IsEventTaken}
 use Rattle.turn_client_proto_handshake_laws.specs.Sent.{Beginning}
-use Rattle.turn_client_proto_progress_laws.specs.Asking.{HasAsked, Wanted}
-use Rattle.turn_client_proto_progress_laws.proofs.Asking.Kept.{Keeps, all_polled, channel_asked, channel_renewed, itself, permission_asked, permission_renewed, refresh_sent, socket_asked}
-use Rattle.turn_client_proto_progress_laws.proofs.Asking.Lists.{found_one, one_kept}
-use Rattle.turn_client_proto_progress_laws.proofs.Asking.Moving.{IsTickedOn, apart_from, asked_still, beside_made, beside_sent, ticked_on}
+use Rattle.turn_client_proto_progress_laws.specs.Asking.{HasRequested, Wanted}
+use Rattle.turn_client_proto_progress_laws.proofs.Asking.Stored.{Keeps, all_polled, channel_requested, channel_renewed, itself, permission_requested, permission_renewed, refresh_sent, socket_requested}
+use Rattle.turn_client_proto_progress_laws.proofs.Asking.Lists.{found_one, one_stored}
+use Rattle.turn_client_proto_progress_laws.proofs.Asking.Moving.{IsTickedOn, apart_from, requested_still, beside_made, beside_sent, ticked_on}
 
--- what is sent, where something is
+-- What is transmitted, if something is.
 pub sent_so : (answer : Option Sent) (Is : Sent → Type 0) → Sends answer Is → (sent : Sent) × Is sent
 sent_so None Is is = absurd is
 sent_so (Some sent) Is is = (sent, is)
 
--- by a test
+-- A case distinction by a test.
 pub tested : {P Q R : Type 0} (x : Bool) → (x ≡ true → P → R) → (x ≡ false → Q → R) → MatchBool x P Q → R
 tested true f g is = f refl is
 tested false f g is = g refl is
 
-module _ (b : Beginning) (realm : List ℕ) (address : SocketAddr) (wanted : Wanted) (request : List ℕ) (now : ℕ) (p : Protocol) (h : HasAsked b realm address wanted request now p) where
+module _ (b : Beginning) (realm : List ℕ) (address : SocketAddr) (wanted : Wanted) (request : List ℕ) (now : ℕ) (p : Protocol) (h : HasRequested b realm address wanted request now p) where
   abbrev Asks : Protocol → Type 0
-  Asks q = HasAsked b realm address wanted request now q
+  Asks q = HasRequested b realm address wanted request now q
 
-  -- nothing of it changes
+  -- Nothing of the client changes.
   unchanged : (q : Protocol) → q ≡ p → Asks q
   unchanged q same = subst (λ (x : Protocol). Asks x) (sym same) h
 
-  abbrev kept_itself : Keeps h.number wanted h.allocation h.allocation
-  kept_itself = itself h.number wanted h.allocation
+  abbrev stored_itself : Keeps h.number wanted h.allocation h.allocation
+  stored_itself = itself h.number wanted h.allocation
 
-  -- its first allocation that passes is changed
+  -- The first allocation that passes is changed.
   changed_one : (test : Allocation → Bool) (f : Allocation → Allocation) → Keeps h.number wanted h.allocation (f h.allocation)
       → (a : Allocation) × (change_first test f p.allocations ≡ a ∷ []) × Keeps h.number wanted h.allocation a
   changed_one test f keeps =
       let at : change_first test f p.allocations ≡ change_first test f (h.allocation ∷ []) = ap (λ (l : List Allocation). change_first test f l) h.only in
       elim (cases_Bool (test h.allocation)) [
         | inl passes ↦ (f h.allocation, at ∙ rw passes refl, keeps)
-        | inr fails ↦ (h.allocation, at ∙ rw fails refl, kept_itself)
+        | inr fails ↦ (h.allocation, at ∙ rw fails refl, stored_itself)
       ]
 
-  -- ---- what is drawn
+  -- ---- what is transmitted
 
-  -- a request that is made and sent at once
+  -- A request that is made and transmitted at once.
   module _ (other : TurnRequest) (number at : ℕ) (lawful : IsLawfulRequest other) (next : IsNextNumber p number) (test : Allocation → Bool) (f : Allocation → Allocation) (keeps : Keeps h.number wanted h.allocation (f h.allocation)) where
     made_so : Asks (after_sending at (record (sent_at_once (after_number p) other number at) { allocations = change_first test f p.allocations }))
     unfolding sent_at_once
     made_so =
         let changed = changed_one test f keeps in
-        asked_still b realm address wanted request now p h _ (record { server = refl; remote = refl; transport = refl; here = refl; waits = refl; allocates = refl; families = refl; auth = refl; phase = refl })
-        changed.0 changed.1 changed.2 h.transaction (beside_made b realm address wanted request now p h other number at p.server lawful next) h.goes_on
+        requested_still b realm address wanted request now p h _ (record { server = refl; remote = refl; transport = refl; here = refl; waits = refl; allocates = refl; families = refl; auth = refl; phase = refl })
+        changed.0 changed.1 changed.2 h.transaction (beside_made b realm address wanted request now p h other number at p.server lawful next) h.continues
 
   refreshed_so : (at : ℕ) (sent : Sent) (q : Protocol) → IsRefreshSent p at sent q → Asks q
   unfolding first_refreshed
@@ -122,11 +122,11 @@ module _ (b : Beginning) (realm : List ℕ) (address : SocketAddr) (wanted : Wan
   renewal_so (Some (want.Channel channel peer)) at sent q is = (let s = sent_so sent (λ x. IsChannelRenewalSent p channel peer at x q) is in rebound_so at channel peer s.0 q s.1)
   renewal_so (Some (want.Permission ip)) at sent q is = (let s = sent_so sent (λ x. IsRenewalSent p ip at x q) is in renewed_so at ip s.0 q s.1)
 
-  -- with another queue
+  -- The client with another queue.
   queued_so : (queue : List Queued) (last : Option ℕ) → Asks (record p { queue = queue; last_send = last })
   queued_so queue last =
-      asked_still b realm address wanted request now p h _ (record { server = refl; remote = refl; transport = refl; here = refl; waits = refl; allocates = refl; families = refl; auth = refl; phase = refl })
-      h.allocation h.only kept_itself h.transaction h.outstanding h.goes_on
+      requested_still b realm address wanted request now p h _ (record { server = refl; remote = refl; transport = refl; here = refl; waits = refl; allocates = refl; families = refl; auth = refl; phase = refl })
+      h.allocation h.only stored_itself h.transaction h.outstanding h.continues
 
   answer_so : (found : Option Queued) (sent : Option Sent) (q : Protocol) → IsAnswerSent found p sent q → Asks q
   answer_so None sent q is = unchanged q is.1
@@ -134,25 +134,25 @@ module _ (b : Beginning) (realm : List ℕ) (address : SocketAddr) (wanted : Wan
 
   next_so : (queue : List Queued) (at : ℕ) (sent : Option Sent) (q : Protocol) → IsNextSent queue p at sent q → Asks q
   next_so (x ∷ rest) at sent q is = (let s = sent_so sent (λ y. IsQueuedSent p at x rest y q) is in subst (λ (y : Protocol). Asks y) (sym s.1.after) (queued_so rest (Some at)))
-  next_so [] at sent q is = renewal_so (to_renew at p.allocations) at sent q (subst (λ (f : Phase). IsBegun f p at sent q) h.phase is)
+  next_so [] at sent q is = renewal_so (to_renew at p.allocations) at sent q (subst (λ (f : Phase). IsStarted f p at sent q) h.phase is)
 
   again_so : (at : ℕ) (sent : Sent) (q : Protocol) → IsRepeated p at sent q → Asks q
   again_so at sent q is =
       let t = beside_sent b realm address wanted request now p h is.number is.transaction (agents.is_tcp p.agent.transport) is.least.present in
       subst (λ (y : Protocol). Asks y) (sym is.after)
-      (asked_still b realm address wanted request now p h _ (record { server = refl; remote = refl; transport = refl; here = refl; waits = refl; allocates = refl; families = refl; auth = refl; phase = refl })
-      h.allocation h.only kept_itself t.0 t.1 t.2)
+      (requested_still b realm address wanted request now p h _ (record { server = refl; remote = refl; transport = refl; here = refl; waits = refl; allocates = refl; families = refl; auth = refl; phase = refl })
+      h.allocation h.only stored_itself t.0 t.1 t.2)
 
-  pub drawn_so : (at : ℕ) (sent : Option Sent) (q : Protocol) → IsDrawn p at sent q → Asks q
-  drawn_so at sent q (Again one is r) = again_so at one q r
-  drawn_so at sent q (Fresh none is) = tested (is_resting p.last_send at) (λ _ x. answer_so (find is_answer p.queue) sent q x) (λ _ x. next_so p.queue at sent q x) is
+  pub generated_so : (at : ℕ) (sent : Option Sent) (q : Protocol) → IsTransmitted p at sent q → Asks q
+  generated_so at sent q (Again one is r) = again_so at one q r
+  generated_so at sent q (Fresh none is) = tested (is_resting p.last_send at) (λ _ x. answer_so (find is_answer p.queue) sent q x) (λ _ x. next_so p.queue at sent q x) is
 
   -- ---- an event is taken
 
-  pub told_so : (event : Option TurnEvent) (q : Protocol) → IsEventTaken p event q → Asks q
-  told_so event q is = subst (λ (y : Protocol). Asks y) (sym is.others)
-      (asked_still b realm address wanted request now p h _ (record { server = refl; remote = refl; transport = refl; here = refl; waits = refl; allocates = refl; families = refl; auth = refl; phase = refl })
-      h.allocation h.only kept_itself h.transaction h.outstanding h.goes_on)
+  pub reported_so : (event : Option TurnEvent) (q : Protocol) → IsEventTaken p event q → Asks q
+  reported_so event q is = subst (λ (y : Protocol). Asks y) (sym is.others)
+      (requested_still b realm address wanted request now p h _ (record { server = refl; remote = refl; transport = refl; here = refl; waits = refl; allocates = refl; families = refl; auth = refl; phase = refl })
+      h.allocation h.only stored_itself h.transaction h.outstanding h.continues)
 
   -- ---- it is polled, not later
 
@@ -168,26 +168,26 @@ module _ (b : Beginning) (realm : List ℕ) (address : SocketAddr) (wanted : Wan
       k = record p { agent = agent }
 
       abbrev after : Allocation
-      after = telling.polled over at (allocation.polled over h.allocation)
+      after = reporting.polled over at (allocation.polled over h.allocation)
 
       stays_so : stays over at h.allocation ≡ true
       unfolding stays
       stays_so = rw lasts refl
 
       left_is : left over at k ≡ allocation.polled over h.allocation ∷ []
-      left_is = ap (λ (l : List Allocation). map (allocation.polled over) (kept over at l)) h.only ∙ ap (λ (l : List Allocation). map (allocation.polled over) l) (one_kept (stays over at) h.allocation stays_so)
+      left_is = ap (λ (l : List Allocation). map (allocation.polled over) (stored over at l)) h.only ∙ ap (λ (l : List Allocation). map (allocation.polled over) l) (one_stored (stays over at) h.allocation stays_so)
 
-      polled_is : map (telling.polled over at) (left over at k) ≡ after ∷ []
-      polled_is = ap (λ (l : List Allocation). map (telling.polled over at) l) left_is
+      polled_is : map (reporting.polled over at) (left over at k) ≡ after ∷ []
+      polled_is = ap (λ (l : List Allocation). map (reporting.polled over at) l) left_is
 
       with_closing : (closing : List SocketAddr) → Asks (record k {
-        allocations = map (telling.polled over at) (left over at k);
-        events = p.events ++ telling.all_failures over at (left over at k);
+        allocations = map (reporting.polled over at) (left over at k);
+        events = p.events ++ reporting.all_failures over at (left over at k);
         closing = closing;
       })
       with_closing closing =
-          asked_still b realm address wanted request now p h _ (record { server = refl; remote = t.remote; transport = t.transport; here = t.here; waits = t.waits; allocates = refl; families = refl; auth = refl; phase = refl })
-          after polled_is (all_polled h.number over at t.goes_on wanted h.allocation) h.transaction t.there h.goes_on
+          requested_still b realm address wanted request now p h _ (record { server = refl; remote = t.remote; transport = t.transport; here = t.here; waits = t.waits; allocates = refl; families = refl; auth = refl; phase = refl })
+          after polled_is (all_polled h.number over at t.continues wanted h.allocation) h.transaction t.there h.continues
 
       closing_so : (closing : List SocketAddr) (wish ret : TurnPollRet) (q : Protocol) → IsClosing closing wish (after_time over at k) ret q → Asks q
       unfolding after_time
@@ -197,13 +197,13 @@ module _ (b : Beginning) (realm : List ℕ) (address : SocketAddr) (wanted : Wan
       socket_so : (w : Waiting) (ret : TurnPollRet) (q : Protocol) → Answers (socket_for k w) (after_socket k) ret q → Asks q
       unfolding after_socket
       socket_so w ret q is =
-          let changed = changed_one has_unasked asked_in (socket_asked h.number wanted h.allocation) in
+          let changed = changed_one has_unasked requested_in (socket_requested h.number wanted h.allocation) in
           subst (λ (y : Protocol). Asks y) (sym is.1)
-          (asked_still b realm address wanted request now p h _ (record { server = refl; remote = t.remote; transport = t.transport; here = t.here; waits = t.waits; allocates = refl; families = refl; auth = refl; phase = refl })
-          changed.0 changed.1 changed.2 h.transaction t.there h.goes_on)
+          (requested_still b realm address wanted request now p h _ (record { server = refl; remote = t.remote; transport = t.transport; here = t.here; waits = t.waits; allocates = refl; families = refl; auth = refl; phase = refl })
+          changed.0 changed.1 changed.2 h.transaction t.there h.continues)
 
       standing_so : (found : Option Waiting) (wait : ℕ) (ret : TurnPollRet) (q : Protocol)
-          → MatchOption found (IsWalked over wait k at ret q) (λ w. Answers (socket_for k w) (after_socket k) ret q) → Asks q
+          → MatchOption found (AreAllocationsPolled over wait k at ret q) (λ w. Answers (socket_for k w) (after_socket k) ret q) → Asks q
       standing_so None wait ret q is = closing_so (p.closing ++ joined.all_gone over at (left over at k)) (answer_of (left over at k) over at is.first) ret q is.outcome
       standing_so (Some w) wait ret q is = socket_so w ret q is
 
@@ -221,46 +221,46 @@ module _ (b : Beginning) (realm : List ℕ) (address : SocketAddr) (wanted : Wan
       | inr refused ↦ absurd (ample refused.0)
     ]
 
-    -- ---- something else is asked for, not later
+    -- ---- something else is requested, not later
 
     not_past : is_past at h.allocation ≡ false
     not_past = (let later = h.later in lt-leb h.allocation.expiry at (omega (arith, later, early)))
 
-    -- an allocation that is found is the one
+    -- An allocation that is found is the only one.
     found_is : (test : Allocation → Bool) (a : Allocation) → find test p.allocations ≡ Some a → a ≡ h.allocation
     found_is test a is = (found_one test h.allocation a (sym (ap (λ (l : List Allocation). find test l) h.only) ∙ is)).0
 
-    -- so it isn't marked
+    -- So it isn't marked as expired.
     refused_so : (transport : TransportType) (ip : IpAddr) (found : Option Allocation) → find (is_of transport (family_of_ip ip)) p.allocations ≡ found → refused_in found transport ip at p ≡ p
     refused_so transport ip None which = refl
     refused_so transport ip (Some a) which =
         let past : is_past at a ≡ false = ap (λ (x : Allocation). is_past at x) (found_is (is_of transport (family_of_ip ip)) a which) ∙ not_past in
         rw past refl
 
-    -- a request that waits
+    -- A request that is queued.
     module _ (other : TurnRequest) (number : ℕ) (lawful : IsLawfulRequest other) (next : IsNextNumber p number) (test : Allocation → Bool) (f : Allocation → Allocation) (keeps : Keeps h.number wanted h.allocation (f h.allocation)) where
-      waits_so : Asks (record (asked (after_number p) other number at) { allocations = change_first test f p.allocations })
-      unfolding asked
+      waits_so : Asks (record (requested (after_number p) other number at) { allocations = change_first test f p.allocations })
+      unfolding requested
       waits_so =
           let changed = changed_one test f keeps in
-          asked_still b realm address wanted request now p h _ (record { server = refl; remote = refl; transport = refl; here = refl; waits = refl; allocates = refl; families = refl; auth = refl; phase = refl })
-          changed.0 changed.1 changed.2 h.transaction (beside_made b realm address wanted request now p h other number at p.server lawful next) h.goes_on
+          requested_still b realm address wanted request now p h _ (record { server = refl; remote = refl; transport = refl; here = refl; waits = refl; allocates = refl; families = refl; auth = refl; phase = refl })
+          changed.0 changed.1 changed.2 h.transaction (beside_made b realm address wanted request now p h other number at p.server lawful next) h.continues
 
-    permission_made : (transport : TransportType) (ip : IpAddr) (q : Protocol) → IsPermissionAsked p transport ip at q → Asks q
+    permission_made : (transport : TransportType) (ip : IpAddr) (q : Protocol) → IsPermissionRequested p transport ip at q → Asks q
     unfolding after_permission
     permission_made transport ip q is = subst (λ (y : Protocol). Asks y) (sym is.after)
         (waits_so (CreatePermission ip) is.number is.lawful is.is_next (is_of transport (family_of_ip ip)) (permission_asking.asking (record { ip = ip; numbers = is.number ∷ [] }))
-        (permission_asked h.number is.number (apart_from b realm address wanted request now p h is.number is.is_next) wanted ip h.allocation))
+        (permission_requested h.number is.number (apart_from b realm address wanted request now p h is.number is.is_next) wanted ip h.allocation))
 
     permission_by : (transport : TransportType) (ip : IpAddr) (ret : Result (Unit {0}) CreatePermissionError) (q : Protocol) (refusal : Option CreatePermissionError) → ret ≢ Err not_permitted.NoMemory
         → IfSome refusal (λ error. (ret ≡ Err error) × (q ≡ refused_in (allocation_for transport ip p) transport ip at p))
-        → IfNone refusal (MatchResult ret (λ _. IsPermissionAsked p transport ip at q) (λ error. (error ≡ not_permitted.NoMemory) × (q ≡ after_number p))) → Asks q
+        → IfNone refusal (MatchResult ret (λ _. IsPermissionRequested p transport ip at q) (λ error. (error ≡ not_permitted.NoMemory) × (q ≡ after_number p))) → Asks q
     permission_by transport ip ret q (Some error) ample refused made = unchanged q (refused.1 ∙ refused_so transport ip (allocation_for transport ip p) refl)
     permission_by transport ip (Ok done) q None ample refused made = permission_made transport ip q made
     permission_by transport ip (Err error) q None ample refused made = absurd (ample (ap Err made.0))
 
     pub permission_so : (transport : TransportType) (ip : IpAddr) (ret : Result (Unit {0}) CreatePermissionError) (q : Protocol) → ret ≢ Err not_permitted.NoMemory → IsPermissionAnswered p transport ip at ret q → Asks q
-    permission_so transport ip ret q ample is = permission_by transport ip ret q (permission_refusal p transport ip at) ample is.refused is.asked
+    permission_so transport ip ret q ample is = permission_by transport ip ret q (permission_refusal p transport ip at) ample is.refused is.requested
 
     bind_refused_so : (transport : TransportType) (peer : SocketAddr) (found : Option Allocation) → find (is_of transport (family_of_socket peer)) p.allocations ≡ found → bind_refused_in found transport peer at p ≡ p
     bind_refused_so transport peer None which = refl
@@ -268,15 +268,15 @@ module _ (b : Beginning) (realm : List ℕ) (address : SocketAddr) (wanted : Wan
         let past : is_past at a ≡ false = ap (λ (x : Allocation). is_past at x) (found_is (is_of transport (family_of_socket peer)) a which) ∙ not_past in
         rw past refl
 
-    channel_made : (transport : TransportType) (peer : SocketAddr) (channel : ℕ) (q : Protocol) → IsChannelAsked p transport peer channel at q → Asks q
+    channel_made : (transport : TransportType) (peer : SocketAddr) (channel : ℕ) (q : Protocol) → IsChannelRequested p transport peer channel at q → Asks q
     unfolding after_binding
     channel_made transport peer channel q is = subst (λ (y : Protocol). Asks y) (sym is.after)
         (waits_so (ChannelBind channel peer) is.number is.lawful is.is_next (is_of transport (family_of_socket peer)) (asking_channel channel peer is.number)
-        (channel_asked h.number is.number (apart_from b realm address wanted request now p h is.number is.is_next) wanted channel (socket_ip peer) peer h.allocation))
+        (channel_requested h.number is.number (apart_from b realm address wanted request now p h is.number is.is_next) wanted channel (socket_ip peer) peer h.allocation))
 
     channel_by : (transport : TransportType) (peer : SocketAddr) (ret : Result (Unit {0}) BindChannelError) (q : Protocol) (free : Option ℕ) → ret ≢ Err not_bound.NoMemory
         → MatchOption free ((ret ≡ Err not_bound.NoChannel) × (q ≡ p))
-        (λ channel. MatchResult ret (λ _. IsChannelAsked p transport peer channel at q) (λ error. (error ≡ not_bound.NoMemory) × (q ≡ after_number p))) → Asks q
+        (λ channel. MatchResult ret (λ _. IsChannelRequested p transport peer channel at q) (λ error. (error ≡ not_bound.NoMemory) × (q ≡ after_number p))) → Asks q
     channel_by transport peer ret q None ample is = unchanged q is.1
     channel_by transport peer (Ok done) q (Some channel) ample is = channel_made transport peer channel q is
     channel_by transport peer (Err error) q (Some channel) ample is = absurd (ample (ap Err is.0))

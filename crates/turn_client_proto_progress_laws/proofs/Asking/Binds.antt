@@ -1,4 +1,4 @@
--- When a client is asked for a channel, and what becomes of it then.
+-- When a client may request a channel, and what becomes of it then.
 use Rattle.std.proofs.Common.{◌≡◌, ◌≢◌, ℕ, ◌<◌, arith, Bool, true, false, ◌||◌, List, [], ◌∷◌, Option, Some, None, refl, sym, ap, ◌∙◌, subst, inl, inr}
 use Rattle.std.specs.Prelude.{if◌then◌else◌, MatchOption, MatchResult, IfNone, IfSome, Result, Ok, Err, find, is_some}
 use Rattle.std.specs.FinMap as finite
@@ -13,7 +13,7 @@ use Rattle.turn_client_proto_messages.specs.StunTypesWire.Grammar.{number_at}
 use Rattle.turn_client_proto_messages.specs.StunTypesBase.declared.transport.TransportType.{TransportType}
 use Rattle.turn_client_proto_messages.specs.StunProtoTransaction.Agents.{Transaction}
 use Rattle.turn_client_proto_messages.specs.StunProtoTransaction.Schedule.{end_at}
-use Rattle.turn_client_proto_messages.specs.StunProtoAgent.Sending.{begun}
+use Rattle.turn_client_proto_messages.specs.StunProtoAgent.Sending.{started}
 use Rattle.turn_client_proto_messages.specs.Allocation.Awaited.{asks_for_channel, asks_for_permission, is_awaited, is_refresh, renews_channel, renews_permission}
 use Rattle.turn_client_proto_messages.specs.Allocation.Changes.{change_first}
 use Rattle.turn_client_proto_messages.specs.Allocation.Listed.{is_any_awaited}
@@ -23,8 +23,8 @@ use Rattle.turn_client_proto_messages.specs.Api.declared.error.BindChannelError.
 use Rattle.turn_client_proto_messages.specs.Api.declared.error.BindChannelError.TheVariants as not_bound
 use Rattle.turn_client_proto_step_laws.specs.Peers.Channel.Binding.{asking, barring}
 use Rattle.turn_client_proto_step_laws.specs.Peers.Channel.Numbers.{IsLeastFree, is_numbered, is_taken, is_taken_in}
-use Rattle.turn_client_proto_handshake_laws.specs.Core.Asking.{asked}
-use Rattle.turn_client_proto_handshake_laws.specs.Core.Binding.{IsBindAnswered, IsBindTried, IsChannelAsked, after_binding, allocation_to, asking_channel, bind_refusal, bind_refusal_in, bind_refused_in, permission_beside}
+use Rattle.turn_client_proto_handshake_laws.specs.Core.Asking.{requested}
+use Rattle.turn_client_proto_handshake_laws.specs.Core.Binding.{IsBindAnswered, IsBindTried, IsChannelRequested, after_binding, allocation_to, asking_channel, bind_refusal, bind_refusal_in, bind_refused_in, permission_beside}
 use Rattle.turn_client_proto_handshake_laws.specs.Core.Deleting.{is_authenticated}
 use Rattle.turn_client_proto_handshake_laws.specs.Core.Numbering.{after_number, awaits, is_taken as is_taken_number}
 use Rattle.turn_client_proto_messages.specs.Requests.{request_text}
@@ -36,18 +36,18 @@ use Rattle.turn_client_proto_messages.proofs.Reading.{number_law}
 use Rattle.turn_client_proto_step_laws.proofs.Numbers.{number_small}
 use Rattle.turn_client_proto_progress_laws.proofs.Asking.Tools.{put_or, put_there}
 use Rattle.turn_client_proto_handshake_laws.specs.Sent.{Beginning}
-use Rattle.turn_client_proto_progress_laws.specs.Asking.{AChannel, AwaitsChannel, HasAsked, IsMade, MayBind}
+use Rattle.turn_client_proto_progress_laws.specs.Asking.{AChannel, AwaitsChannel, HasRequested, IsMade, MayBind}
 use Rattle.turn_client_proto_progress_laws.specs.Speaking.{AreHeldBeyond, HasAtMost, IsOwn, Speaks}
-use Rattle.turn_client_proto_progress_laws.proofs.Asking.Asks.{both_of, goes_on, later_than, of_both}
+use Rattle.turn_client_proto_progress_laws.proofs.Asking.Asks.{both_of, continues, later_than, of_both}
 use Rattle.turn_client_proto_progress_laws.proofs.Asking.Lists.{first_not, second_not, found_last, none_of_any, one_changed, one_found}
 use Rattle.turn_client_proto_progress_laws.proofs.Asking.Moving.{speaks_on}
 
--- the first of two causes is none
+-- The first of two causes does not apply.
 first_none : (one other : Option BindChannelError) → option_or one other ≡ None → one ≡ None
 first_none None other is = refl
 first_none (Some error) other is = absurd (Prim.cc is)
 
--- what is answered where one is asked for
+-- The result if a channel is requested.
 abbrev pub ok : Result (Unit {0}) BindChannelError
 ok = Ok tt
 
@@ -57,7 +57,7 @@ module _ (b : Beginning) (realm : List ℕ) (address : SocketAddr) (p : Protocol
   abbrev why_not : List Allocation → Option BindChannelError
   why_not allocations = bind_refusal_in (find (is_of transport (family_of_socket peer)) allocations) p.phase peer at
 
-  -- what may be asked for, but for a number that is free
+  -- All conditions of `MayBind` except that a channel number is free.
   pub record MayBindBut : Type 0 where
     pub allocation : Allocation
     pub only : p.allocations ≡ allocation ∷ []
@@ -114,7 +114,7 @@ module _ (b : Beginning) (realm : List ℕ) (address : SocketAddr) (p : Protocol
 
   with_number : (m : MayBindBut) (channel : ℕ) → IsLeastFree p.allocations at (Some channel) → MayBind b address transport peer at p
   with_number m channel least = record {
-    phase = goes_on p.phase m.on;
+    phase = continues p.phase m.on;
     allocation = m.allocation;
     only = m.only;
     same = m.same;
@@ -128,13 +128,13 @@ module _ (b : Beginning) (realm : List ℕ) (address : SocketAddr) (p : Protocol
   never_full : {A : Type 0} → MayBind b address transport peer at p → IsLeastFree p.allocations at None → A
   never_full m full = absurd (Prim.cc (sym (full m.channel m.free.least m.free.most) ∙ m.free.untaken))
 
-  -- ---- the answer
+  -- ---- the result
 
   abbrev Both : Result (Unit {0}) BindChannelError → Type 0
   Both ret = (ret ≡ Ok tt → MayBind b address transport peer at p) × (MayBind b address transport peer at p → ret ≡ Ok tt)
 
   tried_by : (ret : Result (Unit {0}) BindChannelError) (q : Protocol) (free : Option ℕ) → MayBindBut → IsLeastFree p.allocations at free → ret ≢ Err not_bound.NoMemory
-      → MatchOption free ((ret ≡ Err not_bound.NoChannel) × (q ≡ p)) (λ channel. MatchResult ret (λ _. IsChannelAsked p transport peer channel at q) (λ error. (error ≡ not_bound.NoMemory) × (q ≡ after_number p))) → Both ret
+      → MatchOption free ((ret ≡ Err not_bound.NoChannel) × (q ≡ p)) (λ channel. MatchResult ret (λ _. IsChannelRequested p transport peer channel at q) (λ error. (error ≡ not_bound.NoMemory) × (q ≡ after_number p))) → Both ret
   tried_by ret q None m least ample is = (λ done. absurd (Prim.cc (sym done ∙ is.0)), λ may. never_full may least)
   tried_by (Ok done) q (Some channel) m least ample is = (λ _. with_number m channel least, λ may. refl)
   tried_by (Err error) q (Some channel) m least ample is = absurd (ample (ap Err is.0))
@@ -153,10 +153,10 @@ module _ (b : Beginning) (realm : List ℕ) (address : SocketAddr) (p : Protocol
     pub may : MayBindBut
     pub channel : ℕ
     pub least : IsLeastFree p.allocations at (Some channel)
-    pub is : IsChannelAsked p transport peer channel at q
+    pub is : IsChannelRequested p transport peer channel at q
 
   bound_by : (q : Protocol) (free : Option ℕ) → MayBindBut → IsLeastFree p.allocations at free
-      → MatchOption free ((ok ≡ Err not_bound.NoChannel) × (q ≡ p)) (λ channel. MatchResult ok (λ _. IsChannelAsked p transport peer channel at q) (λ error. (error ≡ not_bound.NoMemory) × (q ≡ after_number p))) → IsBound q
+      → MatchOption free ((ok ≡ Err not_bound.NoChannel) × (q ≡ p)) (λ channel. MatchResult ok (λ _. IsChannelRequested p transport peer channel at q) (λ error. (error ≡ not_bound.NoMemory) × (q ≡ after_number p))) → IsBound q
   bound_by q None m least is = absurd (Prim.cc is.0)
   bound_by q (Some channel) m least is = record { may = m; channel = channel; least = least; is = is }
 
@@ -202,12 +202,12 @@ module _ (b : Beginning) (realm : List ℕ) (address : SocketAddr) (p : Protocol
     abbrev pending : PendingChannel
     pending = record { channel = channel; peer = peer; numbers = number ∷ [] }
 
-    -- what is asked for beside it makes no difference
+    -- The permission that is requested with the channel makes no difference.
     beside : (ip : IpAddr) (x : Allocation) → AwaitsChannel number channel peer x → AwaitsChannel number channel peer (permission_beside ip number x)
     unfolding permission_beside
     beside ip x is = elim (cases_Bool (knows ip x)) [
       | inl known ↦ rw known is
-      | inr new ↦ rw new (record { no_refresh = is.no_refresh; asked = is.asked; free = is.free })
+      | inr new ↦ rw new (record { no_refresh = is.no_refresh; requested = is.requested; free = is.free })
     ]
 
     awaits_alone : AwaitsChannel number channel peer (asking pending a)
@@ -219,7 +219,7 @@ module _ (b : Beginning) (realm : List ℕ) (address : SocketAddr) (p : Protocol
         let four = second_not (list_any (asks_for_channel number) a.pending_channels) _ three in
         record {
           no_refresh = none_of_any (is_refresh number) a.pending_refreshes (first_not (list_any (is_refresh number) a.pending_refreshes) _ four);
-          asked = found_last (asks_for_channel number) a.pending_channels pending
+          requested = found_last (asks_for_channel number) a.pending_channels pending
               (none_of_any (asks_for_channel number) a.pending_channels (first_not (list_any (asks_for_channel number) a.pending_channels) _ three))
               (ap (λ (x : Bool). x || false) (eq-eqb number number refl));
           free = none_of_any (is_numbered channel) a.channels untaken;
@@ -228,13 +228,13 @@ module _ (b : Beginning) (realm : List ℕ) (address : SocketAddr) (p : Protocol
     -- ---- the client then
 
     abbrev transaction : Transaction
-    transaction = begun p.agent text p.server at
+    transaction = started p.agent text p.server at
 
     abbrev changed : Allocation
     changed = asking_channel channel peer number a
 
     abbrev after : Protocol
-    after = record (asked (after_number p) (ChannelBind channel peer) number at) {
+    after = record (requested (after_number p) (ChannelBind channel peer) number at) {
       allocations = change_first (is_of transport (family_of_socket peer)) (asking_channel channel peer number) p.allocations;
     }
 
@@ -244,16 +244,16 @@ module _ (b : Beginning) (realm : List ℕ) (address : SocketAddr) (p : Protocol
         ∙ one_changed (is_of transport (family_of_socket peer)) (asking_channel channel peer number) a (of_both b address transport (family_of_socket peer) a (own_of a is_bound.may.only) is_bound.may.same is_bound.may.family)
 
     there_after : finite.get after.agent.outstanding number ≡ Some transaction
-    unfolding asked
+    unfolding requested
     there_after = ap (λ (n : ℕ). finite.get (finite.insert p.agent.outstanding (number_at text) transaction) n) (sym shows) ∙ put_there p.agent.outstanding (number_at text) transaction
 
     is_after : after_binding transport peer channel number at p ≡ after
     unfolding after_binding
     is_after = refl
 
-    -- its request is this one
+    -- The request is this one.
     pub own_request : (request : List ℕ) → IsMade p q request → request ≡ text
-    unfolding asked
+    unfolding requested
     own_request request m =
         let there : finite.get after.agent.outstanding m.number ≡ Some m.transaction = ap (λ (x : Protocol). finite.get x.agent.outstanding m.number) (sym (is_bound.is.after ∙ is_after)) ∙ m.there in
         elim (put_or p.agent.outstanding (number_at text) transaction m.number m.transaction there) [
@@ -261,25 +261,25 @@ module _ (b : Beginning) (realm : List ℕ) (address : SocketAddr) (p : Protocol
           | inr old ↦ absurd (Prim.cc (sym m.none ∙ old.1))
         ]
 
-    -- the allocation is the one that it was
+    -- The allocation is the one that it was.
     record IsSame (x : Allocation) : Type 0 where
       transport_is : x.transport ≡ a.transport
       address_is : x.address ≡ a.address
       expiry_is : x.expiry ≡ a.expiry
-      shown_is : x.is_expired ≡ a.is_expired
+      visible_is : x.is_expired ≡ a.is_expired
 
     same_beside : (ip : IpAddr) (x : Allocation) → IsSame x → IsSame (permission_beside ip number x)
     unfolding permission_beside
     same_beside ip x is = elim (cases_Bool (knows ip x)) [
       | inl known ↦ rw known is
-      | inr new ↦ rw new (record { transport_is = is.transport_is; address_is = is.address_is; expiry_is = is.expiry_is; shown_is = is.shown_is })
+      | inr new ↦ rw new (record { transport_is = is.transport_is; address_is = is.address_is; expiry_is = is.expiry_is; visible_is = is.visible_is })
     ]
 
     same_changed : IsSame changed
-    same_changed = same_beside (socket_ip peer) (asking pending a) (record { transport_is = refl; address_is = refl; expiry_is = refl; shown_is = refl })
+    same_changed = same_beside (socket_ip peer) (asking pending a) (record { transport_is = refl; address_is = refl; expiry_is = refl; visible_is = refl })
 
-    binds_after : (now : ℕ) → AreHeldBeyond now p.allocations → now < end_at at b.config.waits → HasAsked b realm address (AChannel channel peer) text now after
-    unfolding asked
+    binds_after : (now : ℕ) → AreHeldBeyond now p.allocations → now < end_at at b.config.waits → HasRequested b realm address (AChannel channel peer) text now after
+    unfolding requested
     binds_after now held early =
         let holds = held a (subst (λ (l : List Allocation). IsIn a l) (sym is_bound.may.only) (inl refl)) in
         let own = own_of a is_bound.may.only in
@@ -288,10 +288,10 @@ module _ (b : Beginning) (realm : List ℕ) (address : SocketAddr) (p : Protocol
         record {
           speaks = speaks_on b realm address p after (record { server = refl; remote = refl; transport = refl; here = refl; waits = refl; allocates = refl; families = refl; auth = refl; phase = refl })
               (subst (λ (l : List Allocation). HasAtMost b address l) (sym only_after) (record { transport = same.transport_is ∙ own.transport; address_is = same.address_is ∙ own.address_is })) speaks;
-          phase = goes_on p.phase is_bound.may.on;
+          phase = continues p.phase is_bound.may.on;
           allocation = changed;
           only = only_after;
-          stands = same.shown_is ∙ holds.0;
+          occurs = same.visible_is ∙ holds.0;
           later = subst (λ (n : ℕ). now < n) (sym same.expiry_is) holds.1;
           number = number;
           fits = number_small p number is_bound.is.is_next;
@@ -300,13 +300,13 @@ module _ (b : Beginning) (realm : List ℕ) (address : SocketAddr) (p : Protocol
           awaits = beside (socket_ip peer) (asking pending a) awaits_alone;
           transaction = transaction;
           outstanding = there_after;
-          goes_on = lt-leb (end_at at p.agent.waits) now (omega (arith, ends, early));
+          continues = lt-leb (end_at at p.agent.waits) now (omega (arith, ends, early));
         }
 
-    pub binds : (now : ℕ) → AreHeldBeyond now p.allocations → now < end_at at b.config.waits → HasAsked b realm address (AChannel channel peer) text now q
-    binds now held early = subst (λ (x : Protocol). HasAsked b realm address (AChannel channel peer) text now x) (sym (is_bound.is.after ∙ is_after)) (binds_after now held early)
+    pub binds : (now : ℕ) → AreHeldBeyond now p.allocations → now < end_at at b.config.waits → HasRequested b realm address (AChannel channel peer) text now q
+    binds now held early = subst (λ (x : Protocol). HasRequested b realm address (AChannel channel peer) text now x) (sym (is_bound.is.after ∙ is_after)) (binds_after now held early)
 
-    -- there is such a request
+    -- Its transaction ID was free, so the request is a new one.
     free : is_some (finite.get p.agent.outstanding number) ≡ false
     unfolding is_taken_number
     free = first_not (is_some (finite.get p.agent.outstanding number)) _ is_bound.is.is_next.free

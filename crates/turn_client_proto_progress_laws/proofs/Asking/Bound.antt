@@ -1,4 +1,5 @@
--- What a client that has asked for a channel makes of its success, and what it gives then.
+-- What a client with a pending request for a channel does with its success response, and what it delivers
+-- then.
 use Rattle.std.proofs.Common.{◌≡◌, ℕ, ◌+◌, Bool, true, false, List, [], ◌∷◌, length, Option, Some, None, is_none, option_map, refl, sym, ap, ◌∙◌, subst, inl, inr, append-nil}
 use Rattle.std.specs.Prelude.{◌==◌, find, is_some}
 use Rattle.std.specs.Option.{option_and_then}
@@ -16,15 +17,15 @@ use Rattle.turn_client_proto_messages.specs.Allocation.Awaited.{is_refresh}
 use Rattle.turn_client_proto_messages.specs.Allocation.Changes.{change_first}
 use Rattle.turn_client_proto_messages.specs.Allocation.declared.allocation.Allocation.{Allocation}
 use Rattle.turn_client_proto_messages.specs.Allocation.declared.channel.Channel.{Channel}
-use Rattle.turn_client_proto_messages.specs.Allocation.Requested.{asked_by, asked_of, awaits_reply}
+use Rattle.turn_client_proto_messages.specs.Allocation.PendingRequests.{pending_request, requested_of, awaits_reply}
 use Rattle.turn_client_proto_step_laws.specs.Peers.Channel.Granted.{all_bound, bound as bound_in_one, granted_to}
 use Rattle.turn_client_proto_step_laws.specs.Peers.Channel.Numbers.{is_numbered}
-use Rattle.turn_client_proto_step_laws.specs.Peers.Channel.Shown.{channels_of, channels_shown, pairs_of}
-use Rattle.turn_client_proto_messages.specs.Allocation.declared.requested.Asked.{Asked}
-use Rattle.turn_client_proto_messages.specs.Allocation.declared.requested.Asked.TheVariants.{NewChannel}
+use Rattle.turn_client_proto_step_laws.specs.Peers.Channel.Visible.{channels_of, channels_listed, pairs_of}
+use Rattle.turn_client_proto_messages.specs.Allocation.declared.pending.PendingRequest.{PendingRequest}
+use Rattle.turn_client_proto_messages.specs.Allocation.declared.pending.PendingRequest.TheVariants.{NewChannel}
 use Rattle.turn_client_proto_handshake_laws.specs.Core.Binding.{IsBindResponded, IsBoundFor, IsUnboundFor, bound, permission_with, permitted_with}
 use Rattle.turn_client_proto_handshake_laws.specs.Core.Outcomes.{IsHandled}
-use Rattle.turn_client_proto_handshake_laws.specs.Core.Receiving.{IsHeard}
+use Rattle.turn_client_proto_handshake_laws.specs.Core.Receiving.{IsProcessed}
 use Rattle.turn_client_proto_handshake_laws.specs.Core.Responding.{accepted, is_error_class, judged}
 use Rattle.turn_client_proto_handshake_laws.specs.Core.Standing.{IsRequestAnswered}
 use Rattle.turn_client_proto_handshake_laws.specs.Core.declared.protocol.Protocol.{Protocol}
@@ -36,7 +37,7 @@ use Rattle.turn_client_proto_step_laws.specs.Peers.Permission.Granted.{permitted
 use Rattle.turn_client_proto_step_laws.proofs.Lists.{found_in}
 use Rattle.turn_client_proto_progress_laws.proofs.Asking.Tools.{where_false, where_true}
 use Rattle.turn_client_proto_handshake_laws.specs.Sent.{Beginning}
-use Rattle.turn_client_proto_progress_laws.specs.Asking.{AChannel, AwaitsChannel, HasAsked}
+use Rattle.turn_client_proto_progress_laws.specs.Asking.{AChannel, AwaitsChannel, HasRequested}
 use Rattle.turn_client_proto_progress_laws.specs.Holding.{HoldsChannel, IsBoundTo, IsFrameOf, IsGrantOf}
 use Rattle.turn_client_proto_progress_laws.specs.Speaking.{standing_under}
 use Rattle.turn_client_proto_progress_laws.proofs.Asking.Granted.{after_like, answers}
@@ -44,26 +45,26 @@ use Rattle.turn_client_proto_progress_laws.proofs.Asking.Lists.{found_last, none
 use Rattle.turn_client_proto_progress_laws.proofs.Asking.Moving.{own}
 
 module _ (number channel : ℕ) (peer : SocketAddr) where
-  -- what the number asks for
-  asks_in : (a : Allocation) → AwaitsChannel number channel peer a → asked_of number a ≡ Some (NewChannel a.transport channel peer)
-  unfolding asked_of
+  -- What the request with this transaction ID asks for.
+  asks_in : (a : Allocation) → AwaitsChannel number channel peer a → requested_of number a ≡ Some (NewChannel a.transport channel peer)
+  unfolding requested_of
   asks_in a is =
       let one = none_found (is_refresh number) a.pending_refreshes is.no_refresh in
-      let two = is.asked in
+      let two = is.requested in
       rw (one, two) refl
 
   awaits_in : (a : Allocation) → AwaitsChannel number channel peer a → awaits_reply number a ≡ true
   awaits_in a is = ap is_some (asks_in a is)
 
-module _ (b : Beginning) (realm : List ℕ) (address : SocketAddr) (channel : ℕ) (peer : SocketAddr) (request : List ℕ) (now : ℕ) (p : Protocol) (h : HasAsked b realm address (AChannel channel peer) request now p) where
+module _ (b : Beginning) (realm : List ℕ) (address : SocketAddr) (channel : ℕ) (peer : SocketAddr) (request : List ℕ) (now : ℕ) (p : Protocol) (h : HasRequested b realm address (AChannel channel peer) request now p) where
   abbrev a : Allocation
   a = h.allocation
 
-  asked_here : (number : ℕ) → number ≡ h.number → asked_by number p.allocations ≡ Some (NewChannel a.transport channel peer)
-  asked_here number same =
-      ap (λ (n : ℕ). asked_by n p.allocations) same
-      ∙ (ap (λ (l : List Allocation). asked_by h.number l) h.only
-      ∙ (ap (λ (o : Option Allocation). option_and_then (asked_of h.number) o) (one_found (awaits_reply h.number) a (awaits_in h.number channel peer a h.awaits)) ∙ asks_in h.number channel peer a h.awaits))
+  requested_here : (number : ℕ) → number ≡ h.number → pending_request number p.allocations ≡ Some (NewChannel a.transport channel peer)
+  requested_here number same =
+      ap (λ (n : ℕ). pending_request n p.allocations) same
+      ∙ (ap (λ (l : List Allocation). pending_request h.number l) h.only
+      ∙ (ap (λ (o : Option Allocation). option_and_then (requested_of h.number) o) (one_found (awaits_reply h.number) a (awaits_in h.number channel peer a h.awaits)) ∙ asks_in h.number channel peer a h.awaits))
 
   module _ (reply : List ℕ) (shows : number_at request ≡ h.number) (claims : claimed request ≡ own_claim p.auth.anonymous_username (standing_under b h.speaks.signs.challenge)) (method : method_of (kind_at request) ≡ channel_bind_method)
       (g : IsGrantOf b realm request reply) where
@@ -89,27 +90,27 @@ module _ (b : Beginning) (realm : List ℕ) (address : SocketAddr) (channel : �
         where_true _ _ (method_of (kind_at reply) == channel_bind_method) binds_it
         (where_false _ _ (method_of (kind_at reply) == create_permission_method) no_permission (where_false _ _ (method_of (kind_at reply) == refresh_method) no_refresh is))
 
-    -- the permission that comes with it
+    -- The permission that comes with the channel.
     abbrev ip : auth.Client → Option IpAddr
     ip client = permission_with number (k client).allocations
 
     bound_so : (client : auth.Client) (handled : Bool) (q : Protocol) → IsBindResponded (k client) reply now handled q → IsHandled (bound a.transport channel peer (ip client) number now (k client)) handled q
     bound_so client handled q is =
         let success : is_error_class (class_of (kind_at reply)) ≡ false = ap is_error_class g.success in
-        let by_class = where_false (IsUnboundFor (asked_by number (k client).allocations) (k client) number handled q)
-        (IsBoundFor (asked_by number (k client).allocations) (k client) number now handled q) (is_error_class (class_of (kind_at reply))) success is in
-        let what : asked_by number (k client).allocations ≡ Some (NewChannel a.transport channel peer) =
-        ap (λ (l : List Allocation). asked_by number l) (allocations_are client) ∙ asked_here number numbered in
-        subst (λ (o : Option Asked). IsBoundFor o (k client) number now handled q) what by_class
+        let by_class = where_false (IsUnboundFor (pending_request number (k client).allocations) (k client) number handled q)
+        (IsBoundFor (pending_request number (k client).allocations) (k client) number now handled q) (is_error_class (class_of (kind_at reply))) success is in
+        let what : pending_request number (k client).allocations ≡ Some (NewChannel a.transport channel peer) =
+        ap (λ (l : List Allocation). pending_request number l) (allocations_are client) ∙ requested_here number numbered in
+        subst (λ (o : Option PendingRequest). IsBoundFor o (k client) number now handled q) what by_class
 
     -- ---- the allocation then
 
-    -- with that permission, or without one
+    -- The allocations with that permission, or without one.
     pub record IsPermitted (l : List Allocation) : Type 0 where
       pub one : Allocation
       pub only : l ≡ one ∷ []
       pub transport : one.transport ≡ a.transport
-      pub stands : one.is_expired ≡ a.is_expired
+      pub occurs : one.is_expired ≡ a.is_expired
       pub channels : one.channels ≡ a.channels
       pub awaits : AwaitsChannel number channel peer one
 
@@ -117,14 +118,14 @@ module _ (b : Beginning) (realm : List ℕ) (address : SocketAddr) (channel : �
     own_awaits = subst (λ (n : ℕ). AwaitsChannel n channel peer a) (sym numbered) h.awaits
 
     permitted_so : (o : Option IpAddr) → IsPermitted (permitted_with o number now p.allocations)
-    permitted_so None = record { one = a; only = h.only; transport = refl; stands = refl; channels = refl; awaits = own_awaits }
+    permitted_so None = record { one = a; only = h.only; transport = refl; occurs = refl; channels = refl; awaits = own_awaits }
     permitted_so (Some x) = record {
       one = permitted x number now a;
       only = ap (λ (l : List Allocation). change_first (awaits_reply number) (permitted x number now) l) h.only ∙ one_changed (awaits_reply number) (permitted x number now) a (awaits_in number channel peer a own_awaits);
       transport = refl;
-      stands = refl;
+      occurs = refl;
       channels = refl;
-      awaits = record { no_refresh = own_awaits.no_refresh; asked = own_awaits.asked; free = own_awaits.free };
+      awaits = record { no_refresh = own_awaits.no_refresh; requested = own_awaits.requested; free = own_awaits.free };
     }
 
     bound_is : (s : (l : List Allocation) × IsPermitted l) → all_bound channel peer number now s.0 ≡ bound_in_one channel peer number now s.1.one ∷ []
@@ -159,13 +160,13 @@ module _ (b : Beginning) (realm : List ℕ) (address : SocketAddr) (channel : �
           allocation = bound_in_one channel peer number now s.one;
           only = bound_is (permitted_with (ip client) number now p.allocations, s);
           transport = s.transport ∙ (own b realm address (AChannel channel peer) request now p h).transport;
-          stands = s.stands ∙ h.stands;
+          occurs = s.occurs ∙ h.occurs;
           is = is_bound s.one s.awaits;
         })
 
-    pub binds : (handled : Bool) (q : Protocol) → IsHeard p reply now handled q → (handled ≡ true) × HoldsChannel b channel peer q
-    binds handled q heard =
-        let r = answers b realm address (AChannel channel peer) request now p h reply shows claims g handled q heard in
+    pub binds : (handled : Bool) (q : Protocol) → IsProcessed p reply now handled q → (handled ≡ true) × HoldsChannel b channel peer q
+    binds handled q processed =
+        let r = answers b realm address (AChannel channel peer) request now p h reply shows claims g handled q processed in
         let done = bound_so r.client handled q (by_method r.client handled q r.answered) in
         (done.0, subst (λ (x : Protocol). HoldsChannel b channel peer x) (sym done.1) (holds_after r.client))
 
@@ -176,17 +177,17 @@ paired channel peer c [] listed number to = absurd listed
 paired channel peer c (x ∷ l) (inl same) number to = inl (ap (λ (y : Channel). (y.number, y.peer)) same ∙ Prim.cc (number, to))
 paired channel peer c (x ∷ l) (inr later) number to = inr (paired channel peer c l later number to)
 
-pub shows_it : (b : Beginning) (channel : ℕ) (peer : SocketAddr) (p : Protocol) → HoldsChannel b channel peer p → IsIn (channel, peer) (channels_shown p.allocations)
+pub shows_it : (b : Beginning) (channel : ℕ) (peer : SocketAddr) (p : Protocol) → HoldsChannel b channel peer p → IsIn (channel, peer) (channels_listed p.allocations)
 shows_it b channel peer p h =
     let c = h.is.standing in
     let listed = found_in (is_numbered channel) h.allocation.channels c h.is.first in
-    let shown : channels_of h.allocation ≡ h.allocation.channels = (let stands = h.stands in rw stands refl) in
-    let all : channels_shown p.allocations ≡ pairs_of h.allocation.channels = ap channels_shown h.only ∙ (append-nil (pairs_of (channels_of h.allocation)) ∙ ap pairs_of shown) in
+    let visible : channels_of h.allocation ≡ h.allocation.channels = (let occurs = h.occurs in rw occurs refl) in
+    let all : channels_listed p.allocations ≡ pairs_of h.allocation.channels = ap channels_listed h.only ∙ (append-nil (pairs_of (channels_of h.allocation)) ∙ ap pairs_of visible) in
     subst (λ (l : List (ℕ × SocketAddr)). IsIn (channel, peer) l) (sym all) (paired channel peer c h.allocation.channels listed h.is.number h.is.to)
 
 -- ---- what it gives
 
--- a channel's frame, which is no message
+-- A frame of a channel, which is no message.
 pub frame_given : (b : Beginning) (channel : ℕ) (peer : SocketAddr) (p : Protocol) → HoldsChannel b channel peer p → (payload bytes : List ℕ) → IsFrameOf channel payload bytes → is_none (refusal bytes) ≡ false
     → payload_of p bytes ≡ Some (Framed channel b.config.transport peer channel_header_size (channel_header_size + length payload))
 unfolding payload_of payload_framed

@@ -1,4 +1,4 @@
--- The frame of a channel is no message, and what is given of it.
+-- The frame of a channel is no message; what is delivered of it.
 use Rattle.std.proofs.Common.{◌≡◌, ℕ, ◌<◌, ◌≤◌, arith, Bool, true, false, List, [], ◌∷◌, length, Option, Some, None, is_none, refl, sym, ap, ◌∙◌, inl, inr}
 use Rattle.std.specs.Prelude.{◌&&◌, nat_lt, nat_le, slice_index}
 use Rattle.std.specs.Option.{option_or}
@@ -30,7 +30,7 @@ second_so : (x y : Bool) → (x && y) ≡ true → y ≡ true
 second_so true y is = is
 second_so false y is = absurd (Prim.cc is)
 
--- the top bits of a message are 0
+-- The top bits of a message are 0.
 small_first : (bytes : List ℕ) → refusal bytes ≡ None → slice_index bytes 0 < 64
 unfolding refusal header_refusal
 small_first bytes is =
@@ -40,13 +40,13 @@ small_first bytes is =
       | inr not_so ↦ absurd (Prim.cc (rw not_so at header))
     ]
 
--- and a byte is below 256
+-- A byte is below 256.
 second_small : (bytes : List ℕ) → AreBytes bytes → slice_index bytes 1 < 256
 second_small [] are = omega arith
 second_small (a ∷ []) are = omega arith
 second_small (a ∷ c ∷ rest) are = ltb-true c 256 (first_so (nat_lt c 256) _ (second_so (nat_lt a 256) _ are))
 
--- so the number in front is none of a channel
+-- So the first number of a message is no channel number.
 least_there : (bytes : List ℕ) → channel_refusal bytes ≡ None → least_channel ≤ kind_at bytes
 unfolding channel_refusal channel_header_refusal
 least_there bytes is =
@@ -73,7 +73,7 @@ no_message bytes are frame = by (refusal bytes) refl
     by None is = absurd (no_frame_reads bytes are frame is)
     by (Some error) is = refl
 
--- what is given stands behind the header
+-- The payload starts after the header.
 pub frame_part : (p : Protocol) (transport : TransportType) (peer : SocketAddr) (channel start end : ℕ) (payload bytes : List ℕ) → IsFrameOf channel payload bytes → payload_of p bytes ≡ Some (Framed channel transport peer start end)
     → part_of bytes start end ≡ payload
 frame_part p transport peer channel start end payload bytes f gives =

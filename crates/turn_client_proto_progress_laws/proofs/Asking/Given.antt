@@ -1,4 +1,4 @@
--- How a reply comes to a client that has asked, and what one that holds something gives.
+-- How a reply reaches a client with a pending request, and what a client that holds something delivers.
 use Rattle.std.proofs.Common.{◌≡◌, ℕ, ◌+◌, Bool, true, false, List, [], ◌∷◌, length, Option, Some, None, option_map, refl, sym, ap, ◌∙◌, subst, ◌⊎◌, inl, inr}
 use Rattle.std.specs.Prelude.{MatchOption, find, reverse}
 use Rattle.std.specs.Option.{option_and_then, option_or}
@@ -6,7 +6,7 @@ use Rattle.std.specs.Net.Socket.{socket_ip}
 use Rattle.std.specs.declared.net.ip_addr.IpAddr.{IpAddr}
 use Rattle.std.specs.declared.net.socket_addr.SocketAddr.{SocketAddr}
 use Rattle.turn_client_proto_messages.specs.StunTypesWire.Attributes.{Attr, kind_at, numbered}
-use Rattle.turn_client_proto_messages.specs.StunTypesWire.Grammar.{number_at, refusal, shown}
+use Rattle.turn_client_proto_messages.specs.StunTypesWire.Grammar.{number_at, refusal, visible}
 use Rattle.turn_client_proto_messages.specs.StunTypesWire.declared.class.MessageClass.TheVariants.{Success}
 use Rattle.turn_client_proto_messages.specs.StunTypesWire.declared.error.StunParseError.{StunParseError}
 use Rattle.turn_client_proto_messages.specs.StunTypesWire.Registry.{header_size}
@@ -21,16 +21,16 @@ use Rattle.turn_client_proto_messages.specs.Api.declared.answer.TurnRecvRet.{Tur
 use Rattle.turn_client_proto_step_laws.specs.Recv.Control.{Control, Datagrams}
 use Rattle.turn_client_proto_handshake_laws.specs.Core.Deleting.{is_authenticated}
 use Rattle.turn_client_proto_handshake_laws.specs.Core.declared.protocol.Protocol.{Protocol}
-use Rattle.turn_client_proto_step_laws.specs.Recv.Datagrams.{Foreign, Heard, IsDatagramTaken, IsHandedOver, IsMessageTaken, IsOfServer, IsRead, IsTaken, Lost as MessageLost, Own}
-use Rattle.turn_client_proto_messages.specs.TurnRuns.Indications.{HasData, IsOfPeer, is_data, is_indication, is_kind, last_shown, peer_told, place_of, report_told}
-use Rattle.turn_client_proto_step_laws.specs.Recv.Kept.{Kept}
+use Rattle.turn_client_proto_step_laws.specs.Recv.Datagrams.{Foreign, Processed, IsDatagramTaken, IsDelivered, IsMessageTaken, IsOfServer, IsRead, IsTaken, Lost as MessageLost, Own}
+use Rattle.turn_client_proto_messages.specs.TurnRuns.Indications.{HasData, IsOfPeer, is_data, is_indication, is_kind, last_listed, peer_reported, index_of, report_decoded}
+use Rattle.turn_client_proto_step_laws.specs.Recv.ClientState.{ClientState}
 use Rattle.turn_client_proto_step_laws.specs.Payload.declared.payload.Payload.{Payload}
 use Rattle.turn_client_proto_step_laws.specs.Payload.declared.payload.Payload.TheVariants.{Data, Report}
-use Rattle.turn_client_proto_step_laws.specs.Payload.Payloads.{carried, carried_for, carried_over, payload_of, payload_told, permitted}
+use Rattle.turn_client_proto_step_laws.specs.Payload.Payloads.{carried, carried_for, carried_over, payload_of, payload_reported, permitted}
 use Rattle.turn_client_proto_messages.specs.Allocation.Permits.{permits}
 use Rattle.turn_client_proto_step_laws.specs.Recv.Receipts.{IsReceived, IsReceivedBy}
 use Rattle.turn_client_proto_step_laws.proofs.Payload.Parts.{entry_in}
-use Rattle.turn_client_proto_handshake_laws.specs.Coming.{IsFromServer, IsHeardAs, IsLost}
+use Rattle.turn_client_proto_handshake_laws.specs.Coming.{IsFromServer, IsProcessedAs, IsLost}
 use Rattle.turn_client_proto_handshake_laws.specs.Stages.{IsOf}
 use Rattle.turn_client_proto_handshake_laws.specs.Sent.{Beginning}
 use Rattle.turn_client_proto_progress_laws.specs.Holding.{HoldsPermission, IsDataOf}
@@ -39,7 +39,7 @@ use Rattle.turn_client_proto_progress_laws.proofs.Asking.Lists.{one_found}
 -- ---- a message that is a success gives nothing of a peer
 
 pub no_payload_of : (p : Protocol) (bytes : List ℕ) → refusal bytes ≡ None → is_indication (class_of (kind_at bytes)) ≡ false → payload_of p bytes ≡ None
-unfolding payload_of payload_told
+unfolding payload_of payload_reported
 no_payload_of p bytes message no_indication =
     let no_data : is_data bytes ≡ false = rw no_indication refl in
     elim (is_authenticated p.phase) as (λ (x : Bool). is_authenticated p.phase ≡ x → payload_of p bytes ≡ None) [
@@ -50,7 +50,7 @@ no_payload_of p bytes message no_indication =
 pub no_payload : (p : Protocol) (bytes : List ℕ) → refusal bytes ≡ None → class_of (kind_at bytes) ≡ Success → payload_of p bytes ≡ None
 no_payload p bytes message success = no_payload_of p bytes message (ap is_indication success)
 
-module _ (b : Beginning) (k : Kept) (of : IsOf b k.core) {T : Type 0} (items : T → List ℕ) (came : Transmit T) (from : IsFromServer b came) (now : ℕ) (answer : TurnRecvRet T) (k2 : Kept) where
+module _ (b : Beginning) (k : ClientState) (of : IsOf b k.core) {T : Type 0} (items : T → List ℕ) (came : Transmit T) (from : IsFromServer b came) (now : ℕ) (answer : TurnRecvRet T) (k2 : ClientState) where
   of_server : IsOfServer k.core came
   of_server = record {
     transport = from.transport ∙ sym of.transport;
@@ -58,9 +58,9 @@ module _ (b : Beginning) (k : Kept) (of : IsOf b k.core) {T : Type 0} (items : T
     to = from.to ∙ sym of.here;
   }
 
-  read : (message : List ℕ) → IsMessageTaken k.core message came now answer k2.core → k2.control ≡ Datagrams → IsHeardAs k message came now Datagrams answer k2 ⊎ IsLost k came answer k2
-  read message (Heard handled heard as_it) control = inl (record { handled = handled; heard = heard; answer_is = as_it; control_is = control })
-  read message (MessageLost told grows failed) control = inr (told, failed)
+  read : (message : List ℕ) → IsMessageTaken k.core message came now answer k2.core → k2.control ≡ Datagrams → IsProcessedAs k message came now Datagrams answer k2 ⊎ IsLost k came answer k2
+  read message (Processed handled processed as_it) control = inl (record { handled = handled; processed = processed; answer_is = as_it; control_is = control })
+  read message (MessageLost reported grows failed) control = inr (reported, failed)
 
   taken : k.control ≡ Datagrams → IsReceived items k came now answer k2 → IsTaken items k.core came now answer k2.core × (k2.control ≡ Datagrams)
   taken over received = by (subst (λ (c : Control). IsReceivedBy items now c k.core came answer k2) over received)
@@ -69,34 +69,34 @@ module _ (b : Beginning) (k : Kept) (of : IsOf b k.core) {T : Type 0} (items : T
       by (Foreign foreign back, control) = absurd (foreign of_server)
       by (Own server is, control) = (is, control)
 
-  -- it is heard
-  pub heard_by : payload_of k.core (items came.bytes) ≡ None → k.control ≡ Datagrams → refusal (items came.bytes) ≡ None → IsReceived items k came now answer k2
-      → IsHeardAs k (items came.bytes) came now Datagrams answer k2 ⊎ IsLost k came answer k2
-  heard_by none over message received =
+  -- The message is handled.
+  pub processed_by : payload_of k.core (items came.bytes) ≡ None → k.control ≡ Datagrams → refusal (items came.bytes) ≡ None → IsReceived items k came now answer k2
+      → IsProcessedAs k (items came.bytes) came now Datagrams answer k2 ⊎ IsLost k came answer k2
+  processed_by none over message received =
       let is = taken over received in
       let reads = subst (λ (o : Option Payload). MatchOption o (IsRead (refusal (items came.bytes)) k.core (items came.bytes) came now answer k2.core)
-      (λ payload. IsHandedOver items came payload answer × (k2.core ≡ k.core))) none is.0 in
+      (λ payload. IsDelivered items came payload answer × (k2.core ≡ k.core))) none is.0 in
       read (items came.bytes) (subst (λ (o : Option StunParseError). IsRead o k.core (items came.bytes) came now answer k2.core) message reads) is.1
 
-  -- it is given
+  -- The payload is delivered.
   pub given_by : (payload : Payload) → payload_of k.core (items came.bytes) ≡ Some payload → k.control ≡ Datagrams → IsReceived items k came now answer k2
-      → IsHandedOver items came payload answer × (k2.core ≡ k.core) × (k2.control ≡ Datagrams)
+      → IsDelivered items came payload answer × (k2.core ≡ k.core) × (k2.control ≡ Datagrams)
   given_by payload some over received =
       let is = taken over received in
       let gives = subst (λ (o : Option Payload). MatchOption o (IsRead (refusal (items came.bytes)) k.core (items came.bytes) came now answer k2.core)
-      (λ x. IsHandedOver items came x answer × (k2.core ≡ k.core))) some is.0 in
+      (λ x. IsDelivered items came x answer × (k2.core ≡ k.core))) some is.0 in
       (gives.0, gives.1, is.1)
 
--- a client of which neither part has changed
-pub same_kept : (old new : Kept) → new.core ≡ old.core → new.control ≡ old.control → new ≡ old
-same_kept old new core_is control_is =
+-- A client of which neither part has changed is the same.
+pub same_stored : (old new : ClientState) → new.core ≡ old.core → new.control ≡ old.control → new ≡ old
+same_stored old new core_is control_is =
     let one : new ≡ record { core = old.core; control = new.control } = ap (λ (x : Protocol). record { core = x; control = new.control }) core_is in
     let other : record { core = old.core; control = new.control } ≡ old = ap (λ (x : Control). record { core = old.core; control = x }) control_is in
     one ∙ other
 
 -- ---- what an indication gives where a permission stands
 
--- this stands in the bytes
+-- The payload is this range of the bytes.
 pub record IsPart (bytes : List ℕ) (start end : ℕ) (payload : List ℕ) : Type 0 where
   pub is : part_of bytes start end ≡ payload
 
@@ -113,28 +113,28 @@ module _ (b : Beginning) (ip : IpAddr) (p : Protocol) (h : HoldsPermission b ip 
       ∙ (ap (λ (l : List Allocation). option_map (λ (a : Allocation). a.transport) (find (permits ip) l)) h.only
       ∙ (ap (option_map (λ (a : Allocation). a.transport)) (one_found (permits ip) h.allocation h.is) ∙ ap Some h.transport))
 
-  told_is : payload_of p bytes ≡ carried bytes b.config.transport peer
-  unfolding payload_of payload_told
-  told_is =
+  reported_is : payload_of p bytes ≡ carried bytes b.config.transport peer
+  unfolding payload_of payload_reported
+  reported_is =
       let on : is_authenticated p.phase ≡ true = ap is_authenticated h.phase in
-      let first : payload_of p bytes ≡ carried_for p.allocations bytes (peer_told bytes) = rw (of.message, on, of.is_data) refl in
+      let first : payload_of p bytes ≡ carried_for p.allocations bytes (peer_reported bytes) = rw (of.message, on, of.is_data) refl in
       first ∙ (ap (λ (o : Option SocketAddr). carried_for p.allocations bytes o) of.named ∙ ap (λ (o : Option TransportType). carried_over bytes peer o) permitted_is)
 
-  by_entry : (found : Option (ℕ × Attr)) → last_shown data_kind bytes ≡ found → MatchOption found ⊥ (λ e. e.1.value ≡ payload) → GivesData p b.config.transport peer payload bytes
+  by_entry : (found : Option (ℕ × Attr)) → last_listed data_kind bytes ≡ found → MatchOption found ⊥ (λ e. e.1.value ≡ payload) → GivesData p b.config.transport peer payload bytes
   by_entry None at has = absurd has
   by_entry (Some e) at has = record {
     start = e.0 + 4;
     end = e.0 + 4 + length e.1.value;
-    gives = told_is ∙ ap (λ (o : Option (ℕ × Attr)). option_or (option_map (λ (place : ℕ × ℕ). Data b.config.transport peer place.0 place.1) (option_map place_of o)) (option_map (λ report. Report b.config.transport peer report) (report_told bytes))) at;
+    gives = reported_is ∙ ap (λ (o : Option (ℕ × Attr)). option_or (option_map (λ (index : ℕ × ℕ). Data b.config.transport peer index.0 index.1) (option_map index_of o)) (option_map (λ report. Report b.config.transport peer report) (report_decoded bytes))) at;
     part = (entry_in data_kind bytes e at).is ∙ has;
   }
 
   pub gives_data : HasData bytes payload → GivesData p b.config.transport peer payload bytes
-  gives_data has = by_entry (last_shown data_kind bytes) refl has
+  gives_data has = by_entry (last_listed data_kind bytes) refl has
 
 -- ---- an indication of both attributes alone
 
--- in either order
+-- Both attributes, in either order.
 abbrev pub AreBoth : List Attr → Attr → Attr → Type 0
 AreBoth all of given = (all ≡ of ∷ given ∷ []) ⊎ (all ≡ given ∷ of ∷ [])
 
@@ -148,9 +148,9 @@ module _ (peer : SocketAddr) (payload bytes : List ℕ) (d : IsDataOf peer paylo
   given_is : d.given ≡ record { kind = data_kind; value = d.given.value }
   given_is = ap (λ (k : ℕ). record { kind = k; value = d.given.value }) d.given_kind
 
-  both_shown : (shown bytes ≡ record { kind = xor_peer_address_kind; value = d.of.value } ∷ record { kind = data_kind; value = d.given.value } ∷ [])
-      ⊎ (shown bytes ≡ record { kind = data_kind; value = d.given.value } ∷ record { kind = xor_peer_address_kind; value = d.of.value } ∷ [])
-  both_shown = elim d.shows [
+  both_listed : (visible bytes ≡ record { kind = xor_peer_address_kind; value = d.of.value } ∷ record { kind = data_kind; value = d.given.value } ∷ [])
+      ⊎ (visible bytes ≡ record { kind = data_kind; value = d.given.value } ∷ record { kind = xor_peer_address_kind; value = d.of.value } ∷ [])
+  both_listed = elim d.shows [
     | inl first ↦ inl (first ∙ Prim.cc (of_is, given_is))
     | inr last ↦ inr (last ∙ Prim.cc (of_is, given_is))
   ]
@@ -159,7 +159,7 @@ module _ (peer : SocketAddr) (payload bytes : List ℕ) (d : IsDataOf peer paylo
   names_it = ap (λ (a : Attr). address_in (number_at bytes) a) (sym of_is) ∙ d.names
 
   pub data_of_peer : IsOfPeer bytes peer
-  data_of_peer = elim both_shown [
+  data_of_peer = elim both_listed [
     | inl first ↦ record {
       message = d.message;
       is_data = rw (d.class, d.method, first) refl;
@@ -173,7 +173,7 @@ module _ (peer : SocketAddr) (payload bytes : List ℕ) (d : IsDataOf peer paylo
   ]
 
   pub data_has : HasData bytes payload
-  data_has = elim both_shown [
+  data_has = elim both_listed [
     | inl first ↦ subst (λ (l : List Attr). MatchOption (find (is_kind data_kind) (reverse (numbered header_size l))) ⊥ (λ e. e.1.value ≡ payload)) (sym first) d.given_is
     | inr last ↦ subst (λ (l : List Attr). MatchOption (find (is_kind data_kind) (reverse (numbered header_size l))) ⊥ (λ e. e.1.value ≡ payload)) (sym last) d.given_is
   ]

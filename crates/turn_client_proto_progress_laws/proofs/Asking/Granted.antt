@@ -1,4 +1,4 @@
--- What a client makes of the success of its request.
+-- What a client does with the success response to its request.
 use Rattle.std.proofs.Common.{◌≡◌, ℕ, Bool, true, false, ◌||◌, List, [], ◌∷◌, ◌++◌, Option, Some, refl, sym, ap, ◌∙◌, subst, inl, inr}
 use Rattle.std.specs.Prelude.{◌==◌, ◌&&◌, Result, Ok, Err, is_some}
 use Rattle.std.specs.FinMap as finite
@@ -29,13 +29,13 @@ use Rattle.turn_client_proto_messages.specs.Allocation.Awaited.{asks_for_channel
 use Rattle.turn_client_proto_messages.specs.Allocation.Changes.{change_first}
 use Rattle.turn_client_proto_messages.specs.Allocation.declared.allocation.Allocation.{Allocation}
 use Rattle.turn_client_proto_messages.specs.Allocation.declared.permission.Permission.{Permission}
-use Rattle.turn_client_proto_messages.specs.Allocation.Requested.{asked_by, asked_of, awaits_reply}
+use Rattle.turn_client_proto_messages.specs.Allocation.PendingRequests.{pending_request, requested_of, awaits_reply}
 use Rattle.turn_client_proto_step_laws.specs.Peers.Permission.Permitted.{all_permitted}
-use Rattle.turn_client_proto_messages.specs.Allocation.declared.requested.Asked.{Asked}
-use Rattle.turn_client_proto_messages.specs.Allocation.declared.requested.Asked.TheVariants.{NewPermission}
+use Rattle.turn_client_proto_messages.specs.Allocation.declared.pending.PendingRequest.{PendingRequest}
+use Rattle.turn_client_proto_messages.specs.Allocation.declared.pending.PendingRequest.TheVariants.{NewPermission}
 use Rattle.turn_client_proto_handshake_laws.specs.Core.Outcomes.{IsHandled, IsIgnored}
 use Rattle.turn_client_proto_handshake_laws.specs.Core.Permitting.{IsGrantedFor, IsPermissionResponded, IsRefusedFor, granted}
-use Rattle.turn_client_proto_handshake_laws.specs.Core.Receiving.{IsFollowed, IsHeard, IsHeardIn}
+use Rattle.turn_client_proto_handshake_laws.specs.Core.Receiving.{IsFollowed, IsProcessed, IsProcessedIn}
 use Rattle.turn_client_proto_handshake_laws.specs.Core.Responding.{accepted, is_error_class, judged}
 use Rattle.turn_client_proto_handshake_laws.specs.Core.Standing.{IsJudgedStanding, IsRequestAnswered, IsTakenUp}
 use Rattle.turn_client_proto_handshake_laws.specs.Core.Attempting.{IsAttemptTaken}
@@ -54,18 +54,18 @@ use Rattle.turn_client_proto_messages.specs.Allocation.Same.{is_same_ip, is_same
 use Rattle.turn_client_proto_progress_laws.proofs.Asking.Tools.{no_challenge, successes_respond}
 use Rattle.turn_client_proto_progress_laws.proofs.Asking.Tools.{where_false, where_true}
 use Rattle.turn_client_proto_handshake_laws.specs.Sent.{Beginning}
-use Rattle.turn_client_proto_progress_laws.specs.Asking.{APermission, HasAsked, Wanted}
+use Rattle.turn_client_proto_progress_laws.specs.Asking.{APermission, HasRequested, Wanted}
 use Rattle.turn_client_proto_progress_laws.specs.Holding.{HoldsPermission, IsGrantOf}
 use Rattle.turn_client_proto_progress_laws.specs.Speaking.{standing_under}
 use Rattle.turn_client_proto_progress_laws.proofs.Asking.Lists.{none_found, one_changed, one_found}
 use Rattle.turn_client_proto_progress_laws.proofs.Asking.Moving.{own}
 
-module _ (b : Beginning) (realm : List ℕ) (address : SocketAddr) (wanted : Wanted) (request : List ℕ) (now : ℕ) (p : Protocol) (h : HasAsked b realm address wanted request now p) where
+module _ (b : Beginning) (realm : List ℕ) (address : SocketAddr) (wanted : Wanted) (request : List ℕ) (now : ℕ) (p : Protocol) (h : HasRequested b realm address wanted request now p) where
   abbrev standing : auth.Standing
   standing = standing_under b h.speaks.signs.challenge
 
-  stands : auth.standing_of p.auth ≡ Some standing
-  stands = Prim.cc (h.speaks.signs.account, h.speaks.signs.kept)
+  occurs : auth.standing_of p.auth ≡ Some standing
+  occurs = Prim.cc (h.speaks.signs.account, h.speaks.signs.stored)
 
   -- ---- the reply is accepted
 
@@ -87,9 +87,9 @@ module _ (b : Beginning) (realm : List ℕ) (address : SocketAddr) (wanted : Wan
         (subst (λ (a : IntegrityAlgorithm). IsRight reply (auth.account_key b.config.credentials realm a)) by_choice g.right)
 
     accepted_so : (verdict : Result LongTermClientValidation LongTermClientAuthError) (client : auth.Client) → IsJudged p.auth reply verdict client → accepted_by verdict ≡ Some h.speaks.signs.challenge.choice
-    accepted_so verdict client j = right_is_accepted p.auth client reply standing verdict j (no_challenge reply g.success) stands right
+    accepted_so verdict client j = right_is_accepted p.auth client reply standing verdict j (no_challenge reply g.success) occurs right
 
-    -- it answers the request
+    -- The response answers the request.
     pub record IsAnsweredOn (handled : Bool) (q : Protocol) : Type 0 where
       pub client : auth.Client
       pub answered : IsRequestAnswered (accepted reply (judged client p)) reply now handled q
@@ -109,16 +109,16 @@ module _ (b : Beginning) (realm : List ℕ) (address : SocketAddr) (wanted : Wan
     by_verdict (Ok (Validated algorithm)) client handled q j out = taken_so client handled q out
     by_verdict (Err error) client handled q j out = absurd (Prim.cc (accepted_so (Err error) client j))
 
-    pub answers : (handled : Bool) (q : Protocol) → IsHeard p reply now handled q → IsAnsweredOn handled q
-    answers handled q heard =
-        let in_phase : IsHeardIn Authenticated p reply now handled q = subst (λ (f : Phase). IsHeardIn f p reply now handled q) h.phase heard in
+    pub answers : (handled : Bool) (q : Protocol) → IsProcessed p reply now handled q → IsAnsweredOn handled q
+    answers handled q processed =
+        let in_phase : IsProcessedIn Authenticated p reply now handled q = subst (λ (f : Phase). IsProcessedIn f p reply now handled q) h.phase processed in
         let no_indication : is_indication (class_of (kind_at reply)) ≡ false = ap is_indication g.success in
         let f = where_false (IsIgnored p handled q) (IsFollowed IsJudgedStanding p reply now handled q) (is_indication (class_of (kind_at reply))) no_indication in_phase in
         by_verdict f.verdict f.auth handled q f.is_judged f.outcome
 
 -- ---- a permission
 
--- an address is the one that it is
+-- An address compares as equal to itself.
 itself_ip : (a : IpAddr) → is_same_ip a a ≡ true
 itself_ip (V4 a) = (bytes_decides (ipv4_octets a) (ipv4_octets a)).1 refl
 itself_ip (V6 a) = (bytes_decides (ipv6_segments a) (ipv6_segments a)).1 refl
@@ -131,7 +131,7 @@ last_passes : (ip : IpAddr) (now : ℕ) (xs : List Permission) → list_any (is_
 last_passes ip now [] = ap (λ (x : Bool). x || false) (itself_ip ip)
 last_passes ip now (x ∷ xs) = ap (λ (y : Bool). is_for ip x || y) (last_passes ip now xs) ∙ or_true (is_for ip x)
 
--- what a response leaves of an agent
+-- What a response leaves unchanged in an agent.
 pub record IsLike (agent after : agents.Agent) : Type 0 where
   pub remote : after.remote ≡ agent.remote
   pub transport : after.transport ≡ agent.transport
@@ -144,28 +144,28 @@ after_like agent bytes from = elim (cases_Bool (ends_one agent bytes)) [
   | inr not ↦ rw not (record { remote = refl; transport = refl; here = refl; waits = refl })
 ]
 
-module _ (b : Beginning) (realm : List ℕ) (address : SocketAddr) (ip : IpAddr) (request : List ℕ) (now : ℕ) (p : Protocol) (h : HasAsked b realm address (APermission ip) request now p) where
+module _ (b : Beginning) (realm : List ℕ) (address : SocketAddr) (ip : IpAddr) (request : List ℕ) (now : ℕ) (p : Protocol) (h : HasRequested b realm address (APermission ip) request now p) where
   abbrev a : Allocation
   a = h.allocation
 
-  -- what the number asks for
-  asks_for : asked_of h.number a ≡ Some (NewPermission a.transport ip)
-  unfolding asked_of
+  -- What the request with this transaction ID asks for.
+  asks_for : requested_of h.number a ≡ Some (NewPermission a.transport ip)
+  unfolding requested_of
   asks_for =
       let one = none_found (is_refresh h.number) a.pending_refreshes h.awaits.no_refresh in
       let two = none_found (asks_for_channel h.number) a.pending_channels h.awaits.no_channel in
       let three = none_found (renews_channel h.number) a.channels h.awaits.no_renewal in
-      let four = h.awaits.asked in
+      let four = h.awaits.requested in
       rw (one, two, three, four) refl
 
   awaits_it : awaits_reply h.number a ≡ true
   awaits_it = ap is_some asks_for
 
-  asked_here : (number : ℕ) → number ≡ h.number → asked_by number p.allocations ≡ Some (NewPermission a.transport ip)
-  asked_here number same =
-      ap (λ (n : ℕ). asked_by n p.allocations) same
-      ∙ (ap (λ (l : List Allocation). asked_by h.number l) h.only
-      ∙ (ap (λ (o : Option Allocation). option_and_then (asked_of h.number) o) (one_found (awaits_reply h.number) a awaits_it) ∙ asks_for))
+  requested_here : (number : ℕ) → number ≡ h.number → pending_request number p.allocations ≡ Some (NewPermission a.transport ip)
+  requested_here number same =
+      ap (λ (n : ℕ). pending_request n p.allocations) same
+      ∙ (ap (λ (l : List Allocation). pending_request h.number l) h.only
+      ∙ (ap (λ (o : Option Allocation). option_and_then (requested_of h.number) o) (one_found (awaits_reply h.number) a awaits_it) ∙ asks_for))
 
   module _ (reply : List ℕ) (shows : number_at request ≡ h.number) (claims : claimed request ≡ own_claim p.auth.anonymous_username (standing_under b h.speaks.signs.challenge)) (method : method_of (kind_at request) ≡ create_permission_method)
       (g : IsGrantOf b realm request reply) where
@@ -186,13 +186,13 @@ module _ (b : Beginning) (realm : List ℕ) (address : SocketAddr) (ip : IpAddr)
     granted_so : (client : auth.Client) (handled : Bool) (q : Protocol) → IsPermissionResponded (k client) reply now handled q → IsHandled (granted a.transport ip (number_at reply) now (k client)) handled q
     granted_so client handled q is =
         let success : is_error_class (class_of (kind_at reply)) ≡ false = ap is_error_class g.success in
-        let by_class = where_false (IsRefusedFor (asked_by (number_at reply) (k client).allocations) (k client) (number_at reply) handled q)
-        (IsGrantedFor (asked_by (number_at reply) (k client).allocations) (k client) (number_at reply) now handled q) (is_error_class (class_of (kind_at reply))) success is in
-        let what : asked_by (number_at reply) (k client).allocations ≡ Some (NewPermission a.transport ip) =
-        ap (λ (l : List Allocation). asked_by (number_at reply) l) (allocations_are client) ∙ asked_here (number_at reply) (g.number ∙ shows) in
-        subst (λ (o : Option Asked). IsGrantedFor o (k client) (number_at reply) now handled q) what by_class
+        let by_class = where_false (IsRefusedFor (pending_request (number_at reply) (k client).allocations) (k client) (number_at reply) handled q)
+        (IsGrantedFor (pending_request (number_at reply) (k client).allocations) (k client) (number_at reply) now handled q) (is_error_class (class_of (kind_at reply))) success is in
+        let what : pending_request (number_at reply) (k client).allocations ≡ Some (NewPermission a.transport ip) =
+        ap (λ (l : List Allocation). pending_request (number_at reply) l) (allocations_are client) ∙ requested_here (number_at reply) (g.number ∙ shows) in
+        subst (λ (o : Option PendingRequest). IsGrantedFor o (k client) (number_at reply) now handled q) what by_class
 
-    -- the allocation then
+    -- The allocation afterwards.
     permitted_is : all_permitted ip (number_at reply) now p.allocations ≡ permitted ip (number_at reply) now a ∷ []
     permitted_is =
         let passes : awaits_reply (number_at reply) a ≡ true = ap (λ (n : ℕ). awaits_reply n a) (g.number ∙ shows) ∙ awaits_it in
@@ -217,13 +217,13 @@ module _ (b : Beginning) (realm : List ℕ) (address : SocketAddr) (ip : IpAddr)
       allocation = permitted ip (number_at reply) now a;
       only = permitted_is;
       transport = (own b realm address (APermission ip) request now p h).transport;
-      stands = h.stands;
+      occurs = h.occurs;
       is = permits_now;
     })
 
-    pub holds : (handled : Bool) (q : Protocol) → IsHeard p reply now handled q → (handled ≡ true) × HoldsPermission b ip q
-    holds handled q heard =
-        let r = answers b realm address (APermission ip) request now p h reply shows claims g handled q heard in
+    pub holds : (handled : Bool) (q : Protocol) → IsProcessed p reply now handled q → (handled ≡ true) × HoldsPermission b ip q
+    holds handled q processed =
+        let r = answers b realm address (APermission ip) request now p h reply shows claims g handled q processed in
         let done = granted_so r.client handled q (by_method r.client handled q r.answered) in
         (done.0, subst (λ (x : Protocol). HoldsPermission b ip x) (sym done.1) (holds_after r.client))
 
@@ -236,5 +236,5 @@ itself_transport Tcp = refl
 pub says_so : (b : Beginning) (ip : IpAddr) (p : Protocol) → HoldsPermission b ip p → list_any (permits_over b.config.transport ip) p.allocations ≡ true
 says_so b ip p h =
     let own_transport : is_same_transport h.allocation.transport b.config.transport ≡ true = ap (λ (t : TransportType). is_same_transport t b.config.transport) h.transport ∙ itself_transport b.config.transport in
-    let here : permits_over b.config.transport ip h.allocation ≡ true = rw (h.stands, own_transport, h.is) refl in
+    let here : permits_over b.config.transport ip h.allocation ≡ true = rw (h.occurs, own_transport, h.is) refl in
     ap (λ (l : List Allocation). list_any (permits_over b.config.transport ip) l) h.only ∙ rw here refl

@@ -60,15 +60,15 @@ module _ {X : Type 0} (q : X → Bool) where
     | inr image ↦ ap q image.is ∙ keeps image.source (none image.source image.listed)
   ]
 
-  in_removed : (x : X) (xs : List X) (place : ℕ) → IsIn x (remove xs place) → IsIn x xs
+  in_removed : (x : X) (xs : List X) (index : ℕ) → IsIn x (remove xs index) → IsIn x xs
   in_removed x [] zero h = h
-  in_removed x [] (suc place) h = h
+  in_removed x [] (suc index) h = h
   in_removed x (y ∷ xs) zero h = inr h
-  in_removed x (y ∷ xs) (suc place) (inl same) = inl same
-  in_removed x (y ∷ xs) (suc place) (inr later) = inr (in_removed x xs place later)
+  in_removed x (y ∷ xs) (suc index) (inl same) = inl same
+  in_removed x (y ∷ xs) (suc index) (inr later) = inr (in_removed x xs index later)
 
-  pub none_removed : (place : ℕ) (xs : List X) → NonePasses q xs → NonePasses q (remove xs place)
-  none_removed place xs none x listed = none x (in_removed x xs place listed)
+  pub none_removed : (index : ℕ) (xs : List X) → NonePasses q xs → NonePasses q (remove xs index)
+  none_removed index xs none x listed = none x (in_removed x xs index listed)
 
   -- ---- one is found
 
@@ -92,30 +92,30 @@ module _ {X : Type 0} (q : X → Bool) where
       let there : find q (y ∷ (xs ++ x ∷ [])) ≡ find q (xs ++ x ∷ []) = rw fails refl in
       there ∙ found_last xs x (λ z listed. none z (inr listed)) is
 
-  pub found_kept : (r : X → Bool) (xs : List X) (x : X) → find q xs ≡ Some x → r x ≡ true → find q (filter r xs) ≡ Some x
-  found_kept r [] x is stays = absurd (Prim.cc is)
-  found_kept r (y ∷ xs) x is stays = elim (cases_Bool (q y)) [
+  pub found_stored : (r : X → Bool) (xs : List X) (x : X) → find q xs ≡ Some x → r x ≡ true → find q (filter r xs) ≡ Some x
+  found_stored r [] x is stays = absurd (Prim.cc is)
+  found_stored r (y ∷ xs) x is stays = elim (cases_Bool (q y)) [
     | inl passes ↦
         let here : find q (y ∷ xs) ≡ Some y = rw passes refl in
         let same : y ≡ x = inside (sym here ∙ is) in
-        let kept : filter r (y ∷ xs) ≡ y ∷ filter r xs = (let stays_y : r y ≡ true = ap r same ∙ stays in rw stays_y refl) in
+        let stored : filter r (y ∷ xs) ≡ y ∷ filter r xs = (let stays_y : r y ≡ true = ap r same ∙ stays in rw stays_y refl) in
         let there : find q (y ∷ filter r xs) ≡ Some y = rw passes refl in
-        ap (find q) kept ∙ there ∙ ap Some same
+        ap (find q) stored ∙ there ∙ ap Some same
     | inr fails ↦
         let here : find q (y ∷ xs) ≡ find q xs = rw fails refl in
-        let later = found_kept r xs x (sym here ∙ is) stays in
+        let later = found_stored r xs x (sym here ∙ is) stays in
         elim (cases_Bool (r y)) [
           | inl keeps ↦
-              let kept : filter r (y ∷ xs) ≡ y ∷ filter r xs = rw keeps refl in
+              let stored : filter r (y ∷ xs) ≡ y ∷ filter r xs = rw keeps refl in
               let there : find q (y ∷ filter r xs) ≡ find q (filter r xs) = rw fails refl in
-              ap (find q) kept ∙ there ∙ later
+              ap (find q) stored ∙ there ∙ later
           | inr gone ↦
-              let kept : filter r (y ∷ xs) ≡ filter r xs = rw gone refl in
-              ap (find q) kept ∙ later
+              let stored : filter r (y ∷ xs) ≡ filter r xs = rw gone refl in
+              ap (find q) stored ∙ later
         ]
   ]
 
-  -- of one alone
+  -- What is found in a list of one element.
   pub found_one : (x y : X) → find q (x ∷ []) ≡ Some y → (y ≡ x) × (q x ≡ true)
   found_one x y is = elim (cases_Bool (q x)) [
     | inl passes ↦
@@ -132,5 +132,5 @@ module _ {X : Type 0} (q : X → Bool) where
   pub one_changed : (f : X → X) (x : X) → q x ≡ true → change_first q f (x ∷ []) ≡ f x ∷ []
   one_changed f x passes = rw passes refl
 
-  pub one_kept : (x : X) → q x ≡ true → filter q (x ∷ []) ≡ x ∷ []
-  one_kept x passes = rw passes refl
+  pub one_stored : (x : X) → q x ≡ true → filter q (x ∷ []) ≡ x ∷ []
+  one_stored x passes = rw passes refl

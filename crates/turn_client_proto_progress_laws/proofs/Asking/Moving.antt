@@ -1,4 +1,4 @@
--- A client that has asked, where something else becomes of it.
+-- A client with a pending request, if something else in it changes.
 use Rattle.std.proofs.Common.{◌≡◌, ℕ, ◌<◌, ◌≤◌, arith, Bool, true, false, cond, ◌||◌, List, [], ◌∷◌, Option, Some, refl, sym, ap, ◌∙◌, subst, inl, inr}
 use Rattle.std.specs.Prelude.{◌==◌, nat_le, is_some}
 use Rattle.std.specs.FinMap as finite
@@ -8,7 +8,7 @@ use Rattle.std.proofs.lemmas.Bool.{cases_Bool, eq-eqb, eqb-true, leb-false, lt-l
 use Rattle.std.specs.declared.net.socket_addr.SocketAddr.{SocketAddr}
 use Rattle.turn_client_proto_messages.specs.StunTypesWire.Grammar.{number_at}
 use Rattle.turn_client_proto_messages.specs.StunProtoTransaction.Agents.{Transaction, has_left, is_ended, is_over, transmitted}
-use Rattle.turn_client_proto_messages.specs.StunProtoAgent.Sending.{begun, kept_under, with_request}
+use Rattle.turn_client_proto_messages.specs.StunProtoAgent.Sending.{started, stored_under, with_request}
 use Rattle.turn_client_proto_messages.specs.StunProtoTransaction.Schedule.{end_at}
 use Rattle.turn_client_proto_messages.specs.StunProtoAgent.State as agents
 use Rattle.turn_client_proto_messages.proofs.StunProtoTransaction.Leasts.{same_number}
@@ -19,7 +19,7 @@ use Rattle.turn_client_proto_messages.specs.StunProtoAgent.declared.agent.StunAg
 use Rattle.turn_client_proto_messages.specs.StunProtoAgent.declared.agent.StunAgentPollRet.TheVariants.{TransactionCancelled, TransactionTimedOut, WaitUntil}
 use Rattle.turn_client_proto_handshake_laws.specs.Core.Numbering.{IsNextNumber, awaits, is_taken}
 use Rattle.turn_client_proto_messages.specs.Requests.{request_text}
-use Rattle.turn_client_proto_messages.specs.ToldRequests.{IsLawfulRequest}
+use Rattle.turn_client_proto_messages.specs.ReportedRequests.{IsLawfulRequest}
 use Rattle.turn_client_proto_messages.specs.declared.request.TurnRequest.{TurnRequest}
 use Rattle.turn_client_proto_handshake_laws.specs.Core.declared.protocol.Phase.{Phase}
 use Rattle.turn_client_proto_handshake_laws.specs.Core.declared.protocol.Protocol.{Protocol}
@@ -29,10 +29,10 @@ use Rattle.turn_client_proto_step_laws.proofs.Numbers.{number_small}
 use Rattle.turn_client_proto_progress_laws.proofs.Asking.Tools.{Table, put_there, stays_there}
 use Rattle.turn_client_proto_handshake_laws.specs.Stages.{IsOf}
 use Rattle.turn_client_proto_handshake_laws.specs.Sent.{Beginning}
-use Rattle.turn_client_proto_progress_laws.specs.Asking.{HasAsked, Wanted, request_for}
+use Rattle.turn_client_proto_progress_laws.specs.Asking.{HasRequested, Wanted, request_for}
 use Rattle.turn_client_proto_progress_laws.specs.Speaking.{HasAtMost, HasBeenServed, IsOwn, Signs, Speaks}
 use Rattle.turn_client_proto_progress_laws.proofs.Asking.Lists.{first_not, not_both}
-use Rattle.turn_client_proto_progress_laws.proofs.Asking.Kept.{Keeps}
+use Rattle.turn_client_proto_progress_laws.proofs.Asking.Stored.{Keeps}
 
 -- ---- what no call changes but a message that comes
 
@@ -68,7 +68,7 @@ speaks_on b realm address p q same one is = record {
 
 -- ---- transactions
 
--- what is found under another number than that of one that was put
+-- What is found under another key than the inserted one.
 pub beside_put : (m : Table) (key other : ℕ) (x : Transaction) → (other ≡ key → ⊥) → finite.get (finite.insert m key x) other ≡ finite.get m other
 beside_put m key other x apart =
     finite.get-insert nat_cmp_total m key x other
@@ -77,28 +77,28 @@ beside_put m key other x apart =
       | false ↦ λ differs. refl
     ] refl
 
--- one more transmission of a transaction doesn't end it
+-- One more transmission of a transaction doesn't end it.
 more_sent : (now : ℕ) (tcp : Bool) (t : Transaction) → is_ended now (transmitted tcp t) ≡ is_ended now t
 more_sent now tcp t = elim (cases_Bool (has_left tcp t)) [
   | inl left ↦ rw left refl
   | inr none ↦ rw none refl
 ]
 
--- ---- a client that has asked
+-- ---- a client that has requested
 
-module _ (b : Beginning) (realm : List ℕ) (address : SocketAddr) (wanted : Wanted) (request : List ℕ) (now : ℕ) (p : Protocol) (h : HasAsked b realm address wanted request now p) where
+module _ (b : Beginning) (realm : List ℕ) (address : SocketAddr) (wanted : Wanted) (request : List ℕ) (now : ℕ) (p : Protocol) (h : HasRequested b realm address wanted request now p) where
   pub own : IsOwn b address h.allocation
   own = subst (λ (l : List Allocation). HasAtMost b address l) h.only h.speaks.one
 
-  pub asked_still : (q : Protocol) → Same p q → (a : Allocation) → q.allocations ≡ a ∷ [] → Keeps h.number wanted h.allocation a → (t : Transaction) → finite.get q.agent.outstanding h.number ≡ Some t → is_ended now t ≡ false
-      → HasAsked b realm address wanted request now q
-  asked_still q same a only keeps t there lasting = record {
+  pub requested_still : (q : Protocol) → Same p q → (a : Allocation) → q.allocations ≡ a ∷ [] → Keeps h.number wanted h.allocation a → (t : Transaction) → finite.get q.agent.outstanding h.number ≡ Some t → is_ended now t ≡ false
+      → HasRequested b realm address wanted request now q
+  requested_still q same a only keeps t there lasting = record {
     speaks = speaks_on b realm address p q same
         (subst (λ (l : List Allocation). HasAtMost b address l) (sym only) (record { transport = keeps.transport ∙ own.transport; address_is = keeps.address ∙ own.address_is })) h.speaks;
     phase = same.phase ∙ h.phase;
     allocation = a;
     only = only;
-    stands = keeps.shown ∙ h.stands;
+    occurs = keeps.visible ∙ h.occurs;
     later = subst (λ (n : ℕ). now < n) (sym keeps.expiry) h.later;
     number = h.number;
     fits = h.fits;
@@ -107,7 +107,7 @@ module _ (b : Beginning) (realm : List ℕ) (address : SocketAddr) (wanted : Wan
     awaits = keeps.awaits h.awaits;
     transaction = t;
     outstanding = there;
-    goes_on = lasting;
+    continues = lasting;
   }
 
   -- ---- another request is made
@@ -132,43 +132,43 @@ module _ (b : Beginning) (realm : List ℕ) (address : SocketAddr) (wanted : Wan
   beside_made other number at to lawful next =
       let text = request_text p.auth other number in
       let shows : number_at text ≡ number = number_law p.auth other number h.speaks.signs.short lawful (number_small p number next) in
-      beside_put p.agent.outstanding (number_at text) h.number (begun p.agent text to at) (λ same. other_number number next (sym shows ∙ sym same)) ∙ h.outstanding
+      beside_put p.agent.outstanding (number_at text) h.number (started p.agent text to at) (λ same. other_number number next (sym shows ∙ sym same)) ∙ h.outstanding
 
   -- ---- a transmission more is made
 
   pub beside_sent : (number : ℕ) (t : Transaction) (tcp : Bool) → finite.get p.agent.outstanding number ≡ Some t
-      → (u : Transaction) × (finite.get (kept_under p.agent number (transmitted tcp t)).outstanding h.number ≡ Some u) × (is_ended now u ≡ false)
+      → (u : Transaction) × (finite.get (stored_under p.agent number (transmitted tcp t)).outstanding h.number ≡ Some u) × (is_ended now u ≡ false)
   beside_sent number t tcp there = elim (cases_Bool (h.number == number)) [
     | inl is ↦ (
         let same : h.number ≡ number = eqb-true h.number number is in
         let own_one : t ≡ h.transaction = Prim.cc (sym there ∙ ap (λ (n : ℕ). finite.get p.agent.outstanding n) (sym same) ∙ h.outstanding) in
-        (transmitted tcp t, ap (λ (n : ℕ). finite.get (finite.insert p.agent.outstanding number (transmitted tcp t)) n) same ∙ put_there p.agent.outstanding number (transmitted tcp t), more_sent now tcp t ∙ ap (λ (x : Transaction). is_ended now x) own_one ∙ h.goes_on))
+        (transmitted tcp t, ap (λ (n : ℕ). finite.get (finite.insert p.agent.outstanding number (transmitted tcp t)) n) same ∙ put_there p.agent.outstanding number (transmitted tcp t), more_sent now tcp t ∙ ap (λ (x : Transaction). is_ended now x) own_one ∙ h.continues))
     | inr differs ↦ (
       h.transaction,
       beside_put p.agent.outstanding number h.number (transmitted tcp t) (λ same. not_both (h.number == number) (eq-eqb h.number number same) differs) ∙ h.outstanding,
-      h.goes_on,
+      h.continues,
     )
   ]
 
   -- ---- the agent is polled, not later
 
   pub record IsTickedOn (ticked : StunAgentPollRet) (agent : agents.Agent) : Type 0 where
-    pub goes_on : is_among (ended_of ticked) (h.number ∷ []) ≡ false
+    pub continues : is_among (ended_of ticked) (h.number ∷ []) ≡ false
     pub there : finite.get agent.outstanding h.number ≡ Some h.transaction
     pub remote : agent.remote ≡ p.agent.remote
     pub transport : agent.transport ≡ p.agent.transport
     pub here : agent.here ≡ p.agent.here
     pub waits : agent.waits ≡ p.agent.waits
 
-  -- it has not ended
+  -- The transaction has not ended.
   open_at : (at : ℕ) → at ≤ now → is_ended at h.transaction ≡ false
   open_at at early = elim (cases_Bool (is_over h.transaction.cancelled)) [
     | inl over ↦
         let here : is_ended now h.transaction ≡ true = rw over refl in
-        not_both (is_ended now h.transaction) here h.goes_on
+        not_both (is_ended now h.transaction) here h.continues
     | inr lasts ↦
         let ends : is_ended now h.transaction ≡ nat_le (end_at h.transaction.sent h.transaction.waits) now = rw lasts refl in
-        let later = leb-false (end_at h.transaction.sent h.transaction.waits) now (sym ends ∙ h.goes_on) in
+        let later = leb-false (end_at h.transaction.sent h.transaction.waits) now (sym ends ∙ h.continues) in
         let at_later = lt-leb (end_at h.transaction.sent h.transaction.waits) at (omega (arith, later, early)) in
         rw (lasts, at_later) refl
   ]
@@ -196,7 +196,7 @@ module _ (b : Beginning) (realm : List ℕ) (address : SocketAddr) (wanted : Wan
   ended_on at number over agent ticked which early is =
       let left = ended_beside at number over agent early is in
       record {
-        goes_on = ap (λ (o : Option ℕ). is_among o (h.number ∷ [])) which ∙ ap (λ (x : Bool). x || false) left.0;
+        continues = ap (λ (o : Option ℕ). is_among o (h.number ∷ [])) which ∙ ap (λ (x : Bool). x || false) left.0;
         there = left.1;
         remote = ap (λ (x : agents.Agent). x.remote) is.gone;
         transport = ap (λ (x : agents.Agent). x.transport) is.gone;
@@ -208,7 +208,7 @@ module _ (b : Beginning) (realm : List ℕ) (address : SocketAddr) (wanted : Wan
   ticked_on at (TransactionTimedOut number) agent early is = ended_on at number false agent (TransactionTimedOut number) refl early is
   ticked_on at (TransactionCancelled number) agent early is = ended_on at number true agent (TransactionCancelled number) refl early is
   ticked_on at (WaitUntil until) agent early is = record {
-    goes_on = refl;
+    continues = refl;
     there = ap (λ (x : agents.Agent). finite.get x.outstanding h.number) is.2 ∙ h.outstanding;
     remote = ap (λ (x : agents.Agent). x.remote) is.2;
     transport = ap (λ (x : agents.Agent). x.transport) is.2;

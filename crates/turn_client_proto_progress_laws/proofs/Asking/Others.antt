@@ -1,4 +1,4 @@
--- A client that speaks still does, whatever else it is asked for, or told.
+-- An established client stays so in all other calls.
 use Rattle.std.proofs.Common.{◌≡◌, ◌≢◌, ℕ, List, map, Option, Some, None, refl, sym, ap, subst, inl, inr}
 use Rattle.std.specs.Prelude.{MatchOption, MatchResult, IfNone, IfSome, Result, Ok, Err}
 use Rattle.std.specs.declared.net.socket_addr.SocketAddr.{SocketAddr}
@@ -19,10 +19,10 @@ use Rattle.turn_client_proto_messages.specs.Api.declared.error.TcpConnectError.{
 use Rattle.turn_client_proto_messages.specs.Api.declared.error.TcpConnectError.TheVariants as not_connected
 use Rattle.turn_client_proto_messages.specs.Api.declared.answer.Socket5Tuple.{Socket5Tuple}
 use Rattle.turn_client_proto_step_laws.specs.Recv.Closing.{after_close, is_joined, without}
-use Rattle.turn_client_proto_step_laws.specs.Recv.Connecting.{IsConnectAnswered, IsConnectionAsked, after_connecting, allocation_towards, connect_refusal, connect_refused_in}
+use Rattle.turn_client_proto_step_laws.specs.Recv.Connecting.{IsConnectAnswered, IsConnectionRequested, after_connecting, allocation_towards, connect_refusal, connect_refused_in}
 use Rattle.turn_client_proto_step_laws.specs.Connection.Asking.{connecting}
-use Rattle.turn_client_proto_step_laws.specs.Connection.Sockets.{awaits_socket, binding, closed, let_go, to_bind}
-use Rattle.turn_client_proto_handshake_laws.specs.Core.Asking.{asked, asked_from}
+use Rattle.turn_client_proto_step_laws.specs.Connection.Sockets.{awaits_socket, binding, closed, release, to_bind}
+use Rattle.turn_client_proto_handshake_laws.specs.Core.Asking.{requested, requested_from}
 use Rattle.turn_client_proto_handshake_laws.specs.Core.Attempting.{answering}
 use Rattle.turn_client_proto_handshake_laws.specs.Core.Deleting.{IsDeleteAnswered, IsDeleted, after_delete, delete_refusal}
 use Rattle.turn_client_proto_handshake_laws.specs.Core.Ending.{ended}
@@ -31,7 +31,7 @@ use Rattle.turn_client_proto_messages.specs.declared.answer.AttemptAnswer.TheVar
 use Rattle.turn_client_proto_handshake_laws.specs.Core.declared.protocol.Protocol.{Protocol}
 use Rattle.turn_client_proto_step_laws.specs.Peers.Permission.Asking.{is_of, is_past, marked}
 use Rattle.turn_client_proto_step_laws.specs.Payload.Sending.{Answer, IsPassedOn, IsSendAnswered, IsSentBy, IsSentOver, channel_to, connection_to, send_refusal, standing}
-use Rattle.turn_client_proto_messages.specs.StunTypesBase.Moments.{moment_after}
+use Rattle.turn_client_proto_messages.specs.StunTypesBase.Times.{time_after}
 use Rattle.turn_client_proto_messages.specs.declared.request.TurnRequest.TheVariants.{ConnectionBind}
 use Rattle.turn_client_proto_step_laws.specs.Recv.Sockets.{binding_time, IsSocketAnswered, IsSocketTaken, after_socket, answering_if, attempt_at, socket_refusal, unsocketed}
 use Rattle.turn_client_proto_messages.specs.Allocation.declared.channel.Channel.{Channel}
@@ -39,7 +39,7 @@ use Rattle.turn_client_proto_handshake_laws.specs.Sent.{Beginning}
 use Rattle.turn_client_proto_progress_laws.specs.Speaking.{HasAtMost, Speaks}
 use Rattle.turn_client_proto_progress_laws.proofs.Asking.Speaking.{AllStay, most_changed, most_mapped, own_agent, speaks_with, unchanged}
 
--- what becomes of an allocation
+-- What becomes of an allocation.
 deleted_stay : (number now : ℕ) → AllStay (deleted number now)
 deleted_stay number now a = record { transport = refl; address = refl }
 
@@ -47,18 +47,18 @@ closed_stay : (here : SocketAddr) → AllStay (closed here)
 unfolding closed
 closed_stay here a = record { transport = refl; address = refl }
 
-let_go_stay : (connection : ℕ) (peer : SocketAddr) → AllStay (let_go connection peer)
-unfolding let_go
-let_go_stay connection peer a = record { transport = refl; address = refl }
+release_stay : (connection : ℕ) (peer : SocketAddr) → AllStay (release connection peer)
+unfolding release
+release_stay connection peer a = record { transport = refl; address = refl }
 
 module _ (b : Beginning) (realm : List ℕ) (address : SocketAddr) (p : Protocol) (is : Speaks b realm address p) where
   abbrev Speaking : Protocol → Type 0
   Speaking q = Speaks b realm address q
 
-  -- ---- its end is asked for
+  -- ---- its end is requested
 
   delete_made : (at : ℕ) (q : Protocol) → IsDeleted p at q → Speaking q
-  unfolding after_delete asked
+  unfolding after_delete requested
   delete_made at q r = subst (λ (y : Protocol). Speaking y) (sym r.after)
       (speaks_with b realm address p is (after_delete r.number at p) (record { remote = refl; transport = refl; here = refl; waits = refl }) refl refl refl refl refl
       (most_mapped b address (deleted r.number at) (deleted_stay r.number at) p.allocations is.one))
@@ -70,9 +70,9 @@ module _ (b : Beginning) (realm : List ℕ) (address : SocketAddr) (p : Protocol
   delete_by at (Err error) q None ample refused made = absurd (ample (ap Err made.0))
 
   pub delete_speaks : (at : ℕ) (ret : Result (Unit {0}) DeleteError) (q : Protocol) → ret ≢ Err not_deleted.NoMemory → IsDeleteAnswered p at ret q → Speaking q
-  delete_speaks at ret q ample r = delete_by at ret q (delete_refusal p) ample r.refused r.asked
+  delete_speaks at ret q ample r = delete_by at ret q (delete_refusal p) ample r.refused r.requested
 
-  -- ---- a connection is asked for
+  -- ---- a connection is requested
 
   connect_refused : (peer : SocketAddr) (at : ℕ) (found : Option Allocation) → Speaking (connect_refused_in found peer at p)
   connect_refused peer at None = is
@@ -82,21 +82,21 @@ module _ (b : Beginning) (realm : List ℕ) (address : SocketAddr) (p : Protocol
     | inr not ↦ rw not is
   ]
 
-  connect_made : (peer : SocketAddr) (at : ℕ) (q : Protocol) → IsConnectionAsked p peer at q → Speaking q
-  unfolding after_connecting asked
+  connect_made : (peer : SocketAddr) (at : ℕ) (q : Protocol) → IsConnectionRequested p peer at q → Speaking q
+  unfolding after_connecting requested
   connect_made peer at q r = subst (λ (y : Protocol). Speaking y) (sym r.after)
       (speaks_with b realm address p is (after_connecting peer r.number at p) (record { remote = refl; transport = refl; here = refl; waits = refl }) refl refl refl refl refl
       (most_changed b address (is_of Tcp (family_of_socket peer)) (connecting (record { number = r.number; peer = peer })) (λ a. record { transport = refl; address = refl }) p.allocations is.one))
 
   connect_by : (peer : SocketAddr) (at : ℕ) (ret : Result (Unit {0}) TcpConnectError) (q : Protocol) (refusal : Option TcpConnectError) → ret ≢ Err not_connected.NoMemory
       → IfSome refusal (λ error. (ret ≡ Err error) × (q ≡ connect_refused_in (allocation_towards peer p) peer at p))
-      → IfNone refusal (MatchResult ret (λ _. IsConnectionAsked p peer at q) (λ error. (error ≡ not_connected.NoMemory) × (q ≡ after_number p))) → Speaking q
+      → IfNone refusal (MatchResult ret (λ _. IsConnectionRequested p peer at q) (λ error. (error ≡ not_connected.NoMemory) × (q ≡ after_number p))) → Speaking q
   connect_by peer at ret q (Some error) ample refused made = subst (λ (y : Protocol). Speaking y) (sym refused.1) (connect_refused peer at (allocation_towards peer p))
   connect_by peer at (Ok done) q None ample refused made = connect_made peer at q made
   connect_by peer at (Err error) q None ample refused made = absurd (ample (ap Err made.0))
 
   pub connect_speaks : (peer : SocketAddr) (at : ℕ) (ret : Result (Unit {0}) TcpConnectError) (q : Protocol) → ret ≢ Err not_connected.NoMemory → IsConnectAnswered p peer at ret q → Speaking q
-  connect_speaks peer at ret q ample r = connect_by peer at ret q (connect_refusal p peer at) ample r.refused r.asked
+  connect_speaks peer at ret q ample r = connect_by peer at ret q (connect_refusal p peer at) ample r.refused r.requested
 
   -- ---- a socket was closed
 
@@ -159,7 +159,7 @@ module _ (b : Beginning) (realm : List ℕ) (address : SocketAddr) (p : Protocol
   lacking connection peer (Some number) allocations one = speaks_with b realm address p is (record (answering Failed number p) { allocations = allocations }) (own_agent b realm address p is) refl refl refl refl refl one
 
   opened : (here peer : SocketAddr) (connection number at : ℕ) (attempt : Option ℕ) (allocations : List Allocation) → HasAtMost b address allocations
-      → Speaking (record (asked_from here (answering_if Accepted attempt (after_number p)) (ConnectionBind connection) number at) { allocations = allocations })
+      → Speaking (record (requested_from here (answering_if Accepted attempt (after_number p)) (ConnectionBind connection) number at) { allocations = allocations })
   unfolding answering
   opened here peer connection number at None allocations one =
       speaks_with b realm address p is _ (record { remote = refl; transport = refl; here = refl; waits = refl }) refl refl refl refl refl one
@@ -169,12 +169,12 @@ module _ (b : Beginning) (realm : List ℕ) (address : SocketAddr) (p : Protocol
   socket_taken : (here : Option SocketAddr) (connection : ℕ) (peer : SocketAddr) (at : ℕ) (ret : Result (Unit {0}) TcpAllocateError) (q : Protocol) → ret ≢ Err not_taken.NoMemory → IsSocketTaken here p connection peer at ret q → Speaking q
   unfolding unsocketed after_socket
   socket_taken None connection peer at (Ok done) q ample r = subst (λ (y : Protocol). Speaking y) (sym r.after)
-      (lacking connection peer (attempt_at connection peer p) (map (let_go connection peer) p.allocations) (most_mapped b address (let_go connection peer) (let_go_stay connection peer) p.allocations is.one))
+      (lacking connection peer (attempt_at connection peer p) (map (release connection peer) p.allocations) (most_mapped b address (release connection peer) (release_stay connection peer) p.allocations is.one))
   socket_taken None connection peer at (Err error) q ample r = absurd (ample (ap Err r.0))
   socket_taken (Some here) connection peer at (Ok done) q ample r = subst (λ (y : Protocol). Speaking y) (sym r.after)
       (opened here peer connection r.number at (attempt_at connection peer p) _
-      (most_mapped b address (let_go connection peer) (let_go_stay connection peer) _ (most_changed b address (awaits_socket connection peer)
-      (binding (to_bind here peer connection (record { number = r.number; expiry = moment_after at binding_time }))) (λ a. record { transport = refl; address = refl }) p.allocations is.one)))
+      (most_mapped b address (release connection peer) (release_stay connection peer) _ (most_changed b address (awaits_socket connection peer)
+      (binding (to_bind here peer connection (record { number = r.number; expiry = time_after at binding_time }))) (λ a. record { transport = refl; address = refl }) p.allocations is.one)))
   socket_taken (Some here) connection peer at (Err error) q ample r = absurd (ample (ap Err r.0))
 
   socket_by : (refusal : Option TcpAllocateError) (here : Option SocketAddr) (connection : ℕ) (peer : SocketAddr) (at : ℕ) (ret : Result (Unit {0}) TcpAllocateError) (q : Protocol) → ret ≢ Err not_taken.NoMemory

@@ -15,7 +15,7 @@ use Rattle.turn_client_proto_messages.specs.OwnClaims.{own_claim}
 use Rattle.turn_client_proto_messages.specs.ReadTexts.{HasReadTexts}
 use Rattle.turn_client_proto_messages.specs.Requests.{is_signed, request_method, request_text, request_type}
 use Rattle.turn_client_proto_messages.specs.ShortTexts.{HasShortTexts}
-use Rattle.turn_client_proto_messages.specs.ToldRequests.{IsLawfulRequest}
+use Rattle.turn_client_proto_messages.specs.ReportedRequests.{IsLawfulRequest}
 use Rattle.turn_client_proto_messages.specs.declared.request.TurnRequest.{TurnRequest}
 use Rattle.turn_client_proto_messages.specs.Waiting.{Queued}
 use Rattle.turn_client_proto_handshake_laws.specs.Core.declared.protocol.Phase.{Phase}
@@ -23,28 +23,28 @@ use Rattle.turn_client_proto_handshake_laws.specs.Core.declared.protocol.Protoco
 use Rattle.turn_client_proto_handshake_laws.specs.Choosing.{Choice, signer_by}
 use Rattle.turn_client_proto_handshake_laws.specs.Stages.{Holds}
 use Rattle.turn_client_proto_handshake_laws.specs.Sent.{Beginning}
-use Rattle.turn_client_proto_progress_laws.specs.Asking.{APermission, AChannel, HasAsked, Wanted, request_for}
+use Rattle.turn_client_proto_progress_laws.specs.Asking.{APermission, AChannel, HasRequested, Wanted, request_for}
 use Rattle.turn_client_proto_progress_laws.specs.Holding.{IsOwnRequest}
 use Rattle.turn_client_proto_progress_laws.specs.Speaking.{HasAtMost, HasBeenServed, Signs, Speaks, standing_under}
 
--- ---- the client behind its handshake
+-- ---- the client after its handshake
 
-signs_so : (b : Beginning) (c : Choice) → HasShortTexts (signer_by b c) → HasReadTexts (signer_by b c) → Signs b c.told.realm (going_by (signer_by b c) (Some c.algorithm))
+signs_so : (b : Beginning) (c : Choice) → HasShortTexts (signer_by b c) → HasReadTexts (signer_by b c) → Signs b c.reported.realm (going_by (signer_by b c) (Some c.algorithm))
 signs_so b c short read = record {
   account = refl;
   hides = refl;
-  challenge = record { realm = c.told.realm; nonce = c.told.nonce; offered = c.told.offered; choice = c.algorithm };
-  kept = refl;
+  challenge = record { realm = c.reported.realm; nonce = c.reported.nonce; offered = c.reported.offered; choice = c.algorithm };
+  stored = refl;
   realm_is = refl;
   short = record { username = short.username; challenge = short.challenge };
   read = record { username = read.username; challenge = read.challenge };
 }
 
 pub holder_speaks : (b : Beginning) (c : Choice) (address : SocketAddr) (lifetime made last : ℕ) (queue : List Queued) (events : List TurnEvent) (p : Protocol) → HasShortTexts (signer_by b c) → HasReadTexts (signer_by b c)
-    → Holds b c address lifetime made last queue events p → Speaks b c.told.realm address p
+    → Holds b c address lifetime made last queue events p → Speaks b c.reported.realm address p
 holder_speaks b c address lifetime made last queue events p short read h = record {
   settings = h.settings;
-  signs = subst (λ (x : auth.Client). Signs b c.told.realm x) (sym h.auth) (signs_so b c short read);
+  signs = subst (λ (x : auth.Client). Signs b c.reported.realm x) (sym h.auth) (signs_so b c short read);
   served = subst (λ (f : Phase). HasBeenServed f) (sym h.phase) tt;
   one = subst (λ (l : List Allocation). HasAtMost b address l) (sym h.allocations) (record { transport = refl; address_is = refl });
 }
@@ -63,26 +63,26 @@ method_so : (wanted : Wanted) → method_of (request_type (request_for wanted)) 
 method_so (APermission ip) = refl
 method_so (AChannel channel peer) = refl
 
--- what is claimed of them, by the law of a client's requests
+-- What its requests claim, by the lemma on a client's requests.
 abbrev pub DoClaim : Type 0
 DoClaim = (client : auth.Client) (request : TurnRequest) (number : ℕ) (standing : auth.Standing) → HasShortTexts client → HasReadTexts client → IsLawfulRequest request → number < 2 ^ 96 → is_signed request ≡ true
     → auth.standing_of client ≡ Some standing → claimed (request_text client request number) ≡ own_claim client.anonymous_username standing
 
--- and what they are
+-- What its requests are.
 pub record AreRead : Type 0 where
   pub message : (client : auth.Client) (request : TurnRequest) (number : ℕ) → HasShortTexts client → IsLawfulRequest request → number < 2 ^ 96 → refusal (request_text client request number) ≡ None
   pub number : (client : auth.Client) (request : TurnRequest) (number : ℕ) → HasShortTexts client → IsLawfulRequest request → number < 2 ^ 96 → number_at (request_text client request number) ≡ number
   pub kind : (client : auth.Client) (request : TurnRequest) (number : ℕ) → HasShortTexts client → IsLawfulRequest request → number < 2 ^ 96 → kind_at (request_text client request number) ≡ request_type request
 
-module _ (b : Beginning) (realm : List ℕ) (address : SocketAddr) (wanted : Wanted) (request : List ℕ) (now : ℕ) (p : Protocol) (h : HasAsked b realm address wanted request now p) where
+module _ (b : Beginning) (realm : List ℕ) (address : SocketAddr) (wanted : Wanted) (request : List ℕ) (now : ℕ) (p : Protocol) (h : HasRequested b realm address wanted request now p) where
   abbrev standing : auth.Standing
   standing = standing_under b h.speaks.signs.challenge
 
-  stands : auth.standing_of p.auth ≡ Some standing
-  stands = Prim.cc (h.speaks.signs.account, h.speaks.signs.kept)
+  occurs : auth.standing_of p.auth ≡ Some standing
+  occurs = Prim.cc (h.speaks.signs.account, h.speaks.signs.stored)
 
   pub claims_own : DoClaim → claimed request ≡ own_claim p.auth.anonymous_username standing
-  claims_own claim = ap claimed h.text ∙ claim p.auth (request_for wanted) h.number standing h.speaks.signs.short h.speaks.signs.read h.lawful h.fits (signed_so wanted) stands
+  claims_own claim = ap claimed h.text ∙ claim p.auth (request_for wanted) h.number standing h.speaks.signs.short h.speaks.signs.read h.lawful h.fits (signed_so wanted) occurs
 
   pub shows_number : AreRead → number_at request ≡ h.number
   shows_number read = ap number_at h.text ∙ read.number p.auth (request_for wanted) h.number h.speaks.signs.short h.lawful h.fits

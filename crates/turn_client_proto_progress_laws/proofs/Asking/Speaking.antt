@@ -1,4 +1,4 @@
--- A client that speaks still does, whatever draws, polls and calls make of it.
+-- An established client stays so in `poll_transmit`, `poll` and other calls.
 use Rattle.std.proofs.Common.{◌≡◌, ◌≢◌, ℕ, Bool, List, [], ◌∷◌, ◌++◌, map, Option, Some, None, refl, sym, ap, ◌∙◌, subst, inl, inr}
 use Rattle.std.specs.Prelude.{MatchOption, MatchResult, IfNone, IfSome, Result, Ok, Err, find, filter}
 use Rattle.std.specs.List.{list_any}
@@ -10,7 +10,7 @@ use Rattle.turn_client_proto_messages.specs.StunTypesBase.Family.{family_of_ip, 
 use Rattle.turn_client_proto_messages.specs.StunTypesBase.declared.transport.TransportType.{TransportType}
 use Rattle.turn_client_proto_messages.specs.StunProtoAgent.State as agents
 use Rattle.turn_client_proto_messages.specs.Allocation.Changes.{change_first}
-use Rattle.turn_client_proto_messages.specs.Allocation.Polling.{kept, stays}
+use Rattle.turn_client_proto_messages.specs.Allocation.Polling.{stored, stays}
 use Rattle.turn_client_proto_messages.specs.Allocation.Polling as allocation
 use Rattle.turn_client_proto_messages.specs.Allocation.Refreshing.{refreshing}
 use Rattle.turn_client_proto_messages.specs.Allocation.declared.allocation.Allocation.{Allocation}
@@ -23,30 +23,30 @@ use Rattle.turn_client_proto_messages.specs.Api.declared.error.CreatePermissionE
 use Rattle.turn_client_proto_messages.specs.Api.declared.error.CreatePermissionError.TheVariants as not_permitted
 use Rattle.turn_client_proto_messages.specs.Api.declared.event.TurnEvent.{TurnEvent}
 use Rattle.turn_client_proto_step_laws.specs.Peers.Channel.Binding as channel_asking
-use Rattle.turn_client_proto_step_laws.specs.Peers.Channel.Lapsing as channels
+use Rattle.turn_client_proto_step_laws.specs.Peers.Channel.Expiring as channels
 use Rattle.turn_client_proto_step_laws.specs.Peers.Channel.Wanting as channel_wanting
-use Rattle.turn_client_proto_step_laws.specs.Connection.Lapsing as joined
-use Rattle.turn_client_proto_step_laws.specs.Connection.Told.{given_up}
-use Rattle.turn_client_proto_step_laws.specs.Connection.Waiting.{asked_in, has_unasked, unasked}
+use Rattle.turn_client_proto_step_laws.specs.Connection.Expiring as joined
+use Rattle.turn_client_proto_step_laws.specs.Connection.Reported.{given_up}
+use Rattle.turn_client_proto_step_laws.specs.Connection.Waiting.{requested_in, has_unasked, unasked}
 use Rattle.turn_client_proto_messages.specs.StunProtoAgent.declared.agent.StunAgentPollRet.{StunAgentPollRet}
 use Rattle.turn_client_proto_messages.specs.StunProtoAgent.declared.agent.StunAgentPollRet.TheVariants.{TransactionCancelled, TransactionTimedOut, WaitUntil}
-use Rattle.turn_client_proto_handshake_laws.specs.Core.Asking.{asked}
-use Rattle.turn_client_proto_handshake_laws.specs.Core.Binding.{IsBindAnswered, IsBindTried, IsChannelAsked, after_binding, allocation_to, asking_channel, bind_refusal, bind_refused_in, permission_beside}
+use Rattle.turn_client_proto_handshake_laws.specs.Core.Asking.{requested}
+use Rattle.turn_client_proto_handshake_laws.specs.Core.Binding.{IsBindAnswered, IsBindTried, IsChannelRequested, after_binding, allocation_to, asking_channel, bind_refusal, bind_refused_in, permission_beside}
 use Rattle.turn_client_proto_handshake_laws.specs.Core.Numbering.{after_number}
-use Rattle.turn_client_proto_handshake_laws.specs.Core.Permitting.{IsPermissionAnswered, IsPermissionAsked, after_asking as after_permission, allocation_for, permission_refusal, refused_in}
+use Rattle.turn_client_proto_handshake_laws.specs.Core.Permitting.{IsPermissionAnswered, IsPermissionRequested, after_asking as after_permission, allocation_for, permission_refusal, refused_in}
 use Rattle.turn_client_proto_messages.specs.Requests.{allocation_lifetime}
 use Rattle.turn_client_proto_messages.specs.Waiting.{Queued, is_answer}
 use Rattle.turn_client_proto_handshake_laws.specs.Core.declared.protocol.Phase.{Phase}
 use Rattle.turn_client_proto_handshake_laws.specs.Core.declared.protocol.Phase.TheVariants.{Initial, InitialSent, Authenticating, Authenticated, Ended}
 use Rattle.turn_client_proto_handshake_laws.specs.Core.declared.protocol.Protocol.{Protocol}
-use Rattle.turn_client_proto_step_laws.specs.Timers.Drawing.{Again, Fresh, IsAnswerSent, IsBegun, IsChannelRenewalSent, IsDrawn, IsNextSent, IsQueuedSent, IsRefreshSent, IsRenewalSent, IsRenewed, after_sending, first_bound, first_permitted, first_refreshed, is_resting, sent_at_once}
+use Rattle.turn_client_proto_step_laws.specs.Timers.Drawing.{Again, Fresh, IsAnswerSent, IsStarted, IsChannelRenewalSent, IsTransmitted, IsNextSent, IsQueuedSent, IsRefreshSent, IsRenewalSent, IsRenewed, after_sending, first_bound, first_permitted, first_refreshed, is_resting, sent_at_once}
 use Rattle.turn_client_proto_messages.specs.Api.Sent.{Sent}
 use Rattle.turn_client_proto_step_laws.specs.Peers.Permission.Asking.{is_of, is_past, knows, marked}
 use Rattle.turn_client_proto_step_laws.specs.Peers.Permission.Asking as permission_asking
-use Rattle.turn_client_proto_step_laws.specs.Peers.Permission.Telling as permission_telling
+use Rattle.turn_client_proto_step_laws.specs.Peers.Permission.Reporting as permission_reporting
 use Rattle.turn_client_proto_step_laws.specs.Peers.Permission.Wanting as permission_wanting
-use Rattle.turn_client_proto_step_laws.specs.Timers.Polling.{Answers, IsClosing, IsPolled, IsPolledBy, IsPolledIn, IsWalked, after_asking as after_socket, after_time, answer_of, ended_of, left, socket_for}
-use Rattle.turn_client_proto_step_laws.specs.Timers.Telling as telling
+use Rattle.turn_client_proto_step_laws.specs.Timers.Polling.{Answers, IsClosing, IsPolled, IsPolledBy, IsPolledIn, AreAllocationsPolled, after_asking as after_socket, after_time, answer_of, ended_of, left, socket_for}
+use Rattle.turn_client_proto_step_laws.specs.Timers.Reporting as reporting
 use Rattle.turn_client_proto_step_laws.specs.Timers.Wanting.{wanted as to_renew, wants}
 use Rattle.turn_client_proto_step_laws.specs.Timers.declared.wanting.Want.{Want}
 use Rattle.turn_client_proto_step_laws.specs.Timers.declared.wanting.Want.TheVariants as want
@@ -59,7 +59,7 @@ use Rattle.turn_client_proto_progress_laws.proofs.Asking.Moving.{speaks_on}
 
 -- ---- there is one allocation at most
 
--- a change leaves it the allocation that it was
+-- After a change the allocation is the one that it was.
 pub record Stays (a after : Allocation) : Type 0 where
   pub transport : after.transport ≡ a.transport
   pub address : after.address ≡ a.address
@@ -104,8 +104,8 @@ refreshes_stay over a = elim (cases_Bool (allocation.has_ended over a.pending_re
   | inr none ↦ rw none (as_it_is a)
 ]
 
-polled_stay : (over : Option ℕ) (now : ℕ) → AllStay (telling.polled over now)
-unfolding joined.polled given_up channels.polled channels.lapsed permission_telling.polled
+polled_stay : (over : Option ℕ) (now : ℕ) → AllStay (reporting.polled over now)
+unfolding joined.polled given_up channels.polled channels.expired permission_reporting.polled
 polled_stay over now a = record { transport = refl; address = refl }
 
 beside_stay : (ip : IpAddr) (number : ℕ) → AllStay (permission_beside ip number)
@@ -124,7 +124,7 @@ module _ (b : Beginning) (realm : List ℕ) (address : SocketAddr) (p : Protocol
   pub unchanged : (q : Protocol) → q ≡ p → Speaking q
   unchanged q same = subst (λ (x : Protocol). Speaking x) (sym same) is
 
-  -- with an agent that is of the same transport and addresses, and with these allocations
+  -- The client with an agent of the same transport and addresses, and with these allocations.
   pub record IsLike (agent : agents.Agent) : Type 0 where
     pub remote : agent.remote ≡ p.agent.remote
     pub transport : agent.transport ≡ p.agent.transport
@@ -138,7 +138,7 @@ module _ (b : Beginning) (realm : List ℕ) (address : SocketAddr) (p : Protocol
   speaks_with q like server allocates families auth phase one =
       speaks_on b realm address p q (record { server = server; remote = like.remote; transport = like.transport; here = like.here; waits = like.waits; allocates = allocates; families = families; auth = auth; phase = phase }) one is
 
-  -- ---- what is drawn
+  -- ---- what is transmitted
 
   made_so : (q : Protocol) (at : ℕ) (test : Allocation → Bool) (f : Allocation → Allocation) → AllStay f → IsLike q.agent → q.server ≡ p.server → q.allocates ≡ p.allocates → q.families ≡ p.families → q.auth ≡ p.auth → q.phase ≡ p.phase
       → q.allocations ≡ change_first test f p.allocations → Speaking q
@@ -176,26 +176,26 @@ module _ (b : Beginning) (realm : List ℕ) (address : SocketAddr) (p : Protocol
   answer_so None sent q r = unchanged q r.1
   answer_so (Some x) sent q r = subst (λ (y : Protocol). Speaking y) (sym r.1) (queued_so _ p.last_send)
 
-  begun_so : (f : Phase) → HasBeenServed f → (at : ℕ) (sent : Option Sent) (q : Protocol) → IsBegun f p at sent q → Speaking q
-  begun_so Initial served at sent q r = absurd served
-  begun_so (InitialSent numbers) served at sent q r = absurd served
-  begun_so (Authenticating numbers) served at sent q r = absurd served
-  begun_so Authenticated served at sent q r = renewal_so (to_renew at p.allocations) at sent q r
-  begun_so Ended served at sent q r = unchanged q r.1
+  started_so : (f : Phase) → HasBeenServed f → (at : ℕ) (sent : Option Sent) (q : Protocol) → IsStarted f p at sent q → Speaking q
+  started_so Initial served at sent q r = absurd served
+  started_so (InitialSent numbers) served at sent q r = absurd served
+  started_so (Authenticating numbers) served at sent q r = absurd served
+  started_so Authenticated served at sent q r = renewal_so (to_renew at p.allocations) at sent q r
+  started_so Ended served at sent q r = unchanged q r.1
 
   next_so : (queue : List Queued) (at : ℕ) (sent : Option Sent) (q : Protocol) → IsNextSent queue p at sent q → Speaking q
   next_so (x ∷ rest) at sent q r = (let s = sent_so sent (λ y. IsQueuedSent p at x rest y q) r in subst (λ (y : Protocol). Speaking y) (sym s.1.after) (queued_so rest (Some at)))
-  next_so [] at sent q r = begun_so p.phase is.served at sent q r
+  next_so [] at sent q r = started_so p.phase is.served at sent q r
 
-  pub drawn_speaks : (at : ℕ) (sent : Option Sent) (q : Protocol) → IsDrawn p at sent q → Speaking q
-  drawn_speaks at sent q (Again one said r) = subst (λ (y : Protocol). Speaking y) (sym r.after)
+  pub transmitted_speaks : (at : ℕ) (sent : Option Sent) (q : Protocol) → IsTransmitted p at sent q → Speaking q
+  transmitted_speaks at sent q (Again one said r) = subst (λ (y : Protocol). Speaking y) (sym r.after)
       (speaks_with _ (record { remote = refl; transport = refl; here = refl; waits = refl }) refl refl refl refl refl is.one)
-  drawn_speaks at sent q (Fresh none r) = tested (is_resting p.last_send at) (λ _ x. answer_so (find is_answer p.queue) sent q x) (λ _ x. next_so p.queue at sent q x) r
+  transmitted_speaks at sent q (Fresh none r) = tested (is_resting p.last_send at) (λ _ x. answer_so (find is_answer p.queue) sent q x) (λ _ x. next_so p.queue at sent q x) r
 
   -- ---- an event is taken
 
-  pub told_speaks : (event : Option TurnEvent) (q : Protocol) → IsEventTaken p event q → Speaking q
-  told_speaks event q r = subst (λ (y : Protocol). Speaking y) (sym r.others) (speaks_with _ own_agent refl refl refl refl refl is.one)
+  pub reported_speaks : (event : Option TurnEvent) (q : Protocol) → IsEventTaken p event q → Speaking q
+  reported_speaks event q r = subst (λ (y : Protocol). Speaking y) (sym r.others) (speaks_with _ own_agent refl refl refl refl refl is.one)
 
   -- ---- it is polled
 
@@ -223,9 +223,9 @@ module _ (b : Beginning) (realm : List ℕ) (address : SocketAddr) (p : Protocol
     abbrev k : Protocol
     k = record p { agent = agent }
 
-    most_polled : HasAtMost b address (map (telling.polled over at) (left over at k))
-    most_polled = most_mapped b address (telling.polled over at) (polled_stay over at) (left over at k)
-        (most_mapped b address (allocation.polled over) (refreshes_stay over) (kept over at p.allocations) (most_left b address (stays over at) p.allocations is.one))
+    most_polled : HasAtMost b address (map (reporting.polled over at) (left over at k))
+    most_polled = most_mapped b address (reporting.polled over at) (polled_stay over at) (left over at k)
+        (most_mapped b address (allocation.polled over) (refreshes_stay over) (stored over at p.allocations) (most_left b address (stays over at) p.allocations is.one))
 
     closing_so : (closing : List SocketAddr) (wish ret : TurnPollRet) (q : Protocol) → IsClosing closing wish (after_time over at k) ret q → Speaking q
     unfolding after_time
@@ -235,10 +235,10 @@ module _ (b : Beginning) (realm : List ℕ) (address : SocketAddr) (p : Protocol
     socket_so : (w : Waiting) (ret : TurnPollRet) (q : Protocol) → Answers (socket_for k w) (after_socket k) ret q → Speaking q
     unfolding after_socket
     socket_so w ret q r = subst (λ (y : Protocol). Speaking y) (sym r.1)
-        (speaks_with _ like refl refl refl refl refl (most_changed b address has_unasked asked_in (λ a. record { transport = refl; address = refl }) p.allocations is.one))
+        (speaks_with _ like refl refl refl refl refl (most_changed b address has_unasked requested_in (λ a. record { transport = refl; address = refl }) p.allocations is.one))
 
     standing_so : (found : Option Waiting) (wait : ℕ) (ret : TurnPollRet) (q : Protocol)
-        → MatchOption found (IsWalked over wait k at ret q) (λ w. Answers (socket_for k w) (after_socket k) ret q) → Speaking q
+        → MatchOption found (AreAllocationsPolled over wait k at ret q) (λ w. Answers (socket_for k w) (after_socket k) ret q) → Speaking q
     standing_so None wait ret q r = closing_so (p.closing ++ joined.all_gone over at (left over at k)) (answer_of (left over at k) over at r.first) ret q r.outcome
     standing_so (Some w) wait ret q r = socket_so w ret q r
 
@@ -260,9 +260,9 @@ module _ (b : Beginning) (realm : List ℕ) (address : SocketAddr) (p : Protocol
     | inr refused ↦ absurd (ample refused.0)
   ]
 
-  -- ---- something is asked for
+  -- ---- something is requested
 
-  -- the words that were drawn make no difference
+  -- The words that the generator gave make no difference.
   marked_so : (test : Allocation → Bool) → Speaking (record p { allocations = change_first test marked p.allocations })
   marked_so test = speaks_with (record p { allocations = change_first test marked p.allocations }) own_agent refl refl refl refl refl (most_changed b address test marked (λ a. record { transport = refl; address = refl }) p.allocations is.one)
 
@@ -273,21 +273,21 @@ module _ (b : Beginning) (realm : List ℕ) (address : SocketAddr) (p : Protocol
     | inr not ↦ rw not is
   ]
 
-  permission_made : (transport : TransportType) (ip : IpAddr) (at : ℕ) (q : Protocol) → IsPermissionAsked p transport ip at q → Speaking q
-  unfolding after_permission asked
+  permission_made : (transport : TransportType) (ip : IpAddr) (at : ℕ) (q : Protocol) → IsPermissionRequested p transport ip at q → Speaking q
+  unfolding after_permission requested
   permission_made transport ip at q r = subst (λ (y : Protocol). Speaking y) (sym r.after)
       (made_so (after_permission transport ip r.number at p) at (is_of transport (family_of_ip ip)) (permission_asking.asking (record { ip = ip; numbers = r.number ∷ [] })) (λ a. record { transport = refl; address = refl })
       (record { remote = refl; transport = refl; here = refl; waits = refl }) refl refl refl refl refl refl)
 
   permission_by : (transport : TransportType) (ip : IpAddr) (at : ℕ) (ret : Result (Unit {0}) CreatePermissionError) (q : Protocol) (refusal : Option CreatePermissionError) → ret ≢ Err not_permitted.NoMemory
       → IfSome refusal (λ error. (ret ≡ Err error) × (q ≡ refused_in (allocation_for transport ip p) transport ip at p))
-      → IfNone refusal (MatchResult ret (λ _. IsPermissionAsked p transport ip at q) (λ error. (error ≡ not_permitted.NoMemory) × (q ≡ after_number p))) → Speaking q
+      → IfNone refusal (MatchResult ret (λ _. IsPermissionRequested p transport ip at q) (λ error. (error ≡ not_permitted.NoMemory) × (q ≡ after_number p))) → Speaking q
   permission_by transport ip at ret q (Some error) ample refused made = subst (λ (y : Protocol). Speaking y) (sym refused.1) (refused_so transport ip at (allocation_for transport ip p))
   permission_by transport ip at (Ok done) q None ample refused made = permission_made transport ip at q made
   permission_by transport ip at (Err error) q None ample refused made = absurd (ample (ap Err made.0))
 
   pub permission_speaks : (transport : TransportType) (ip : IpAddr) (at : ℕ) (ret : Result (Unit {0}) CreatePermissionError) (q : Protocol) → ret ≢ Err not_permitted.NoMemory → IsPermissionAnswered p transport ip at ret q → Speaking q
-  permission_speaks transport ip at ret q ample r = permission_by transport ip at ret q (permission_refusal p transport ip at) ample r.refused r.asked
+  permission_speaks transport ip at ret q ample r = permission_by transport ip at ret q (permission_refusal p transport ip at) ample r.refused r.requested
 
   bind_refused_so : (transport : TransportType) (peer : SocketAddr) (at : ℕ) (found : Option Allocation) → Speaking (bind_refused_in found transport peer at p)
   bind_refused_so transport peer at None = is
@@ -300,15 +300,15 @@ module _ (b : Beginning) (realm : List ℕ) (address : SocketAddr) (p : Protocol
   asking_stay channel number peer a = (let more = beside_stay (socket_ip peer) number (channel_asking.asking (record { channel = channel; peer = peer; numbers = number ∷ [] }) a) in
       record { transport = more.transport; address = more.address })
 
-  channel_made : (transport : TransportType) (peer : SocketAddr) (channel at : ℕ) (q : Protocol) → IsChannelAsked p transport peer channel at q → Speaking q
-  unfolding after_binding asked
+  channel_made : (transport : TransportType) (peer : SocketAddr) (channel at : ℕ) (q : Protocol) → IsChannelRequested p transport peer channel at q → Speaking q
+  unfolding after_binding requested
   channel_made transport peer channel at q r = subst (λ (y : Protocol). Speaking y) (sym r.after)
       (made_so (after_binding transport peer channel r.number at p) at (is_of transport (family_of_socket peer)) (asking_channel channel peer r.number) (asking_stay channel r.number peer)
       (record { remote = refl; transport = refl; here = refl; waits = refl }) refl refl refl refl refl refl)
 
   channel_by : (transport : TransportType) (peer : SocketAddr) (at : ℕ) (ret : Result (Unit {0}) BindChannelError) (q : Protocol) (free : Option ℕ) → ret ≢ Err not_bound.NoMemory
       → MatchOption free ((ret ≡ Err not_bound.NoChannel) × (q ≡ p))
-      (λ channel. MatchResult ret (λ _. IsChannelAsked p transport peer channel at q) (λ error. (error ≡ not_bound.NoMemory) × (q ≡ after_number p))) → Speaking q
+      (λ channel. MatchResult ret (λ _. IsChannelRequested p transport peer channel at q) (λ error. (error ≡ not_bound.NoMemory) × (q ≡ after_number p))) → Speaking q
   channel_by transport peer at ret q None ample r = unchanged q r.1
   channel_by transport peer at (Ok done) q (Some channel) ample r = channel_made transport peer channel at q r
   channel_by transport peer at (Err error) q (Some channel) ample r = absurd (ample (ap Err r.0))

@@ -9,8 +9,8 @@ use Rattle.turn_client_proto_messages.specs.StunTypesWire.Attributes.{kind_at}
 use Rattle.turn_client_proto_messages.specs.StunTypesWire.declared.class.MessageClass.{MessageClass}
 use Rattle.turn_client_proto_messages.specs.StunTypesWire.declared.class.MessageClass.TheVariants.{Success}
 use Rattle.turn_client_proto_messages.specs.StunTypesWire.Types.{class_of, is_response_class}
-use Rattle.turn_client_proto_messages.specs.StunProtoClient.Challenges.{challenge_shown, is_challenge_code, is_error, told_of}
-use Rattle.turn_client_proto_messages.specs.StunProtoAuth.Claims.{claimed, code_shown}
+use Rattle.turn_client_proto_messages.specs.StunProtoClient.Challenges.{challenge_visible, is_challenge_code, is_error, reported_of}
+use Rattle.turn_client_proto_messages.specs.StunProtoAuth.Claims.{claimed, code_visible}
 use Rattle.turn_client_proto_messages.specs.StunProtoTransaction.Agents.{Transaction}
 use Rattle.turn_client_proto_messages.specs.StunProtoAgent.Handling.{is_response}
 use Rattle.turn_client_proto_messages.proofs.StunProtoTransaction.Leasts.{same_number}
@@ -39,7 +39,7 @@ put_there m key x =
     let same : is_eq (nat_cmp key key) ≡ true = (eq_by_cmp_equiv nat_cmp_total).refl key in
     map.get-insert nat_cmp_total m key x key ∙ ap (λ (y : Bool). cond y (Some x) (map.get m key)) same
 
--- what is found after one was put is that one, or was there before under another number
+-- What is found after an insertion is the inserted one, or was there before under another key.
 pub put_or : (m : Table) (key : ℕ) (x : Transaction) (other : ℕ) (y : Transaction) → map.get (map.insert m key x) other ≡ Some y
     → ((other ≡ key) × (y ≡ x)) ⊎ ((is_eq (nat_cmp other key) ≡ false) × (map.get m other ≡ Some y))
 put_or m key x other y there =
@@ -53,9 +53,9 @@ stays_there m key other apart = map.get-remove nat_cmp_total m key other ∙ ap 
 
 -- ---- a poll
 
--- memory was refused, or not
+-- Memory ran out, or it did not.
 pub refused_or : (p : Protocol) (now : ℕ) (ret : TurnPollRet) (q : Protocol) → IsPolled p now ret q → IsPolledBy p.events p now ret q ⊎ ((ret ≡ answer.NoMemory) × IsRefused p now q)
-refused_or p now (answer.WaitUntil moment) q is = inl is
+refused_or p now (answer.WaitUntil time) q is = inl is
 refused_or p now (answer.AllocateTcpSocket connection socket peer) q is = inl is
 refused_or p now (answer.TcpClose near far) q is = inl is
 refused_or p now answer.Closed q is = inl is
@@ -63,9 +63,9 @@ refused_or p now answer.NoMemory q is = inr (refl, is)
 
 -- ---- a success
 
--- it is a response, and no challenge
+-- A success is a response, and no challenge.
 pub successes_respond : (bytes : List ℕ) → class_of (kind_at bytes) ≡ Success → is_response bytes ≡ true
 successes_respond bytes is = ap is_response_class is
 
-pub no_challenge : (bytes : List ℕ) → class_of (kind_at bytes) ≡ Success → challenge_shown bytes ≡ None
-no_challenge bytes is = ap (λ (c : MessageClass). if is_error c && is_challenge_code (code_shown bytes) then told_of (claimed bytes) else None) is
+pub no_challenge : (bytes : List ℕ) → class_of (kind_at bytes) ≡ Success → challenge_visible bytes ≡ None
+no_challenge bytes is = ap (λ (c : MessageClass). if is_error c && is_challenge_code (code_visible bytes) then reported_of (claimed bytes) else None) is

@@ -1,4 +1,4 @@
--- An allocation that lasts for a term: what it wants at a moment, and what a poll makes of it.
+-- An allocation that lasts for a term: what is to be sent for it at a time, and what a poll does to it.
 use Rattle.std.proofs.Common.{◌≡◌, ℕ, ◌+◌, ◌-◌, ◌*◌, ◌/◌, ◌<◌, ◌≤◌, arith, Bool, true, false, List, [], ◌∷◌, Option, Some, None, refl, ap, ◌∙◌, map as map_list}
 use Rattle.std.specs.Prelude.{nat_le, ◌&&◌, ◌||◌, max, if◌then◌else◌, is_some, find}
 use Rattle.std.specs.List.{cons_option}
@@ -6,20 +6,20 @@ use Rattle.std.specs.Option.{option_and_then, option_map, option_or}
 use Rattle.std.proofs.lemmas.Bool.{le-leb, lt-leb, lt-ltb}
 use Rattle.std.specs.declared.net.ip_addr.IpAddr.{IpAddr}
 use Rattle.std.specs.declared.net.socket_addr.SocketAddr.{SocketAddr}
-use Rattle.turn_client_proto_messages.specs.StunTypesBase.Moments.{moment_after}
-use Rattle.turn_client_proto_step_laws.specs.Peers.Channel.Lapsing as channels
+use Rattle.turn_client_proto_messages.specs.StunTypesBase.Times.{time_after}
+use Rattle.turn_client_proto_step_laws.specs.Peers.Channel.Expiring as channels
 use Rattle.turn_client_proto_messages.specs.Allocation.Channels.{wants_renewal as channel_wants}
 use Rattle.turn_client_proto_step_laws.specs.Peers.Channel.Wanting as channel_wanting
-use Rattle.turn_client_proto_step_laws.specs.Connection.Lapsing as joined
-use Rattle.turn_client_proto_step_laws.specs.Connection.Told.{given_up}
-use Rattle.turn_client_proto_step_laws.specs.Peers.Permission.Telling as permissions
+use Rattle.turn_client_proto_step_laws.specs.Connection.Expiring as joined
+use Rattle.turn_client_proto_step_laws.specs.Connection.Reported.{given_up}
+use Rattle.turn_client_proto_step_laws.specs.Peers.Permission.Reporting as permissions
 use Rattle.turn_client_proto_step_laws.specs.Peers.Permission.Wanting as permission_wanting
-use Rattle.turn_client_proto_step_laws.specs.Timers.Telling as telling
+use Rattle.turn_client_proto_step_laws.specs.Timers.Reporting as reporting
 use Rattle.turn_client_proto_step_laws.specs.Timers.Wanting.{channel_wanted, permission_wanted, refreshed_first, want, wanted}
 use Rattle.turn_client_proto_step_laws.specs.Timers.declared.wanting.Want.{Want}
 use Rattle.turn_client_proto_step_laws.specs.Timers.declared.wanting.Want.TheVariants.{Channel, Refresh, Permission}
 use Rattle.turn_client_proto_messages.specs.Allocation.Permissions.{wants_renewal}
-use Rattle.turn_client_proto_messages.specs.Allocation.Polling.{kept, next_of as next_of_allocation, nexts, polled, stays}
+use Rattle.turn_client_proto_messages.specs.Allocation.Polling.{stored, next_of as next_of_allocation, nexts, polled, stays}
 use Rattle.turn_client_proto_messages.specs.Allocation.Refreshing.{renewal, renewed_before, second, short_lifetime, wants_refresh}
 use Rattle.turn_client_proto_messages.specs.Allocation.declared.allocation.Allocation.{Allocation}
 use Rattle.turn_client_proto_messages.specs.Allocation.declared.channel.Channel.{Channel as OneChannel}
@@ -33,7 +33,7 @@ module _ (b : Beginning) (address : SocketAddr) (t : Term) where
   lone = held_for b address t []
 
   abbrev pub expiry : ℕ
-  expiry = moment_after t.from (t.lifetime * second)
+  expiry = time_after t.from (t.lifetime * second)
 
   module _ (is : IsTerm t) where
     pub far : expiry ≡ t.from + t.lifetime * second
@@ -68,7 +68,7 @@ module _ (b : Beginning) (address : SocketAddr) (t : Term) where
 
     no_permission : (now : ℕ) → permission_wanting.renewal_wanted now lone ≡ None
     unfolding permission_wanting.renewal_wanted
-    no_permission now = none_of (permission_wanting.stands now lone)
+    no_permission now = none_of (permission_wanting.occurs now lone)
       where
         none_of : (x : Bool) → (if x then option_map (λ (p : OnePermission). p.ip) (find (wants_renewal now) []) else None) ≡ None
         none_of true = refl
@@ -76,7 +76,7 @@ module _ (b : Beginning) (address : SocketAddr) (t : Term) where
 
     no_channel : (now : ℕ) → channel_wanting.renewal_wanted now lone ≡ None
     unfolding channel_wanting.renewal_wanted
-    no_channel now = none_of (permission_wanting.stands now lone)
+    no_channel now = none_of (permission_wanting.occurs now lone)
       where
         none_of : (x : Bool) → (if x then option_map {U = ℕ × SocketAddr} (λ (c : OneChannel). (c.number, c.peer)) (find (channel_wants now) []) else None) ≡ None
         none_of true = refl
@@ -114,26 +114,26 @@ module _ (b : Beginning) (address : SocketAddr) (t : Term) where
       unfolding next_of_allocation
       next_is ready = ap (λ (m : ℕ). Some (max m ready)) renewal_is
 
-      kept_is : kept None now (lone ∷ []) ≡ lone ∷ []
-      kept_is = ap (λ (x : Bool). if x then lone ∷ [] else []) stays_on
+      stored_is : stored None now (lone ∷ []) ≡ lone ∷ []
+      stored_is = ap (λ (x : Bool). if x then lone ∷ [] else []) stays_on
 
-      pub nexts_are : (ready : ℕ) → nexts None ready now (kept None now (lone ∷ [])) ≡ max (due_of t) ready ∷ []
-      nexts_are ready = ap (λ (l : List Allocation). nexts None ready now l) kept_is ∙ ap (λ (o : Option ℕ). cons_option o []) (next_is ready)
+      pub nexts_are : (ready : ℕ) → nexts None ready now (stored None now (lone ∷ [])) ≡ max (due_of t) ready ∷ []
+      nexts_are ready = ap (λ (l : List Allocation). nexts None ready now l) stored_is ∙ ap (λ (o : Option ℕ). cons_option o []) (next_is ready)
 
       polled_is : polled None lone ≡ lone
       unfolding polled
       polled_is = refl
 
-      pub left_is : map_list (polled None) (kept None now (lone ∷ [])) ≡ lone ∷ []
-      left_is = ap (λ (l : List Allocation). map_list (polled None) l) kept_is ∙ ap (λ (x : Allocation). x ∷ []) polled_is
+      pub left_is : map_list (polled None) (stored None now (lone ∷ [])) ≡ lone ∷ []
+      left_is = ap (λ (l : List Allocation). map_list (polled None) l) stored_is ∙ ap (λ (x : Allocation). x ∷ []) polled_is
 
-      pub untouched : map_list (telling.polled None now) (lone ∷ []) ≡ lone ∷ []
-      unfolding joined.polled channels.polled channels.lapsed permissions.polled given_up
+      pub untouched : map_list (reporting.polled None now) (lone ∷ []) ≡ lone ∷ []
+      unfolding joined.polled channels.polled channels.expired permissions.polled given_up
       untouched = refl
 
-      pub none_told : telling.all_failures None now (lone ∷ []) ≡ []
-      unfolding telling.failures telling.relay_failures telling.connection_failures
-      none_told = refl
+      pub none_decoded : reporting.all_failures None now (lone ∷ []) ≡ []
+      unfolding reporting.failures reporting.relay_failures reporting.connection_failures
+      none_decoded = refl
 
       pub no_permissions : (ready : ℕ) → permissions.all_nexts None ready now (lone ∷ []) ≡ []
       no_permissions ready = refl

@@ -1,22 +1,22 @@
--- What a client answers when it is polled that keeps an allocation, by the contract of `poll` alone.
+-- What a client that keeps an allocation returns when it is polled, by the contract of `poll` alone.
 use Rattle.std.proofs.Common.{◌≡◌, ℕ, zero, suc, ◌<◌, ◌≤◌, arith, false, List, [], ◌∷◌, ◌++◌, Option, None, refl, sym, ap, ◌∙◌, subst, inl, inr, append-nil, map as map_list}
 use Rattle.std.specs.Prelude.{max, min, MatchOption}
 use Rattle.std.specs.List.{Contains, list_any}
 use Rattle.std.specs.declared.net.socket_addr.SocketAddr.{SocketAddr}
 use Rattle.turn_client_proto_messages.specs.StunProtoTransaction.Least.{IsLeastOf}
-use Rattle.turn_client_proto_messages.specs.StunTypesBase.Moments.{moment_after}
+use Rattle.turn_client_proto_messages.specs.StunTypesBase.Times.{time_after}
 use Rattle.turn_client_proto_messages.specs.StunProtoAgent.State as agents
 use Rattle.turn_client_proto_messages.specs.StunProtoAgent.declared.agent.StunAgentPollRet.{StunAgentPollRet}
 use Rattle.turn_client_proto_messages.specs.StunProtoAgent.declared.agent.StunAgentPollRet.TheVariants.{TransactionCancelled, TransactionTimedOut, WaitUntil}
 use Rattle.turn_client_proto_messages.specs.Waiting.{Queued, is_answer}
 use Rattle.turn_client_proto_handshake_laws.specs.Core.declared.protocol.Phase.{Phase}
 use Rattle.turn_client_proto_handshake_laws.specs.Core.declared.protocol.Protocol.{Protocol}
-use Rattle.turn_client_proto_step_laws.specs.Peers.Channel.Lapsing as channels
-use Rattle.turn_client_proto_step_laws.specs.Connection.Lapsing as joined
+use Rattle.turn_client_proto_step_laws.specs.Peers.Channel.Expiring as channels
+use Rattle.turn_client_proto_step_laws.specs.Connection.Expiring as joined
 use Rattle.turn_client_proto_step_laws.specs.Connection.Waiting.{unasked}
-use Rattle.turn_client_proto_step_laws.specs.Peers.Permission.Telling as permissions
-use Rattle.turn_client_proto_step_laws.specs.Timers.Telling as telling
-use Rattle.turn_client_proto_messages.specs.Allocation.Polling.{kept, nexts, polled}
+use Rattle.turn_client_proto_step_laws.specs.Peers.Permission.Reporting as permissions
+use Rattle.turn_client_proto_step_laws.specs.Timers.Reporting as reporting
+use Rattle.turn_client_proto_messages.specs.Allocation.Polling.{stored, nexts, polled}
 use Rattle.turn_client_proto_messages.specs.Allocation.declared.allocation.Allocation.{Allocation}
 use Rattle.turn_client_proto_messages.specs.Allocation.declared.connection.Waiting.{Waiting}
 use Rattle.turn_client_proto_messages.specs.Api.declared.answer.TurnPollRet.{TurnPollRet}
@@ -24,10 +24,10 @@ use Rattle.turn_client_proto_messages.specs.Api.declared.answer.TurnPollRet.TheV
 use Rattle.turn_client_proto_messages.specs.Api.declared.event.TurnEvent.{TurnEvent}
 use Rattle.turn_client_proto_handshake_laws.specs.Choosing.{Choice}
 use Rattle.turn_client_proto_handshake_laws.specs.Driving.{client_end}
-use Rattle.turn_client_proto_step_laws.specs.Timers.Polling.{Answers, HasToTellIn, IsClosing, IsPolled, IsPolledBy, IsPolledIn, IsPolledStanding, IsRefused, IsTicked, IsWalked, after_asking, after_time, answer_of, cadence, ended_of, left, longest_pause, ready_after, socket_for, wait_of, wait_to_send}
+use Rattle.turn_client_proto_step_laws.specs.Timers.Polling.{Answers, HasToReportIn, IsClosing, IsPolled, IsPolledBy, IsPolledIn, IsPolledStanding, IsRefused, IsAgentPolled, AreAllocationsPolled, after_asking, after_time, answer_of, cadence, ended_of, left, longest_pause, ready_after, socket_for, wait_of, wait_to_send}
 use Rattle.turn_client_proto_handshake_laws.specs.Sent.{Beginning}
 use Rattle.turn_client_proto_progress_laws.specs.Keeping.{IsKeeping, IsTerm, Term, WaitsToSend, due_of, next_of}
-use Rattle.turn_client_proto_progress_laws.proofs.Renewing.Lasting.{expiry, far, left_is, lone, nexts_are, no_channels, no_connections, no_permissions, none_gone, none_told, untouched}
+use Rattle.turn_client_proto_progress_laws.proofs.Renewing.Lasting.{expiry, far, left_is, lone, nexts_are, no_channels, no_connections, no_permissions, none_gone, none_decoded, untouched}
 use Rattle.turn_client_proto_progress_laws.proofs.Renewing.Tools.{refused_or, where_false}
 
 of_none : {A : Type 0} (x : ℕ) → Contains [] x → A
@@ -37,7 +37,7 @@ pub of_one : (n x : ℕ) → Contains (n ∷ []) x → x ≡ n
 of_one n x (zero, less, is) = sym is
 of_one n x (suc k, less, is) = absurd (omega (arith, less))
 
--- the least of nothing is the bound itself
+-- The least of no numbers is the bound itself.
 pub least_of_none : (most least : ℕ) → IsLeastOf most [] least → least ≡ most
 least_of_none most least is = elim is.reached [ inl same ↦ same | inr found ↦ of_none least found ]
 
@@ -47,11 +47,11 @@ module _ (b : Beginning) (c : Choice) (address : SocketAddr) (t : Term) (last : 
   before = let f = far b address t is in let enough = is.enough in omega (arith, f, by_due, enough)
 
   abbrev pause : ℕ
-  pause = wait_to_send p.last_send p.queue now (moment_after now longest_pause)
+  pause = wait_to_send p.last_send p.queue now (time_after now longest_pause)
 
-  -- the earliest of what the client, its agent and the allocation wait for
+  -- The earliest time for which the client, its agent and the allocation wait.
   abbrev bound : ℕ
-  bound = max (due_of t) (max (moment_after last cadence) now)
+  bound = max (due_of t) (max (time_after last cadence) now)
 
   pub record Bounds : Type 0 where
     pub by_next : (next : ℕ) → next ≤ pause → next ≤ bound → max next now ≤ next_of t last queue
@@ -60,25 +60,25 @@ module _ (b : Beginning) (c : Choice) (address : SocketAddr) (t : Term) (last : 
   -- ---- nothing goes
 
   left_here : left None now p ≡ lone b address t ∷ []
-  left_here = ap (λ (l : List Allocation). map_list (polled None) (kept None now l)) w.allocations ∙ left_is b address t is now before
+  left_here = ap (λ (l : List Allocation). map_list (polled None) (stored None now l)) w.allocations ∙ left_is b address t is now before
 
   stays_so : after_time None now p ≡ p
   unfolding after_time
   stays_so =
       ap (λ (l : List Allocation). record p {
-        allocations = map_list (telling.polled None now) l;
-        events = p.events ++ telling.all_failures None now l;
+        allocations = map_list (reporting.polled None now) l;
+        events = p.events ++ reporting.all_failures None now l;
         closing = p.closing ++ joined.all_gone None now l;
       }) left_here
       ∙ (ap (λ (l : List Allocation). record p {
         allocations = l;
-        events = p.events ++ telling.all_failures None now (lone b address t ∷ []);
+        events = p.events ++ reporting.all_failures None now (lone b address t ∷ []);
         closing = p.closing ++ joined.all_gone None now (lone b address t ∷ []);
       }) (untouched b address t is now before ∙ sym w.allocations)
       ∙ (ap (λ (l : List TurnEvent). record p {
         events = p.events ++ l;
         closing = p.closing ++ joined.all_gone None now (lone b address t ∷ []);
-      }) (none_told b address t is now before)
+      }) (none_decoded b address t is now before)
       ∙ (ap (λ (l : List SocketAddr). record p { events = p.events ++ []; closing = p.closing ++ l }) (none_gone b address t is now before)
       ∙ (ap (λ (l : List TurnEvent). record p { events = l; closing = p.closing ++ [] }) (append-nil p.events)
       ∙ ap (λ (l : List SocketAddr). record p { closing = l }) (append-nil p.closing)))))
@@ -90,11 +90,11 @@ module _ (b : Beginning) (c : Choice) (address : SocketAddr) (t : Term) (last : 
 
   -- ---- the walk
 
-  walked : Bounds → (until : ℕ) → now < until → IsWalked None (min pause until) p now ret q → WaitsToSend t last queue events now p ret q
+  walked : Bounds → (until : ℕ) → now < until → AreAllocationsPolled None (min pause until) p now ret q → WaitsToSend t last queue events now p ret q
   walked bounds until after st =
-      let ready : ready_after p.last_send now ≡ max (moment_after last cadence) now = ap (λ (l : Option ℕ). ready_after l now) w.last_send in
-      let list : nexts None (ready_after p.last_send now) now (kept None now p.allocations) ≡ bound ∷ [] =
-      ap (λ (l : List Allocation). nexts None (ready_after p.last_send now) now (kept None now l)) w.allocations
+      let ready : ready_after p.last_send now ≡ max (time_after last cadence) now = ap (λ (l : Option ℕ). ready_after l now) w.last_send in
+      let list : nexts None (ready_after p.last_send now) now (stored None now p.allocations) ≡ bound ∷ [] =
+      ap (λ (l : List Allocation). nexts None (ready_after p.last_send now) now (stored None now l)) w.allocations
       ∙ (nexts_are b address t is now before (ready_after p.last_send now) ∙ ap (λ (r : ℕ). max (due_of t) r ∷ []) ready) in
       let least = subst (λ (l : List ℕ). IsLeastOf (min pause until) l st.next) list st.least in
       let sooner_is = least_of_none st.next st.sooner (subst (λ (l : List ℕ). IsLeastOf st.next l st.sooner)
@@ -108,7 +108,7 @@ module _ (b : Beginning) (c : Choice) (address : SocketAddr) (t : Term) (last : 
       let within : st.next ≤ min pause until = least.within in
       let below : st.next ≤ bound = least.below zero 0 (omega arith) in
       record {
-        moment = max st.next now;
+        time = max st.next now;
         answer_is = out.0 ∙ (ap (λ (l : List Allocation). answer_of l None now st.first) left_here ∙ ap (λ (n : ℕ). answer.WaitUntil (max n now)) same);
         by_next = bounds.by_next st.next (omega (arith, within)) below;
         later = λ none soon. (let l = bounds.later soon in let l0 = l.0 in let l1 = l.1 in elim least.reached [
@@ -121,41 +121,41 @@ module _ (b : Beginning) (c : Choice) (address : SocketAddr) (t : Term) (last : 
   standing : Bounds → (until : ℕ) → now < until → IsPolledStanding None (min pause until) p now ret q → WaitsToSend t last queue events now p ret q
   standing bounds until after st =
       let none : unasked p.allocations ≡ None = ap unasked w.allocations in
-      walked bounds until after (subst (λ (o : Option Waiting). MatchOption o (IsWalked None (min pause until) p now ret q) (λ x. Answers (socket_for p x) (after_asking p) ret q)) none st)
+      walked bounds until after (subst (λ (o : Option Waiting). MatchOption o (AreAllocationsPolled None (min pause until) p now ret q) (λ x. Answers (socket_for p x) (after_asking p) ret q)) none st)
 
   abbrev Out : StunAgentPollRet → agents.Agent → Type 0
   Out ticked agent = IsPolledIn p.phase (ended_of ticked) (wait_of pause ticked) (record p { agent = agent }) now ret q
 
-  -- no transaction ends
+  -- No transaction ends.
   waits_on : {A : Type 0} (ticked : StunAgentPollRet) (agent : agents.Agent) → agents.IsPolled p.agent now ticked agent → ((until : ℕ) → ticked ≡ WaitUntil until → now < until → agent ≡ p.agent → A) → A
-  waits_on (TransactionTimedOut number) agent gone next = absurd (Prim.cc (sym (w.none_asked number) ∙ gone.least.present))
-  waits_on (TransactionCancelled number) agent gone next = absurd (Prim.cc (sym (w.none_asked number) ∙ gone.least.present))
+  waits_on (TransactionTimedOut number) agent gone next = absurd (Prim.cc (sym (w.none_requested number) ∙ gone.least.present))
+  waits_on (TransactionCancelled number) agent gone next = absurd (Prim.cc (sym (w.none_requested number) ∙ gone.least.present))
   waits_on (WaitUntil until) agent waits next =
-      let after : now < until = elim waits.1.reached [ inl e ↦ omega (arith, e, in_range) | inr some ↦ absurd (Prim.cc (sym (w.none_asked some.0) ∙ some.2)) ] in
+      let after : now < until = elim waits.1.reached [ inl e ↦ omega (arith, e, in_range) | inr some ↦ absurd (Prim.cc (sym (w.none_requested some.0) ∙ some.2)) ] in
       next until refl after waits.2
 
-  ticks : Bounds → IsTicked p now ret q → WaitsToSend t last queue events now p ret q
+  ticks : Bounds → IsAgentPolled p now ret q → WaitsToSend t last queue events now p ret q
   ticks bounds k =
       waits_on k.ticked k.agent k.is_ticked (λ until ticked after same.
       let one = subst (λ (x : StunAgentPollRet). Out x k.agent) ticked k.outcome in
       let two = subst (λ (g : agents.Agent). Out (WaitUntil until) g) same one in
       standing bounds until after (subst (λ (f : Phase). IsPolledIn f None (min pause until) p now ret q) w.phase two))
 
-  -- memory is never refused
+  -- Memory does not run out.
   none_refused : {A : Type 0} → IsRefused p now q → A
   none_refused r =
-      let k = r.has_to_tell in
+      let k = r.has_to_report in
       waits_on k.ticked k.agent k.is_ticked (λ until ticked after same.
-      let one = subst (λ (x : StunAgentPollRet). HasToTellIn p.phase (ended_of x) (record p { agent = k.agent }) now) ticked k.tells in
-      let two = subst (λ (g : agents.Agent). HasToTellIn p.phase None (record p { agent = g }) now) same one in
-      let tells = subst (λ (f : Phase). HasToTellIn f None p now) w.phase two in
-      absurd (tells.1 (ap (λ (l : List Allocation). telling.all_failures None now l) left_here ∙ none_told b address t is now before)))
+      let one = subst (λ (x : StunAgentPollRet). HasToReportIn p.phase (ended_of x) (record p { agent = k.agent }) now) ticked k.decodes in
+      let two = subst (λ (g : agents.Agent). HasToReportIn p.phase None (record p { agent = g }) now) same one in
+      let decodes = subst (λ (f : Phase). HasToReportIn f None p now) w.phase two in
+      absurd (decodes.1 (ap (λ (l : List Allocation). reporting.all_failures None now l) left_here ∙ none_decoded b address t is now before)))
 
   by_events : Bounds → (l : List TurnEvent) → l ≡ events → IsPolledBy l p now ret q → WaitsToSend t last queue events now p ret q
   by_events bounds [] none by =
-      ticks bounds (where_false (Answers (answer.WaitUntil now) p ret q) (IsTicked p now ret q) (list_any is_answer p.queue) (ap (list_any is_answer) w.queue_is ∙ unanswered) by)
+      ticks bounds (where_false (Answers (answer.WaitUntil now) p ret q) (IsAgentPolled p now ret q) (list_any is_answer p.queue) (ap (list_any is_answer) w.queue_is ∙ unanswered) by)
   by_events bounds (e ∷ rest) some by = record {
-    moment = now;
+    time = now;
     answer_is = by.0;
     by_next = reached;
     later = λ none. absurd (Prim.cc (some ∙ none));
@@ -172,16 +172,16 @@ bounds : (b : Beginning) (c : Choice) (address : SocketAddr) (t : Term) (last : 
     (unanswered : list_any is_answer queue ≡ false) (is : IsTerm t) (now : ℕ) (in_range : now ≤ client_end) (by_due : now ≤ due_of t) (reached : now ≤ next_of t last queue) (ret : TurnPollRet) (q : Protocol)
     → Bounds b c address t last queue events p w unanswered is now in_range by_due reached ret q
 bounds b c address t last [] events p w unanswered is now in_range by_due reached ret q =
-    let pause_is : wait_to_send p.last_send p.queue now (moment_after now longest_pause) ≡ moment_after now longest_pause =
-    ap (λ (l : List Queued). wait_to_send p.last_send l now (moment_after now longest_pause)) w.queue_is in
+    let pause_is : wait_to_send p.last_send p.queue now (time_after now longest_pause) ≡ time_after now longest_pause =
+    ap (λ (l : List Queued). wait_to_send p.last_send l now (time_after now longest_pause)) w.queue_is in
     record {
       by_next = λ next one two. omega (arith, two, reached);
       later = λ soon. ((omega (arith, pause_is, in_range)), (omega (arith, soon)));
     }
 bounds b c address t last (one ∷ rest) events p w unanswered is now in_range by_due reached ret q =
-    let pause_is : wait_to_send p.last_send p.queue now (moment_after now longest_pause) ≡ min (moment_after now longest_pause) (moment_after last cadence) =
-    ap (λ (l : List Queued). wait_to_send p.last_send l now (moment_after now longest_pause)) w.queue_is
-    ∙ ap (λ (l : Option ℕ). wait_to_send l (one ∷ rest) now (moment_after now longest_pause)) w.last_send in
+    let pause_is : wait_to_send p.last_send p.queue now (time_after now longest_pause) ≡ min (time_after now longest_pause) (time_after last cadence) =
+    ap (λ (l : List Queued). wait_to_send p.last_send l now (time_after now longest_pause)) w.queue_is
+    ∙ ap (λ (l : Option ℕ). wait_to_send l (one ∷ rest) now (time_after now longest_pause)) w.last_send in
     record {
       by_next = λ next first two. omega (arith, first, pause_is, reached);
       later = λ soon. ((omega (arith, pause_is, in_range, soon)), (omega (arith, soon)));

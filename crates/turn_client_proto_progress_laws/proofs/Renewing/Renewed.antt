@@ -1,4 +1,4 @@
--- What a client makes of the success of its REFRESH, by the contract of `handle_message` alone.
+-- What a client does with the success response to its REFRESH, by the contract of `handle_message` alone.
 use Rattle.std.proofs.Common.{◌≡◌, ℕ, ◌≤◌, Bool, true, false, List, [], ◌∷◌, Option, Some, None, refl, sym, ap, ◌∙◌, subst, map as map_list}
 use Rattle.std.specs.Prelude.{◌==◌, ◌&&◌, ◌||◌, Result, Ok, Err, is_some, if◌then◌else◌}
 use Rattle.std.specs.Bool.{MatchBool}
@@ -13,8 +13,8 @@ use Rattle.turn_client_proto_messages.specs.StunTypesWire.declared.algorithm.Int
 use Rattle.turn_client_proto_messages.specs.StunTypesWire.declared.class.MessageClass.{MessageClass}
 use Rattle.turn_client_proto_messages.specs.StunTypesWire.Registry.{allocation_mismatch_code}
 use Rattle.turn_client_proto_messages.specs.StunTypesWire.Types.{class_of, is_response_class, method_of}
-use Rattle.turn_client_proto_messages.specs.StunProtoClient.Challenges.{challenge_shown, is_challenge_code, is_error, told_of}
-use Rattle.turn_client_proto_messages.specs.StunProtoAuth.Claims.{claimed, code_shown}
+use Rattle.turn_client_proto_messages.specs.StunProtoClient.Challenges.{challenge_visible, is_challenge_code, is_error, reported_of}
+use Rattle.turn_client_proto_messages.specs.StunProtoAuth.Claims.{claimed, code_visible}
 use Rattle.turn_client_proto_messages.specs.StunProtoClient.Client as auth
 use Rattle.turn_client_proto_messages.specs.StunProtoClient.declared.error.LongTermClientAuthError.{LongTermClientAuthError}
 use Rattle.turn_client_proto_messages.specs.StunProtoClient.ClientSteps.{accepted_by}
@@ -29,15 +29,15 @@ use Rattle.turn_client_proto_handshake_laws.specs.Core.Attempting.{IsAttemptTake
 use Rattle.turn_client_proto_handshake_laws.specs.Core.Binding.{IsBindResponded}
 use Rattle.turn_client_proto_handshake_laws.specs.Core.Outcomes.{IsHandled, IsIgnored}
 use Rattle.turn_client_proto_handshake_laws.specs.Core.Permitting.{IsPermissionResponded}
-use Rattle.turn_client_proto_handshake_laws.specs.Core.Receiving.{IsFollowed, IsHeard, IsHeardIn}
+use Rattle.turn_client_proto_handshake_laws.specs.Core.Receiving.{IsFollowed, IsProcessed, IsProcessedIn}
 use Rattle.turn_client_proto_messages.specs.TurnRuns.Indications.{is_indication}
 use Rattle.turn_client_proto_handshake_laws.specs.Core.Responding.{accepted, is_error_class, judged}
-use Rattle.turn_client_proto_messages.specs.Told.{first_code, is_code, lifetime_told}
+use Rattle.turn_client_proto_messages.specs.Reported.{first_code, is_code, lifetime_reported}
 use Rattle.turn_client_proto_handshake_laws.specs.Core.Standing.{IsConnectResponded, IsJudgedStanding, IsRequestAnswered, IsTakenUp, after_refresh, deallocated, is_refreshed, refreshed}
 use Rattle.turn_client_proto_handshake_laws.specs.Core.declared.protocol.Phase.{Phase}
 use Rattle.turn_client_proto_handshake_laws.specs.Core.declared.protocol.Protocol.{Protocol}
 use Rattle.turn_client_proto_messages.specs.TurnTypesAttributes.TurnRegistry.{channel_bind_method, connect_method, create_permission_method}
-use Rattle.turn_client_proto_messages.specs.Allocation.Refreshing.{ends_by, is_end, least_lifetime, lifetime_asked, renewed, renewed_by}
+use Rattle.turn_client_proto_messages.specs.Allocation.Refreshing.{ends_by, is_end, least_lifetime, lifetime_requested, renewed, renewed_by}
 use Rattle.turn_client_proto_messages.specs.Allocation.declared.allocation.Allocation.{Allocation}
 use Rattle.turn_client_proto_messages.specs.Allocation.declared.refresh.PendingRefresh.{PendingRefresh}
 use Rattle.turn_client_proto_messages.specs.Api.declared.event.TurnEvent.{TurnEvent}
@@ -55,16 +55,16 @@ module _ (b : Beginning) (c : Choice) (address : SocketAddr) (t : Term) (number 
   responds = ap is_response_class is.success
 
   awaited : is_awaited p.agent bytes ≡ true
-  awaited = ap (λ (n : ℕ). is_some (map.get p.agent.outstanding n)) is.number_is ∙ ap is_some w.asked.there
+  awaited = ap (λ (n : ℕ). is_some (map.get p.agent.outstanding n)) is.number_is ∙ ap is_some w.requested.there
 
   both : (is_response bytes && is_awaited p.agent bytes) ≡ true
   both = ap (λ (x : Bool). x && is_awaited p.agent bytes) responds ∙ awaited
 
-  no_challenge : challenge_shown bytes ≡ None
-  no_challenge = ap (λ (k : MessageClass). if is_error k && is_challenge_code (code_shown bytes) then told_of (claimed bytes) else None) is.success
+  no_challenge : challenge_visible bytes ≡ None
+  no_challenge = ap (λ (k : MessageClass). if is_error k && is_challenge_code (code_visible bytes) then reported_of (claimed bytes) else None) is.success
 
-  stands : auth.standing_of p.auth ≡ Some (standing_by b c)
-  stands = ap auth.standing_of w.auth
+  occurs : auth.standing_of p.auth ≡ Some (standing_by b c)
+  occurs = ap auth.standing_of w.auth
 
   -- ---- the allocation
 
@@ -74,29 +74,29 @@ module _ (b : Beginning) (c : Choice) (address : SocketAddr) (t : Term) (number 
   abbrev pending : Allocation
   pending = held_for b address t (own ∷ [])
 
-  abbrev kept : Allocation
-  kept = held_for b address (next_term t lifetime now) []
+  abbrev stored : Allocation
+  stored = held_for b address (next_term t lifetime now) []
 
-  its_own : lifetime_asked (number_at bytes) (own ∷ []) ≡ Some allocation_lifetime
+  its_own : lifetime_requested (number_at bytes) (own ∷ []) ≡ Some allocation_lifetime
   its_own = ap (λ (x : Bool). option_map (λ (r : PendingRefresh). r.lifetime) (if x then Some own else None)) (eq-eqb number (number_at bytes) (sym is.number_is))
 
   not_ended : ends_by (number_at bytes) pending ≡ false
   unfolding ends_by
   not_ended = ap is_end its_own
 
-  renewed_so : renewed (number_at bytes) now (Some lifetime) pending ≡ kept
+  renewed_so : renewed (number_at bytes) now (Some lifetime) pending ≡ stored
   unfolding renewed
   renewed_so =
       ap (λ (o : Option ℕ). renewed_by now (Some lifetime) o pending) its_own
-      ∙ ap (λ (x : Bool). if x then kept else pending) (le-leb least_lifetime lifetime enough)
+      ∙ ap (λ (x : Bool). if x then stored else pending) (le-leb least_lifetime lifetime enough)
 
-  after : (k : Protocol) → k.allocations ≡ pending ∷ [] → after_refresh bytes now k ≡ record k { allocations = kept ∷ [] }
+  after : (k : Protocol) → k.allocations ≡ pending ∷ [] → after_refresh bytes now k ≡ record k { allocations = stored ∷ [] }
   unfolding after_refresh refreshed
   after k same =
       let ok : is_refreshed bytes ≡ true = ap (λ (m : MessageClass). if is_error_class m then is_code allocation_mismatch_code (first_code bytes) else true) is.success in
       ap (λ (x : Bool). if x then refreshed bytes now k else k) ok
-      ∙ (ap (λ (l : List Allocation). if list_any (ends_by (number_at bytes)) l then deallocated k else record k { allocations = map_list (renewed (number_at bytes) now (lifetime_told bytes)) l }) same
-      ∙ (ap (λ (x : Bool). if x || false then deallocated k else record k { allocations = renewed (number_at bytes) now (lifetime_told bytes) pending ∷ [] }) not_ended
+      ∙ (ap (λ (l : List Allocation). if list_any (ends_by (number_at bytes)) l then deallocated k else record k { allocations = map_list (renewed (number_at bytes) now (lifetime_reported bytes)) l }) same
+      ∙ (ap (λ (x : Bool). if x || false then deallocated k else record k { allocations = renewed (number_at bytes) now (lifetime_reported bytes) pending ∷ [] }) not_ended
       ∙ (ap (λ (o : Option ℕ). record k { allocations = renewed (number_at bytes) now o pending ∷ [] }) is.lifetime_is
       ∙ ap (λ (x : Allocation). record k { allocations = x ∷ [] }) renewed_so)))
 
@@ -105,7 +105,7 @@ module _ (b : Beginning) (c : Choice) (address : SocketAddr) (t : Term) (number 
   abbrev Keeps : Protocol → Type 0
   Keeps x = IsKeeping b c address (next_term t lifetime now) last [] events x
 
-  keeps : (client : auth.Client) → client ≡ signed_by b c → Keeps (record p { auth = client; agent = answered_by p.agent bytes p.server; resends = 0; allocations = kept ∷ [] })
+  keeps : (client : auth.Client) → client ≡ signed_by b c → Keeps (record p { auth = client; agent = answered_by p.agent bytes p.server; resends = 0; allocations = stored ∷ [] })
   keeps client client_is = record {
     settings = record {
       server = w.settings.server;
@@ -116,7 +116,7 @@ module _ (b : Beginning) (c : Choice) (address : SocketAddr) (t : Term) (number 
       allocates = w.settings.allocates;
       families = w.settings.families;
     };
-    none_asked = none_left p.agent.outstanding (number_at bytes) (λ other x there. w.asked.only other x there ∙ sym is.number_is);
+    none_requested = none_left p.agent.outstanding (number_at bytes) (λ other x there. w.requested.only other x there ∙ sym is.number_is);
     phase = w.phase;
     auth = client_is;
     allocations = refl;
@@ -143,22 +143,22 @@ module _ (b : Beginning) (c : Choice) (address : SocketAddr) (t : Term) (number 
       let agent_is : after_message p.agent bytes p.server ≡ answered_by p.agent bytes p.server = ap (λ (x : Bool). if x then answered_by p.agent bytes p.server else p.agent) both in (
         two.0,
         subst (λ (x : Protocol). Keeps x) (sym (two.1 ∙ after k w.allocations))
-            (subst (λ (g : agents.Agent). Keeps (record p { auth = client; agent = g; resends = 0; allocations = kept ∷ [] })) (sym agent_is) (keeps client client_is)),
+            (subst (λ (g : agents.Agent). Keeps (record p { auth = client; agent = g; resends = 0; allocations = stored ∷ [] })) (sym agent_is) (keeps client client_is)),
       )
 
   accepted_so : (verdict : Result LongTermClientValidation LongTermClientAuthError) (client : auth.Client) → IsJudged p.auth bytes verdict client → accepted_by verdict ≡ Some c.algorithm
-  accepted_so verdict client j = right_is_accepted p.auth client bytes (standing_by b c) verdict j no_challenge stands is.right
+  accepted_so verdict client j = right_is_accepted p.auth client bytes (standing_by b c) verdict j no_challenge occurs is.right
 
   by_verdict : (verdict : Result LongTermClientValidation LongTermClientAuthError) (client : auth.Client) → IsJudged p.auth bytes verdict client → IsJudgedStanding verdict (judged client p) bytes now handled q → (handled ≡ true) × Keeps q
   by_verdict (Ok (ResendRequest choice)) client j out = absurd (Prim.cc (accepted_so (Ok (ResendRequest choice)) client j))
   by_verdict (Ok (Validated algorithm)) client j out =
       let same : Some algorithm ≡ Some c.algorithm = accepted_so (Ok (Validated algorithm)) client j in
-      taken client (j.kept ∙ (ap (λ (a : Option IntegrityAlgorithm). going_by p.auth a) same ∙ ap (λ (x : auth.Client). going_by x (Some c.algorithm)) w.auth)) out
+      taken client (j.stored ∙ (ap (λ (a : Option IntegrityAlgorithm). going_by p.auth a) same ∙ ap (λ (x : auth.Client). going_by x (Some c.algorithm)) w.auth)) out
   by_verdict (Err error) client j out = absurd (Prim.cc (accepted_so (Err error) client j))
 
-  pub renews : IsHeard p bytes now handled q → (handled ≡ true) × Keeps q
-  renews heard =
-      let in_phase = subst (λ (f : Phase). IsHeardIn f p bytes now handled q) w.phase heard in
+  pub renews : IsProcessed p bytes now handled q → (handled ≡ true) × Keeps q
+  renews processed =
+      let in_phase = subst (λ (f : Phase). IsProcessedIn f p bytes now handled q) w.phase processed in
       let no_indication : is_indication (class_of (kind_at bytes)) ≡ false = ap is_indication is.success in
       let f = where_false (IsIgnored p handled q) (IsFollowed IsJudgedStanding p bytes now handled q) (is_indication (class_of (kind_at bytes))) no_indication in_phase in
       by_verdict f.verdict f.auth f.is_judged f.outcome

@@ -28,14 +28,14 @@ either A false is = is
 pub clash : {A : Type 0} (b : Bool) → b ≡ true → b ≡ false → A
 clash b t f = absurd (Prim.cc (sym t ∙ f))
 
--- what is sent, where something is
+-- What is transmitted, if something is.
 pub sends_one : (answer : Option Sent) (Is : Sent → Type 0) → Sends answer Is → (sent : Sent) × (answer ≡ Some sent) × Is sent
 sends_one None Is is = absurd is
 sends_one (Some sent) Is is = (sent, refl, is)
 
--- memory was refused, or not
+-- Memory ran out, or it did not.
 pub refused_or : (p : Protocol) (now : ℕ) (ret : TurnPollRet) (q : Protocol) → IsPolled p now ret q → IsPolledBy p.events p now ret q ⊎ ((ret ≡ answer.NoMemory) × IsRefused p now q)
-refused_or p now (answer.WaitUntil moment) q is = inl is
+refused_or p now (answer.WaitUntil time) q is = inl is
 refused_or p now (answer.AllocateTcpSocket connection socket peer) q is = inl is
 refused_or p now (answer.TcpClose near far) q is = inl is
 refused_or p now answer.Closed q is = inl is
@@ -51,7 +51,7 @@ put_there m key x =
     let same : is_eq (nat_cmp key key) ≡ true = (eq_by_cmp_equiv nat_cmp_total).refl key in
     map.get-insert nat_cmp_total m key x key ∙ ap (λ (y : Bool). cond y (Some x) (map.get m key)) same
 
--- what is found after one was put is that one, or was there before
+-- What is found after an insertion is the inserted one, or was there before.
 pub put_or : (m : Table) (key : ℕ) (x : Transaction) (other : ℕ) (y : Transaction) → map.get (map.insert m key x) other ≡ Some y → (other ≡ key) ⊎ (map.get m other ≡ Some y)
 put_or m key x other y there =
     elim (is_eq (nat_cmp other key)) as (λ (z : Bool). is_eq (nat_cmp other key) ≡ z → cond z (Some x) (map.get m other) ≡ Some y → (other ≡ key) ⊎ (map.get m other ≡ Some y)) [
@@ -59,7 +59,7 @@ put_or m key x other y there =
       | false ↦ λ apart found. inr found
     ] refl (sym (map.get-insert nat_cmp_total m key x other) ∙ there)
 
--- what is left after one was taken out was there before, under another number
+-- What is found after a removal was there before, under another key.
 taken_out : (m : Table) (key other : ℕ) (y : Transaction) → map.get (map.remove m key) other ≡ Some y
     → (is_eq (nat_cmp other key) ≡ false) × (map.get m other ≡ Some y)
 taken_out m key other y there =
@@ -74,7 +74,7 @@ none_found m number never = elim (map.get m number) as (λ (o : Option Transacti
   | Some t ↦ λ is. absurd (never t is)
 ] refl
 
--- once the only one was taken out, there is none
+-- Once the only element was removed, there is none.
 pub none_left : (m : Table) (key : ℕ) → ((other : ℕ) (t : Transaction) → map.get m other ≡ Some t → other ≡ key) → (number : ℕ) → map.get (map.remove m key) number ≡ None
 none_left m key only number = none_found (map.remove m key) number (λ x there.
     let old = taken_out m key number x there in

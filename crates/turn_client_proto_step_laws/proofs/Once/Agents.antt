@@ -1,4 +1,4 @@
--- What an agent answers when it is polled, and what it is then, are one.
+-- The result of polling an agent and the agent afterwards are determined.
 use Rattle.std.proofs.Common.{◌≡◌, ℕ, ◌≤◌, arith, Bool, true, false, sym, ap, ◌∙◌, inl, inr}
 use Rattle.std.specs.FinMap as map
 use Rattle.turn_client_proto_timers.specs.StunProtoAgent.declared.agent.StunAgentPollRet.{StunAgentPollRet}
@@ -27,7 +27,7 @@ module _ (old : Agent) (now : ℕ) where
   not_both : {A : Type 0} → true ≡ false → A
   not_both is = absurd (Prim.cc is)
 
-  -- ---- the next moment
+  -- ---- the next time
 
   no_later : (until other : ℕ) → IsNext old now until → IsNext old now other → until ≤ other
   no_later until other a b = elim b.reached [

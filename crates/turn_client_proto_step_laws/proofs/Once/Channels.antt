@@ -1,4 +1,4 @@
--- What a call for a channel is answered, and what the client is then, are one, but for want of memory.
+-- The result of a call for a channel and the client afterwards are determined, unless memory runs out.
 use Rattle.std.proofs.Common.{◌≡◌, ◌≢◌, ℕ, ◌<◌, Bool, Option, Some, None, Result, Ok, Err, IfNone, IfSome, refl, sym, ap, ◌∙◌, subst, inl, inr}
 use Rattle.std.proofs.lemmas.Bool.{cases_order}
 use Rattle.std.specs.Prelude.{MatchOption, MatchResult}
@@ -7,7 +7,7 @@ use Rattle.turn_client_proto_timers.specs.StunTypesBase.declared.transport.Trans
 use Rattle.turn_client_proto_timers.specs.Api.declared.error.BindChannelError.{BindChannelError}
 use Rattle.turn_client_proto_timers.specs.Api.declared.error.BindChannelError.TheVariants as channels
 use Rattle.turn_client_proto_timers.specs.Peers.Channel.Numbers.{IsLeastUntaken, is_taken}
-use Rattle.turn_client_proto_timers.specs.Core.Binding.{IsBindAnswered, IsBindTried, IsChannelAsked, after_binding, allocation_to, bind_refusal, bind_refused_in}
+use Rattle.turn_client_proto_timers.specs.Core.Binding.{IsBindAnswered, IsBindTried, IsChannelRequested, after_binding, allocation_to, bind_refusal, bind_refused_in}
 use Rattle.turn_client_proto_timers.specs.Core.Numbering.{after_number}
 use Rattle.turn_client_proto_timers.specs.Core.declared.protocol.Protocol.{Protocol}
 use Rattle.turn_client_proto_step_laws.proofs.Once.Numbering.{next_same}
@@ -39,14 +39,14 @@ module _ (taken : ℕ → Bool) where
 -- ---- the call
 
 module _ (old : Protocol) (transport : TransportType) (peer : SocketAddr) (now : ℕ) where
-  -- what is done with the least number that is free, or where none is
+  -- What is done with the least free number, or if there is none.
   abbrev Outcome : Option ℕ → Result (Unit {0}) BindChannelError → Protocol → Type 0
   Outcome free answer new = MatchOption free
       ((answer ≡ Err channels.NoChannel) × (new ≡ old))
-      (λ channel. MatchResult answer (λ _. IsChannelAsked old transport peer channel now new) (λ error. (error ≡ channels.NoMemory) × (new ≡ after_number old)))
+      (λ channel. MatchResult answer (λ _. IsChannelRequested old transport peer channel now new) (λ error. (error ≡ channels.NoMemory) × (new ≡ after_number old)))
 
-  asked_same : (channel : ℕ) (one other : Protocol) → IsChannelAsked old transport peer channel now one → IsChannelAsked old transport peer channel now other → one ≡ other
-  asked_same channel one other a b = a.after ∙ ap (λ (n : ℕ). after_binding transport peer channel n now old) (next_same old a.number b.number a.is_next b.is_next) ∙ sym b.after
+  requested_same : (channel : ℕ) (one other : Protocol) → IsChannelRequested old transport peer channel now one → IsChannelRequested old transport peer channel now other → one ≡ other
+  requested_same channel one other a b = a.after ∙ ap (λ (n : ℕ). after_binding transport peer channel n now old) (next_same old a.number b.number a.is_next b.is_next) ∙ sym b.after
 
   outcome_same : (free again_free : Option ℕ) (answer again : Result (Unit {0}) BindChannelError) (one other : Protocol) → free ≡ again_free → answer ≢ Err channels.NoMemory → again ≢ Err channels.NoMemory
       → Outcome free answer one → Outcome again_free again other → (answer ≡ again) × (one ≡ other)
@@ -57,7 +57,7 @@ module _ (old : Protocol) (transport : TransportType) (peer : SocketAddr) (now :
   outcome_same (Some channel) (Some number) (Ok _) (Err error) one other same enough ample a b = absurd (ample (ap (λ (e : BindChannelError). Err e) b.0))
   outcome_same (Some channel) (Some number) (Ok _) (Ok _) one other same enough ample a b =
       let alike : channel ≡ number = Prim.cc same in
-      (refl, asked_same number one other (subst (λ (n : ℕ). IsChannelAsked old transport peer n now one) alike a) b)
+      (refl, requested_same number one other (subst (λ (n : ℕ). IsChannelRequested old transport peer n now one) alike a) b)
 
   tried_same : (answer again : Result (Unit {0}) BindChannelError) (one other : Protocol) → answer ≢ Err channels.NoMemory → again ≢ Err channels.NoMemory
       → IsBindTried old transport peer now answer one → IsBindTried old transport peer now again other → (answer ≡ again) × (one ≡ other)

@@ -1,12 +1,12 @@
--- What a client sends, and what it is then, are one.
+-- What a client transmits and the client afterwards are determined.
 use Rattle.std.proofs.Common.{◌≡◌, ℕ, List, [], ◌∷◌, Option, Some, None, sym, ap, ◌∙◌}
 use Rattle.std.specs.List.{find}
 use Rattle.std.specs.declared.net.ip_addr.IpAddr.{IpAddr}
 use Rattle.std.specs.declared.net.socket_addr.SocketAddr.{SocketAddr}
 use Rattle.turn_client_proto_timers.specs.StunProtoTransaction.Agents.{Transaction, transmitted}
-use Rattle.turn_client_proto_timers.specs.StunProtoAgent.Sending.{NoneDue, is_due_of, kept_under}
+use Rattle.turn_client_proto_timers.specs.StunProtoAgent.Sending.{NoneDue, is_due_of, stored_under}
 use Rattle.turn_client_proto_timers.specs.StunProtoAgent.State.{is_tcp}
-use Rattle.turn_client_proto_timers.specs.Drawing.{Again, Fresh, IsAnswerSent, IsBegun, IsChannelRenewalSent, IsDrawn, IsFirstSent, IsFreshSent, IsMade, IsNextSent, IsQueuedSent, IsRefreshSent, IsRenewalSent, IsRenewed, IsRepeated, IsStill, Sends, after_sending, first_allocated, first_bound, first_permitted, first_refreshed, is_resting}
+use Rattle.turn_client_proto_timers.specs.Drawing.{Again, Fresh, IsAnswerSent, IsStarted, IsChannelRenewalSent, IsTransmitted, IsFirstSent, IsFreshSent, IsMade, IsNextSent, IsQueuedSent, IsRefreshSent, IsRenewalSent, IsRenewed, IsRepeated, IsStill, Sends, after_sending, first_allocated, first_bound, first_permitted, first_refreshed, is_resting}
 use Rattle.turn_client_proto_timers.specs.Api.Sent.{Sent}
 use Rattle.turn_client_proto_timers.specs.Wanting.{wanted}
 use Rattle.turn_client_proto_timers.specs.declared.wanting.Want.{Want}
@@ -24,7 +24,7 @@ use Rattle.turn_client_proto_step_laws.proofs.Once.Outcomes.{IsDefinite, only, t
 use Rattle.turn_client_proto_step_laws.proofs.Once.Least.{least_number, least_value}
 use Rattle.turn_client_proto_step_laws.proofs.Once.Numbering.{next_same}
 
--- something is sent, and that is one
+-- Something is transmitted, and it is determined.
 sends : {Is : Sent → Protocol → Type 0} → IsDefinite Is → IsDefinite (λ (answer : Option Sent) (new : Protocol). Sends answer (λ sent. Is sent new))
 sends {Is} definite = record { same = λ answer again one other a b. both answer again one other a b }
   where
@@ -39,7 +39,7 @@ module _ (old : Protocol) (now : ℕ) where
   still_definite : IsDefinite (λ (answer : Option Sent) (new : Protocol). IsStill old answer new)
   still_definite = only None old
 
-  -- a request that is made now, under the next number
+  -- A request that is made now, with the next transaction ID.
   abbrev made_sent : TurnRequest → ℕ → Sent
   made_sent request number = record { bytes = request_text old.auth request number; transport = old.agent.transport; from = old.agent.here; to = old.server }
 
@@ -76,7 +76,7 @@ module _ (old : Protocol) (now : ℕ) where
   queued_definite : (q : Queued) (rest : List Queued) → IsDefinite (λ (sent : Sent) (new : Protocol). IsQueuedSent old now q rest sent new)
   queued_definite q rest = record { same = λ sent more one other a b. (a.is_sent ∙ sym b.is_sent, a.after ∙ sym b.after) }
 
-  -- the answer that is sent
+  -- The reply that is transmitted.
   abbrev answer_sent : Queued → Sent
   answer_sent q = record { bytes = q.bytes; transport = old.agent.transport; from = q.from; to = old.server }
 
@@ -88,15 +88,15 @@ module _ (old : Protocol) (now : ℕ) where
   renewed_definite (Some (Channel channel peer)) = sends (channel_definite channel peer)
   renewed_definite (Some (Permission ip)) = sends (renewal_definite ip)
 
-  begun_definite : (phase : Phase) → IsDefinite (IsBegun phase old now)
-  begun_definite Initial = sends first_definite
-  begun_definite (InitialSent numbers) = still_definite
-  begun_definite (Authenticating numbers) = still_definite
-  begun_definite Authenticated = renewed_definite (wanted now old.allocations)
-  begun_definite Ended = still_definite
+  started_definite : (phase : Phase) → IsDefinite (IsStarted phase old now)
+  started_definite Initial = sends first_definite
+  started_definite (InitialSent numbers) = still_definite
+  started_definite (Authenticating numbers) = still_definite
+  started_definite Authenticated = renewed_definite (wanted now old.allocations)
+  started_definite Ended = still_definite
 
   next_definite : (queue : List Queued) → IsDefinite (IsNextSent queue old now)
-  next_definite [] = begun_definite old.phase
+  next_definite [] = started_definite old.phase
   next_definite (q ∷ rest) = sends (queued_definite q rest)
 
   answer_definite : (found : Option Queued) → IsDefinite (IsAnswerSent found old)
@@ -112,7 +112,7 @@ module _ (old : Protocol) (now : ℕ) where
   repeated_sent t = record { bytes = t.bytes; transport = old.agent.transport; from = old.agent.here; to = t.to }
 
   abbrev repeated : ℕ → Transaction → Protocol
-  repeated number t = after_sending now (record old { agent = kept_under old.agent number (transmitted (is_tcp old.agent.transport) t) })
+  repeated number t = after_sending now (record old { agent = stored_under old.agent number (transmitted (is_tcp old.agent.transport) t) })
 
   repeated_same : (sent more : Sent) (one other : Protocol) → IsRepeated old now sent one → IsRepeated old now more other → (sent ≡ more) × (one ≡ other)
   repeated_same sent more one other a b =
@@ -125,10 +125,10 @@ module _ (old : Protocol) (now : ℕ) where
   due_not : {A : Type 0} (sent : Sent) (new : Protocol) → IsRepeated old now sent new → NoneDue old.agent now → A
   due_not sent new is none = absurd (Prim.cc (sym (none is.number is.transaction is.least.present) ∙ is.least.passes))
 
-  pub draw_same : (answer again : Option Sent) (one other : Protocol) → IsDrawn old now answer one → IsDrawn old now again other → (answer ≡ again) × (one ≡ other)
-  draw_same answer again one other (Again sent told is) (Again more known was) =
+  pub draw_same : (answer again : Option Sent) (one other : Protocol) → IsTransmitted old now answer one → IsTransmitted old now again other → (answer ≡ again) × (one ≡ other)
+  draw_same answer again one other (Again sent reported is) (Again more known was) =
       let same = repeated_same sent more one other is was in
-      (told ∙ ap (λ (s : Sent). Some s) same.0 ∙ sym known, same.1)
-  draw_same answer again one other (Again sent told is) (Fresh none was) = due_not sent one is none
+      (reported ∙ ap (λ (s : Sent). Some s) same.0 ∙ sym known, same.1)
+  draw_same answer again one other (Again sent reported is) (Fresh none was) = due_not sent one is none
   draw_same answer again one other (Fresh none is) (Again more known was) = due_not more other was none
   draw_same answer again one other (Fresh none is) (Fresh never was) = fresh_definite.same answer again one other is was

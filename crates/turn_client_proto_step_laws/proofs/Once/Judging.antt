@@ -1,9 +1,9 @@
--- The verdict on a message, and the authenticator after it, are one, but for want of memory.
+-- The verdict on a message and the authenticator afterwards are determined, unless memory runs out.
 use Rattle.std.proofs.Common.{◌≡◌, ◌≢◌, ℕ, List, Option, Some, Result, Ok, Err, refl, sym, ap, ◌∙◌, subst, inl, inr}
 use Rattle.turn_client_proto_timers.specs.StunTypesWire.declared.algorithm.IntegrityAlgorithm.{IntegrityAlgorithm}
 use Rattle.turn_client_proto_timers.specs.StunTypesWire.declared.algorithm.IntegrityAlgorithm.TheVariants.{Sha1, Sha256, Sha512}
 use Rattle.turn_client_proto_recv.proofs.StunTypesMessage.Validating.{none_validates}
-use Rattle.turn_client_proto_recv.specs.StunProtoClient.Challenges.{Told}
+use Rattle.turn_client_proto_recv.specs.StunProtoClient.Challenges.{ChallengeFields}
 use Rattle.turn_client_proto_recv.specs.StunProtoClient.Choice.{IsStrongest}
 use Rattle.turn_client_proto_recv.specs.StunProtoClient.Client.{Client, Standing, standing_key}
 use Rattle.turn_client_proto_recv.specs.StunProtoClient.declared.error.LongTermClientAuthError.{LongTermClientAuthError}
@@ -32,7 +32,7 @@ no_memory = Err NoMemory
 
 -- ---- what excludes what
 
--- of two algorithms than which none is stronger one is the other
+-- Two algorithms than which none is stronger are equal.
 strongest_same : (own : List IntegrityAlgorithm) (offered : Option (List ℕ)) (a b : IntegrityAlgorithm) → IsStrongest own offered a → IsStrongest own offered b → a ≡ b
 strongest_same own offered Sha1 Sha1 x y = refl
 strongest_same own offered Sha1 Sha256 x y = absurd (Prim.cc (x.greatest Sha256 y.common))
@@ -44,9 +44,9 @@ strongest_same own offered Sha512 Sha1 x y = absurd (Prim.cc (y.greatest Sha512 
 strongest_same own offered Sha512 Sha256 x y = absurd (Prim.cc (y.greatest Sha512 x.common))
 strongest_same own offered Sha512 Sha512 x y = refl
 
--- a challenge that can be answered can't not be
-answerable_not : (client : Client) (told : Told) (choice : IntegrityAlgorithm) → IsAnswerable client told choice → IsUnanswerable client told → ⊥
-answerable_not client told choice is cause = elim cause [
+-- A challenge can't be both answerable and unanswerable.
+answerable_not : (client : Client) (reported : ChallengeFields) (choice : IntegrityAlgorithm) → IsAnswerable client reported choice → IsUnanswerable client reported → ⊥
+answerable_not client reported choice is cause = elim cause [
   | inl none ↦ Prim.cc (sym (none choice) ∙ is.strongest.common)
   | inr known ↦ Prim.cc (sym known ∙ is.anonymous)
 ]
@@ -54,24 +54,24 @@ answerable_not client told choice is cause = elim cause [
 module _ (old : Client) (bytes : List ℕ) (one other : Client) where
   not_answerable : (choice : IntegrityAlgorithm) → IsResent old bytes choice one → IsUnsupported old bytes other → ⊥
   not_answerable choice r u =
-      let told : u.told ≡ r.told = some_some u.told r.told _ u.shown r.shown in
-      answerable_not old r.told choice r.answerable (subst (λ (t : Told). IsUnanswerable old t) told u.unanswerable)
+      let reported : u.reported ≡ r.reported = some_some u.reported r.reported _ u.visible r.visible in
+      answerable_not old r.reported choice r.answerable (subst (λ (t : ChallengeFields). IsUnanswerable old t) reported u.unanswerable)
 
   not_authorized : (algorithm : IntegrityAlgorithm) → IsValidated old bytes algorithm one → IsUnauthorized old bytes other → ⊥
   not_authorized algorithm v u = elim u.cause [
     | inl absent ↦ none_validates bytes (standing_key v.standing).bytes (standing_key v.standing).algorithm v.right.text absent v.right.validates
-    | inr absent ↦ some_none v.standing _ v.stands absent
+    | inr absent ↦ some_none v.standing _ v.occurs absent
   ]
 
   not_forged : (algorithm last : IntegrityAlgorithm) → IsValidated old bytes algorithm one → IsForged old bytes last other → ⊥
   not_forged algorithm last v f =
-      let right : IsRight bytes (standing_key f.standing) = subst (λ (s : Standing). IsRight bytes (standing_key s)) (some_some v.standing f.standing _ v.stands f.stands) v.right in
+      let right : IsRight bytes (standing_key f.standing) = subst (λ (s : Standing). IsRight bytes (standing_key s)) (some_some v.standing f.standing _ v.occurs f.occurs) v.right in
       f.wrong.wrong right.text right.validates
 
   not_unsigned : (last : IntegrityAlgorithm) → IsUnauthorized old bytes one → IsForged old bytes last other → ⊥
   not_unsigned last u f = elim u.cause [
     | inl absent ↦ some_none last _ f.last absent
-    | inr absent ↦ some_none f.standing _ f.stands absent
+    | inr absent ↦ some_none f.standing _ f.occurs absent
   ]
 
 -- ---- two verdicts
@@ -82,59 +82,59 @@ module _ (old : Client) (bytes : List ℕ) (one other : Client) where
 
   both_resent : (choice again : IntegrityAlgorithm) → IsResent old bytes choice one → IsResent old bytes again other → Agree (resend choice) (resend again)
   both_resent choice again r s =
-      let told : r.told ≡ s.told = some_some r.told s.told _ r.shown s.shown in
-      let strongest = subst (λ (t : Told). IsStrongest old.algorithms t.offered choice) told r.answerable.strongest in
-      let same : choice ≡ again = strongest_same old.algorithms s.told.offered choice again strongest s.answerable.strongest in
-      (ap resend same, r.kept ∙ ap (λ (t : Told). keeping old t choice) told ∙ ap (keeping old s.told) same ∙ sym s.kept)
+      let reported : r.reported ≡ s.reported = some_some r.reported s.reported _ r.visible s.visible in
+      let strongest = subst (λ (t : ChallengeFields). IsStrongest old.algorithms t.offered choice) reported r.answerable.strongest in
+      let same : choice ≡ again = strongest_same old.algorithms s.reported.offered choice again strongest s.answerable.strongest in
+      (ap resend same, r.stored ∙ ap (λ (t : ChallengeFields). keeping old t choice) reported ∙ ap (keeping old s.reported) same ∙ sym s.stored)
 
   both_valid : (algorithm again : IntegrityAlgorithm) → IsValidated old bytes algorithm one → IsValidated old bytes again other → Agree (valid algorithm) (valid again)
   both_valid algorithm again v w =
-      let standing : v.standing ≡ w.standing = some_some v.standing w.standing _ v.stands w.stands in
+      let standing : v.standing ≡ w.standing = some_some v.standing w.standing _ v.occurs w.occurs in
       let same : algorithm ≡ again = v.chosen ∙ ap (λ (s : Standing). s.challenge.choice) standing ∙ sym w.chosen in
-      (ap valid same, v.kept ∙ ap (λ (a : IntegrityAlgorithm). going_by old (Some a)) same ∙ sym w.kept)
+      (ap valid same, v.stored ∙ ap (λ (a : IntegrityAlgorithm). going_by old (Some a)) same ∙ sym w.stored)
 
   both_forged : (last again : IntegrityAlgorithm) → IsForged old bytes last one → IsForged old bytes again other → Agree (forged last) (forged again)
   both_forged last again f g =
-      let standing : f.standing ≡ g.standing = some_some f.standing g.standing _ f.stands g.stands in
-      (ap forged (some_some last again _ f.last g.last), f.kept ∙ ap (λ (s : Standing). going_by old (Some s.challenge.choice)) standing ∙ sym g.kept)
+      let standing : f.standing ≡ g.standing = some_some f.standing g.standing _ f.occurs g.occurs in
+      (ap forged (some_some last again _ f.last g.last), f.stored ∙ ap (λ (s : Standing). going_by old (Some s.challenge.choice)) standing ∙ sym g.stored)
 
   after_resent : (choice : IntegrityAlgorithm) (again : Verdict) → IsResent old bytes choice one → IsJudged old bytes again other → again ≢ no_memory → Agree (resend choice) again
   after_resent choice (Ok (ResendRequest c)) r s ample = both_resent choice c r s
-  after_resent choice (Ok (Validated a)) r s ample = absurd (some_none r.told _ r.shown s.no_challenge)
-  after_resent choice (Err Unauthorized) r s ample = absurd (some_none r.told _ r.shown s.no_challenge)
-  after_resent choice (Err (IntegrityFailed a)) r s ample = absurd (some_none r.told _ r.shown s.no_challenge)
+  after_resent choice (Ok (Validated a)) r s ample = absurd (some_none r.reported _ r.visible s.no_challenge)
+  after_resent choice (Err Unauthorized) r s ample = absurd (some_none r.reported _ r.visible s.no_challenge)
+  after_resent choice (Err (IntegrityFailed a)) r s ample = absurd (some_none r.reported _ r.visible s.no_challenge)
   after_resent choice (Err UnsupportedFeature) r s ample = absurd (not_answerable old bytes one other choice r s)
   after_resent choice (Err NoMemory) r s ample = absurd (ample refl)
 
   after_valid : (algorithm : IntegrityAlgorithm) (again : Verdict) → IsValidated old bytes algorithm one → IsJudged old bytes again other → again ≢ no_memory → Agree (valid algorithm) again
-  after_valid algorithm (Ok (ResendRequest c)) v s ample = absurd (some_none s.told _ s.shown v.no_challenge)
+  after_valid algorithm (Ok (ResendRequest c)) v s ample = absurd (some_none s.reported _ s.visible v.no_challenge)
   after_valid algorithm (Ok (Validated a)) v s ample = both_valid algorithm a v s
   after_valid algorithm (Err Unauthorized) v s ample = absurd (not_authorized old bytes one other algorithm v s)
   after_valid algorithm (Err (IntegrityFailed a)) v s ample = absurd (not_forged old bytes one other algorithm a v s)
-  after_valid algorithm (Err UnsupportedFeature) v s ample = absurd (some_none s.told _ s.shown v.no_challenge)
+  after_valid algorithm (Err UnsupportedFeature) v s ample = absurd (some_none s.reported _ s.visible v.no_challenge)
   after_valid algorithm (Err NoMemory) v s ample = absurd (ample refl)
 
   after_unauthorized : (again : Verdict) → IsUnauthorized old bytes one → IsJudged old bytes again other → again ≢ no_memory → Agree (Err Unauthorized) again
-  after_unauthorized (Ok (ResendRequest c)) u s ample = absurd (some_none s.told _ s.shown u.no_challenge)
+  after_unauthorized (Ok (ResendRequest c)) u s ample = absurd (some_none s.reported _ s.visible u.no_challenge)
   after_unauthorized (Ok (Validated a)) u s ample = absurd (not_authorized old bytes other one a s u)
-  after_unauthorized (Err Unauthorized) u s ample = (refl, u.kept ∙ sym s.kept)
+  after_unauthorized (Err Unauthorized) u s ample = (refl, u.stored ∙ sym s.stored)
   after_unauthorized (Err (IntegrityFailed a)) u s ample = absurd (not_unsigned old bytes one other a u s)
-  after_unauthorized (Err UnsupportedFeature) u s ample = absurd (some_none s.told _ s.shown u.no_challenge)
+  after_unauthorized (Err UnsupportedFeature) u s ample = absurd (some_none s.reported _ s.visible u.no_challenge)
   after_unauthorized (Err NoMemory) u s ample = absurd (ample refl)
 
   after_forged : (last : IntegrityAlgorithm) (again : Verdict) → IsForged old bytes last one → IsJudged old bytes again other → again ≢ no_memory → Agree (forged last) again
-  after_forged last (Ok (ResendRequest c)) f s ample = absurd (some_none s.told _ s.shown f.no_challenge)
+  after_forged last (Ok (ResendRequest c)) f s ample = absurd (some_none s.reported _ s.visible f.no_challenge)
   after_forged last (Ok (Validated a)) f s ample = absurd (not_forged old bytes other one a last s f)
   after_forged last (Err Unauthorized) f s ample = absurd (not_unsigned old bytes other one last s f)
   after_forged last (Err (IntegrityFailed a)) f s ample = both_forged last a f s
-  after_forged last (Err UnsupportedFeature) f s ample = absurd (some_none s.told _ s.shown f.no_challenge)
+  after_forged last (Err UnsupportedFeature) f s ample = absurd (some_none s.reported _ s.visible f.no_challenge)
   after_forged last (Err NoMemory) f s ample = absurd (ample refl)
 
   after_unsupported : (again : Verdict) → IsUnsupported old bytes one → IsJudged old bytes again other → again ≢ no_memory → Agree (Err UnsupportedFeature) again
   after_unsupported (Ok (ResendRequest c)) u s ample = absurd (not_answerable old bytes other one c s u)
-  after_unsupported (Ok (Validated a)) u s ample = absurd (some_none u.told _ u.shown s.no_challenge)
-  after_unsupported (Err Unauthorized) u s ample = absurd (some_none u.told _ u.shown s.no_challenge)
-  after_unsupported (Err (IntegrityFailed a)) u s ample = absurd (some_none u.told _ u.shown s.no_challenge)
+  after_unsupported (Ok (Validated a)) u s ample = absurd (some_none u.reported _ u.visible s.no_challenge)
+  after_unsupported (Err Unauthorized) u s ample = absurd (some_none u.reported _ u.visible s.no_challenge)
+  after_unsupported (Err (IntegrityFailed a)) u s ample = absurd (some_none u.reported _ u.visible s.no_challenge)
   after_unsupported (Err UnsupportedFeature) u s ample = (refl, u.unchanged ∙ sym s.unchanged)
   after_unsupported (Err NoMemory) u s ample = absurd (ample refl)
 

@@ -1,4 +1,4 @@
--- The least of some numbers is one.
+-- The least of some numbers is determined.
 use Rattle.std.proofs.Common.{◌≡◌, ℕ, ◌≤◌, arith, Bool, List, sym, ap, ◌∙◌, inl, inr}
 use Rattle.std.proofs.lemmas.List.Elements.{All-contains}
 use Rattle.std.specs.FinMap as map

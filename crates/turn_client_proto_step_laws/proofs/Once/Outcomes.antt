@@ -1,18 +1,18 @@
--- A relation between an answer and the client after it that leaves no choice.
+-- A relation between a result and the client afterwards that leaves no choice.
 use Rattle.std.proofs.Common.{◌≡◌, Bool, true, false, Option, Some, None, sym, ◌∙◌}
 use Rattle.std.specs.Bool.{MatchBool}
 use Rattle.turn_client_proto_timers.specs.Core.Outcomes.{IsHandled, IsIgnored}
 use Rattle.turn_client_proto_timers.specs.Core.declared.protocol.Protocol.{Protocol}
 
--- two answers, each with the client after it, are equal where both are in the relation
+-- Two results, each with the client afterwards, are equal if both are in the relation.
 pub record IsDefinite {A : Type 0} (leads : A → Protocol → Type 0) : Type 0 where
   pub same : (answer again : A) (one other : Protocol) → leads answer one → leads again other → (answer ≡ again) × (one ≡ other)
 
--- nothing is in it
+-- The relation is empty.
 pub never : {A : Type 0} → IsDefinite {A = A} (λ answer new. ⊥)
 never = record { same = λ answer again one other a b. absurd a }
 
--- one answer alone is in it
+-- The relation has exactly one result.
 pub only : {A : Type 0} (wanted : A) (after : Protocol) → IsDefinite (λ (answer : A) (new : Protocol). (answer ≡ wanted) × (new ≡ after))
 only wanted after = record { same = λ answer again one other a b. (a.0 ∙ sym b.0, a.1 ∙ sym b.1) }
 
@@ -22,7 +22,7 @@ handled after = only true after
 pub ignored : (after : Protocol) → IsDefinite (IsIgnored after)
 ignored after = only false after
 
--- by a test
+-- The relation depends on a test.
 pub tested : {A : Type 0} {P Q : A → Protocol → Type 0} (b : Bool) → IsDefinite P → IsDefinite Q → IsDefinite (λ (answer : A) (new : Protocol). MatchBool b (P answer new) (Q answer new))
 tested true p q = record { same = p.same }
 tested false p q = record { same = q.same }

@@ -1,18 +1,18 @@
--- What follows from the response to a CREATE_PERMISSION is one outcome.
+-- What follows from the response to a CREATE_PERMISSION is determined.
 use Rattle.std.proofs.Common.{ℕ, List, Option, Some, None}
 use Rattle.turn_client_proto_timers.specs.StunTypesWire.Attributes.{kind_at}
 use Rattle.turn_client_proto_timers.specs.StunTypesWire.Grammar.{number_at}
 use Rattle.turn_client_proto_timers.specs.StunTypesWire.Types.{class_of}
-use Rattle.turn_client_proto_timers.specs.Allocation.Requested.{asked_by}
-use Rattle.turn_client_proto_timers.specs.Allocation.declared.requested.Asked.{Asked}
-use Rattle.turn_client_proto_timers.specs.Allocation.declared.requested.Asked.TheVariants.{ChannelRenewal, Lifetime, NewChannel, NewConnection, NewPermission, Renewal}
+use Rattle.turn_client_proto_timers.specs.Allocation.PendingRequests.{pending_request}
+use Rattle.turn_client_proto_timers.specs.Allocation.declared.pending.PendingRequest.{PendingRequest}
+use Rattle.turn_client_proto_timers.specs.Allocation.declared.pending.PendingRequest.TheVariants.{ChannelRenewal, Lifetime, NewChannel, NewConnection, NewPermission, Renewal}
 use Rattle.turn_client_proto_timers.specs.Core.Permitting.{IsGrantedFor, IsPermissionResponded, IsRefusedFor, granted, refused, renews}
 use Rattle.turn_client_proto_timers.specs.Core.Responding.{is_error_class}
 use Rattle.turn_client_proto_timers.specs.Core.declared.protocol.Protocol.{Protocol}
 use Rattle.turn_client_proto_step_laws.proofs.Once.Outcomes.{IsDefinite, handled, ignored, tested}
 
 module _ (p : Protocol) (now number : ℕ) where
-  granted_definite : (what : Option Asked) → IsDefinite (IsGrantedFor what p number now)
+  granted_definite : (what : Option PendingRequest) → IsDefinite (IsGrantedFor what p number now)
   granted_definite None = ignored p
   granted_definite (Some (Lifetime lifetime)) = ignored p
   granted_definite (Some (NewConnection to)) = ignored p
@@ -21,7 +21,7 @@ module _ (p : Protocol) (now number : ℕ) where
   granted_definite (Some (NewPermission transport ip)) = handled (granted transport ip number now p)
   granted_definite (Some (Renewal transport ip)) = handled (renews number now p)
 
-  refused_definite : (what : Option Asked) → IsDefinite (IsRefusedFor what p number)
+  refused_definite : (what : Option PendingRequest) → IsDefinite (IsRefusedFor what p number)
   refused_definite None = ignored p
   refused_definite (Some (Lifetime lifetime)) = ignored p
   refused_definite (Some (NewConnection to)) = ignored p
@@ -32,5 +32,5 @@ module _ (p : Protocol) (now number : ℕ) where
 
 pub responded_definite : (p : Protocol) (bytes : List ℕ) (now : ℕ) → IsDefinite (IsPermissionResponded p bytes now)
 responded_definite p bytes now = tested (is_error_class (class_of (kind_at bytes)))
-    (refused_definite p now (number_at bytes) (asked_by (number_at bytes) p.allocations))
-    (granted_definite p now (number_at bytes) (asked_by (number_at bytes) p.allocations))
+    (refused_definite p now (number_at bytes) (pending_request (number_at bytes) p.allocations))
+    (granted_definite p now (number_at bytes) (pending_request (number_at bytes) p.allocations))

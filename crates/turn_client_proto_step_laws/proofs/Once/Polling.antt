@@ -1,24 +1,24 @@
--- What a client answers when it is polled, and what it is then, are one, but for want of memory.
+-- The result of `poll` and the client afterwards are determined, unless memory runs out.
 use Rattle.std.proofs.Common.{◌≡◌, ◌≢◌, ℕ, List, [], ◌∷◌, ◌++◌, Option, Some, None, MatchOption, refl, subst}
 use Rattle.std.specs.List.{list_any}
 use Rattle.std.specs.declared.net.socket_addr.SocketAddr.{SocketAddr}
 use Rattle.turn_client_proto_timers.specs.StunProtoAgent.declared.agent.StunAgentPollRet.{StunAgentPollRet}
 use Rattle.turn_client_proto_timers.specs.StunProtoTransaction.Least.{IsLeastOf}
-use Rattle.turn_client_proto_timers.specs.StunTypesBase.Moments.{moment_after}
+use Rattle.turn_client_proto_timers.specs.StunTypesBase.Times.{time_after}
 use Rattle.turn_client_proto_timers.specs.StunProtoAgent.State as agents
 use Rattle.turn_client_proto_timers.specs.Allocation.Awaited.{is_among}
-use Rattle.turn_client_proto_timers.specs.Allocation.Polling.{kept, nexts}
+use Rattle.turn_client_proto_timers.specs.Allocation.Polling.{stored, nexts}
 use Rattle.turn_client_proto_timers.specs.Api.declared.answer.TurnPollRet.{TurnPollRet}
 use Rattle.turn_client_proto_timers.specs.Api.declared.answer.TurnPollRet.TheVariants as answer
 use Rattle.turn_client_proto_timers.specs.Api.declared.event.TurnEvent.{TurnEvent}
-use Rattle.turn_client_proto_timers.specs.Peers.Channel.Lapsing as channels
-use Rattle.turn_client_proto_timers.specs.Peers.Permission.Telling as permissions
-use Rattle.turn_client_proto_timers.specs.Connection.Lapsing as joined
+use Rattle.turn_client_proto_timers.specs.Peers.Channel.Expiring as channels
+use Rattle.turn_client_proto_timers.specs.Peers.Permission.Reporting as permissions
+use Rattle.turn_client_proto_timers.specs.Connection.Expiring as joined
 use Rattle.turn_client_proto_timers.specs.Connection.Waiting.{unasked}
 use Rattle.turn_client_proto_timers.specs.Core.Ending.{ended}
 use Rattle.turn_client_proto_timers.specs.Messages.Waiting.{is_answer}
 use Rattle.turn_client_proto_step_laws.specs.Held.{Waiting}
-use Rattle.turn_client_proto_timers.specs.Polling.{IsClosing, IsPolled, IsPolledBy, IsPolledIn, IsPolledSent, IsPolledStanding, IsTicked, IsWalked, after_asking, after_time, answer_of, ended_of, left, longest_pause, ready_after, socket_for, wait_of, wait_to_send, waits_until}
+use Rattle.turn_client_proto_timers.specs.Polling.{IsClosing, IsPolled, IsPolledBy, IsPolledIn, IsPolledSent, IsPolledStanding, IsAgentPolled, AreAllocationsPolled, after_asking, after_time, answer_of, ended_of, left, longest_pause, ready_after, socket_for, wait_of, wait_to_send, waits_until}
 use Rattle.turn_client_proto_timers.specs.Core.declared.protocol.Phase.{Phase}
 use Rattle.turn_client_proto_timers.specs.Core.declared.protocol.Phase.TheVariants.{Initial, InitialSent, Authenticating, Authenticated, Ended}
 use Rattle.turn_client_proto_timers.specs.Core.declared.protocol.Protocol.{Protocol}
@@ -30,7 +30,7 @@ module _ (over : Option ℕ) (wait : ℕ) (p : Protocol) (now : ℕ) where
   sent_definite : (numbers : List ℕ) → IsDefinite (IsPolledSent numbers over wait p now)
   sent_definite numbers = tested (is_among over numbers) (only answer.Closed (ended p)) (only (waits_until over now wait) p)
 
-  -- the sockets that are to be closed
+  -- The sockets that are to be closed.
   abbrev sockets : List SocketAddr
   sockets = p.closing ++ joined.all_gone over now (left over now p)
 
@@ -38,10 +38,10 @@ module _ (over : Option ℕ) (wait : ℕ) (p : Protocol) (now : ℕ) where
   closing_definite [] wanted q = record { same = (only wanted q).same }
   closing_definite (here ∷ rest) wanted q = record { same = (only (answer.TcpClose here q.server) (record q { closing = rest })).same }
 
-  walked_definite : IsDefinite (IsWalked over wait p now)
+  walked_definite : IsDefinite (AreAllocationsPolled over wait p now)
   walked_definite = record {
     same = λ ret again one other a b.
-        let next : a.next ≡ b.next = least_of_same wait (nexts over (ready_after p.last_send now) now (kept over now p.allocations)) a.next b.next a.least b.least in
+        let next : a.next ≡ b.next = least_of_same wait (nexts over (ready_after p.last_send now) now (stored over now p.allocations)) a.next b.next a.least b.least in
         let all : List ℕ = permissions.all_nexts over (ready_after p.last_send now) now (left over now p) in
         let moved = subst (λ (n : ℕ). IsLeastOf n all a.sooner) next a.least_of_permissions in
         let sooner : a.sooner ≡ b.sooner = least_of_same b.next all a.sooner b.sooner moved b.least_of_permissions in
@@ -55,13 +55,13 @@ module _ (over : Option ℕ) (wait : ℕ) (p : Protocol) (now : ℕ) where
         (closing_definite sockets (answer_of (left over now p) over now b.first) (after_time over now p)).same ret again one other outcome b.outcome;
   }
 
-  -- a socket is asked for, or time goes on
-  asked_definite : (found : Option Waiting) → IsDefinite (λ (ret : TurnPollRet) (new : Protocol). MatchOption found (IsWalked over wait p now ret new) (λ w. (ret ≡ socket_for p w) × (new ≡ after_asking p)))
-  asked_definite None = record { same = walked_definite.same }
-  asked_definite (Some w) = record { same = (only (socket_for p w) (after_asking p)).same }
+  -- A socket is requested, or the poll goes on.
+  requested_definite : (found : Option Waiting) → IsDefinite (λ (ret : TurnPollRet) (new : Protocol). MatchOption found (AreAllocationsPolled over wait p now ret new) (λ w. (ret ≡ socket_for p w) × (new ≡ after_asking p)))
+  requested_definite None = record { same = walked_definite.same }
+  requested_definite (Some w) = record { same = (only (socket_for p w) (after_asking p)).same }
 
   standing_definite : IsDefinite (IsPolledStanding over wait p now)
-  standing_definite = record { same = (asked_definite (unasked p.allocations)).same }
+  standing_definite = record { same = (requested_definite (unasked p.allocations)).same }
 
   in_definite : (phase : Phase) → IsDefinite (IsPolledIn phase over wait p now)
   in_definite Initial = only (answer.WaitUntil now) p
@@ -71,14 +71,14 @@ module _ (over : Option ℕ) (wait : ℕ) (p : Protocol) (now : ℕ) where
   in_definite Ended = only answer.Closed p
 
 module _ (old : Protocol) (now : ℕ) where
-  -- the wait before the agent is polled
+  -- The wait before the agent is polled.
   abbrev pause : ℕ
-  pause = wait_to_send old.last_send old.queue now (moment_after now longest_pause)
+  pause = wait_to_send old.last_send old.queue now (time_after now longest_pause)
 
   abbrev InAfter : StunAgentPollRet → agents.Agent → TurnPollRet → Protocol → Type 0
   InAfter ticked agent ret new = IsPolledIn old.phase (ended_of ticked) (wait_of pause ticked) (record old { agent = agent }) now ret new
 
-  ticked_definite : IsDefinite (IsTicked old now)
+  ticked_definite : IsDefinite (IsAgentPolled old now)
   ticked_definite = record {
     same = λ ret again one other a b.
         let same = polled_same old.agent now a.ticked b.ticked a.agent b.agent a.is_ticked b.is_ticked in
@@ -91,9 +91,9 @@ module _ (old : Protocol) (now : ℕ) where
   by_definite [] = tested (list_any is_answer old.queue) (only (answer.WaitUntil now) old) ticked_definite
   by_definite (e ∷ events) = only (answer.WaitUntil now) old
 
-  -- a poll, where memory was not refused
+  -- A poll in which memory did not run out.
   polled_by : (ret : TurnPollRet) (new : Protocol) → ret ≢ answer.NoMemory → IsPolled old now ret new → IsPolledBy old.events old now ret new
-  polled_by (answer.WaitUntil moment) new ample is = is
+  polled_by (answer.WaitUntil time) new ample is = is
   polled_by (answer.AllocateTcpSocket id socket peer) new ample is = is
   polled_by (answer.TcpClose local remote) new ample is = is
   polled_by answer.Closed new ample is = is

@@ -1,4 +1,4 @@
--- What carries bytes to a peer, and what the client is then, are one.
+-- What carries bytes to a peer and the client afterwards are determined.
 use Rattle.std.proofs.Common.{◌≡◌, ℕ, List, Option, Some, None, Ok, Err, sym, ap, ◌∙◌}
 use Rattle.std.specs.Prelude.{MatchOption}
 use Rattle.std.specs.declared.net.socket_addr.SocketAddr.{SocketAddr}
@@ -12,20 +12,20 @@ use Rattle.turn_client_proto_step_laws.specs.Held.{Channel, Connection}
 use Rattle.turn_client_proto_step_laws.proofs.Numbers.{number_small}
 use Rattle.turn_client_proto_step_laws.proofs.Once.Numbering.{next_same}
 
--- the next number is free, so not every one is taken
+-- The next transaction ID is free, so not every one is taken.
 some_free : {A : Type 0} (p : Protocol) (number : ℕ) → IsNextNumber p number → AreAllTaken p → A
 some_free p number is all = absurd (Prim.cc (sym (all number (number_small p number is)) ∙ is.free))
 
 module _ (old : Protocol) (to : SocketAddr) (bytes : List ℕ) (now : ℕ) (answer again : Answer) where
-  -- what is answered where an indication is sent under a number
+  -- The result if an indication is sent with a transaction ID.
   abbrev indicated : ℕ → Answer
   indicated number = Ok (Some (by_control old (indication_to to number bytes)))
 
   indicated_same : IsIndicated old to bytes answer → IsIndicated old to bytes again → answer ≡ again
-  indicated_same (Numbered number is told) (Numbered other was known) = told ∙ ap indicated (next_same old number other is was) ∙ sym known
-  indicated_same (Numbered number is told) (Full all known) = some_free old number is all
-  indicated_same (Full all told) (Numbered other was known) = some_free old other was all
-  indicated_same (Full all told) (Full every known) = told ∙ sym known
+  indicated_same (Numbered number is reported) (Numbered other was known) = reported ∙ ap indicated (next_same old number other is was) ∙ sym known
+  indicated_same (Numbered number is reported) (Full all known) = some_free old number is all
+  indicated_same (Full all reported) (Numbered other was known) = some_free old other was all
+  indicated_same (Full all reported) (Full every known) = reported ∙ sym known
 
   module _ (one other : Protocol) where
     sent_same : (found : Option Channel) → IsSentBy found old to bytes answer one → IsSentBy found old to bytes again other → (answer ≡ again) × (one ≡ other)

@@ -5,12 +5,12 @@ use Rattle.stun_inspect.specs.InspectLines.{IsReadable}
 use Rattle.stun_inspect.specs.Printed.{PrintsText}
 use Rattle.stun_inspect.proofs.report.inspect_text.Given as goal
 
--- the text can be read if what is left of it can
+-- The text can be read if the text that is left can.
 abbrev pub invariant-lines : goal.invariant-lines
 invariant-lines g l =
     PrintsText (g.O.Write.contents l.fn.output) (g.O.Write.contents l.output)
     × (AllByRecursion IsReadable (lines_of l.rest) → AllByRecursion IsReadable (lines_of l.text))
 
--- what is left to read grows shorter
+-- The text that is left gets shorter.
 abbrev pub decreases-lines : goal.decreases-lines
 decreases-lines g l = length l.rest

@@ -2,7 +2,7 @@ use Rattle.std.proofs.Common.{◌≡◌, length}
 use Rattle.stun_proto_auth.specs.Offers.{offers}
 use Rattle.stun_proto_auth.proofs.algorithms.offers.Given as goal
 
--- the algorithm is among those left where it is among all
+-- The algorithm is among the remaining entries exactly if it is among all.
 abbrev pub invariant-loop-entry : goal.invariant-loop-entry
 invariant-loop-entry l = offers l.left l.fn.algorithm ≡ offers l.fn.value l.fn.algorithm
 

@@ -1,12 +1,12 @@
 use Rattle.std.proofs.Common.{◌≡◌, map}
 use Rattle.std.specs.Option.{option_or}
-use Rattle.stun_types_wire.specs.Grammar.{shown}
+use Rattle.stun_types_wire.specs.Grammar.{visible}
 use Rattle.stun_proto_auth.specs.Claims.{last_of_kind}
 use Rattle.stun_proto_auth.proofs.last.last_attribute.Given as goal
 
--- the last of what is left, or else the last so far, is the last of what is shown
+-- The last match among the remaining attributes or, if there is none, the last one so far is the last of all.
 abbrev pub invariant-loop-attribute : goal.invariant-loop-attribute
 invariant-loop-attribute l =
     (goal.iterator-loop-attribute).can_next l.attribute-iterator ×
     (goal.iterator-loop-attribute).is_finite l.attribute-iterator ×
-    (option_or (last_of_kind l.fn.atype.0 (map (λ x. x.1) l.attribute-iterator)) l.last ≡ last_of_kind l.fn.atype.0 (shown l.fn.message))
+    (option_or (last_of_kind l.fn.atype.0 (map (λ x. x.1) l.attribute-iterator)) l.last ≡ last_of_kind l.fn.atype.0 (visible l.fn.message))

@@ -4,7 +4,7 @@ use Rattle.std.specs.String.{string_bytes}
 use Rattle.stun_proto_server.specs.Users.{is_hash_of}
 use Rattle.stun_proto_server.proofs.users.user_hashed.Given as goal
 
--- the first of those left is the first of all
+-- The first match among the remaining users is the first of all.
 abbrev pub invariant-loop-name : goal.invariant-loop-name
 invariant-loop-name l =
     (goal.iterator-loop-name).can_next l.name-iterator ×

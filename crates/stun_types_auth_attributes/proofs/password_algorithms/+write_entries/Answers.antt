@@ -9,10 +9,10 @@ returns-in-Some t c =
     let first = c.in-Some.first.now in
     let rest = c.in-Some.rest.now in
     let dest = c.args.dest.now in
-    let front = c.copy_from_slice.ensures.after ∙ c.to_bytes.ensures in
+    let head = c.copy_from_slice.ensures.after ∙ c.to_bytes.ensures in
     let back = c.write_entries.ensures ∙ ap (λ (l : List ℕ). algorithms_value rest ++ drop (4 * length rest) l) c.split_at_mut-entry.ensures.back in
     let all = c.in-Some.ensures.cases.0 in
-    ap (λ (l : List ℕ). l ++ c.write_entries.new.dest) front
+    ap (λ (l : List ℕ). l ++ c.write_entries.new.dest) head
     ∙ (ap (λ (l : List ℕ). algorithm_value first ++ l) back
     ∙ (more_written first rest dest
     ∙ ap (λ (l : List PasswordAlgorithmValue). algorithms_value l ++ drop (4 * length l) dest) (sym all)))

@@ -2,7 +2,7 @@ use Rattle.std.proofs.Common.{◌≡◌, take, length}
 use Rattle.stun_types_digest.specs.Crc.{register_after}
 use Rattle.stun_types_digest.proofs.crc.after_bytes.Given as goal
 
--- what is left takes the register where all bytes take the first one
+-- The register reached so far gives, after the remaining bytes, the register after all bytes.
 abbrev pub invariant-loop-sixteen : goal.invariant-loop-sixteen
 invariant-loop-sixteen l = register_after l.reached l.left ≡ register_after l.fn.register l.fn.bytes
 

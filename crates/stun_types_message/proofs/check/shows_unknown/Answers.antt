@@ -3,13 +3,13 @@ use Rattle.std.specs.Prelude.{ℕ, List, map}
 use Rattle.std.specs.List.{list_any}
 use Rattle.stun_types_wire.specs.declared.attribute.AttributeType.{AttributeType}
 use Rattle.stun_types_wire.specs.Attributes.{Attr}
-use Rattle.stun_types_wire.specs.Grammar.{shown}
+use Rattle.stun_types_wire.specs.Grammar.{visible}
 use Rattle.stun_types_wire.proofs.Left.{map_numbered}
 use Rattle.stun_types_message.specs.Objections.{is_unknown}
 use Rattle.stun_types_message.proofs.check.shows_unknown.Goals as goal
 
 pub loop-attribute-init : goal.loop-attribute-init
 loop-attribute-init c =
-    let left = ap (λ (l : List (ℕ × Attr)). map (λ (x : ℕ × Attr). x.1) l) (c.into_iter-attribute-iterator.ensures.into_iter_gives ∙ c.iter_attributes-attribute-items.ensures) ∙ map_numbered 20 (shown c.args.msg.now) in
+    let left = ap (λ (l : List (ℕ × Attr)). map (λ (x : ℕ × Attr). x.1) l) (c.into_iter-attribute-iterator.ensures.into_iter_gives ∙ c.iter_attributes-attribute-items.ensures) ∙ map_numbered 20 (visible c.args.msg.now) in
     let kinds = map (λ (t : AttributeType). t.0) c.args.supported.now in
     (tt, tt, ap (λ (l : List Attr). list_any (λ (a : Attr). is_unknown kinds a.kind) l) left)

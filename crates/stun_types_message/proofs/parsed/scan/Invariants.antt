@@ -3,7 +3,7 @@ use Rattle.stun_types_wire.proofs.Scan.{Continues}
 use Rattle.stun_types_message.specs.ShapeStages.{stage_rank}
 use Rattle.stun_types_message.proofs.parsed.scan.Given as goal
 
--- what is still to be shown and refused stays the same
+-- What is visible in the rest, and its errors, are those of the message from here on.
 abbrev pub invariant-loop-rest : goal.invariant-loop-rest
 invariant-loop-rest l = Continues (stage_rank l.stage) l.rest l.fn.bytes
 

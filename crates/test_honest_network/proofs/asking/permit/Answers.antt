@@ -1,5 +1,5 @@
 use Rattle.turn_desk_world.specs.Model.{World}
-use Rattle.test_honest_network.specs.Meetings.{plan_of}
+use Rattle.test_honest_network.specs.Simulations.{plan_of}
 use Rattle.test_honest_network.specs.Wishes.{IsPermitted}
 use Rattle.test_honest_network.specs.declared.asking.Wish.{Wish}
 use Rattle.test_honest_network.proofs.Wished.{known}

@@ -1,5 +1,5 @@
-use Rattle.test_honest_network.specs.Meetings.{plan_of}
-use Rattle.test_honest_network.proofs.Hearing.{known}
+use Rattle.test_honest_network.specs.Simulations.{plan_of}
+use Rattle.test_honest_network.proofs.Processing.{known}
 use Rattle.test_honest_network.proofs.asking.receive.Goals as goal
 
 pub returns : goal.returns

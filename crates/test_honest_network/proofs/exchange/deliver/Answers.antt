@@ -6,7 +6,7 @@ pub returns-in-Reply : goal.returns-in-Reply
 returns-in-Reply c = record {
   replied = c.happen.new.world;
   reply = c.in-Reply.bytes;
-  asked = record {
+  requested = record {
     bytes = c.in_ok-from_slice.field-0;
     same = c.in_ok-from_slice.ensures.items ∙ c.as_slice.ensures;
     seed = _;
@@ -19,7 +19,7 @@ returns-in-Reply c = record {
 pub returns : goal.returns
 returns c = record {
   ret = c.in_ok-bytes.field-0;
-  asked = record {
+  requested = record {
     bytes = c.in_ok-from_slice.field-0;
     same = c.in_ok-from_slice.ensures.items ∙ c.as_slice.ensures;
     seed = _;

@@ -1,6 +1,6 @@
-use Rattle.stun_types_write.specs.Adding.{IsBegun}
+use Rattle.stun_types_write.specs.Adding.{IsStarted}
 use Rattle.test_rows_wire.proofs.written.add_all.Given as goal
 
--- the message that was begun can be added to
+-- The loop keeps the message in a state in which attributes can be added.
 abbrev pub invariant-loop : goal.invariant-loop
-invariant-loop g l = IsBegun (g.W.MessageWrite.draft l.writer).bytes
+invariant-loop g l = IsStarted (g.W.MessageWrite.draft l.writer).bytes

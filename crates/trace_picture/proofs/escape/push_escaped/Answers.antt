@@ -2,10 +2,10 @@ use Rattle.std.proofs.Common.{ℕ, List, ◌++◌, string_bytes, sym, ap, ◌∙
 use Rattle.std.specs.List.{flat_map}
 use Rattle.std.proofs.lemmas.Iterator.{YieldsList-from_chars}
 use Rattle.std.proofs.lemmas.Iterator.Consumers.{YieldsList-end}
-use Rattle.trace_picture.specs.Escapes.{shown_char}
+use Rattle.trace_picture.specs.Escapes.{listed_char}
 use Rattle.trace_picture.proofs.escape.push_escaped.Goals as goal
 
 pub returns : goal.returns
 returns c =
     let end = YieldsList-end (YieldsList-from_chars c.args.text.now c.utf8.text cc) c.loop-c.yielded _ c.loop-c.yielded_by _ _ c.in-None.is c.next.ensures.steps in
-    c.loop-c.invariant ∙ ap (λ (cs : List ℕ). string_bytes c.args.svg.now ++ flat_map shown_char cs) (sym (map-id c.loop-c.yielded) ∙ end.0)
+    c.loop-c.invariant ∙ ap (λ (cs : List ℕ). string_bytes c.args.svg.now ++ flat_map listed_char cs) (sym (map-id c.loop-c.yielded) ∙ end.0)

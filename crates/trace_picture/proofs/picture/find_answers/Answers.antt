@@ -10,7 +10,7 @@ returns-then-is_parting c =
     (parts_here c.lines.rest.now line (lines_of c.in-Some.after.now) (lines_cut c.lines.rest.now line c.cut_line.result.1 c.in-Some.after c.cut_line.ensures.lines c.in-Some.is) (c.if-is_parting.ensures.yes refl))
 
 pub lines-preserved : goal.lines-preserved
-lines-preserved c = λ (behind : List (List ℕ)) parted.
+lines-preserved c = λ (following : List (List ℕ)) parted.
     let line = c.cut_line.result.0.now in
-    c.lines.invariant behind
-    (parts_there c.lines.rest.now line (lines_of c.in-Some.after.now) behind (lines_cut c.lines.rest.now line c.cut_line.result.1 c.in-Some.after c.cut_line.ensures.lines c.in-Some.is) (c.if-is_parting.ensures.no refl) parted)
+    c.lines.invariant following
+    (parts_there c.lines.rest.now line (lines_of c.in-Some.after.now) following (lines_cut c.lines.rest.now line c.cut_line.result.1 c.in-Some.after c.cut_line.ensures.lines c.in-Some.is) (c.if-is_parting.ensures.no refl) parted)

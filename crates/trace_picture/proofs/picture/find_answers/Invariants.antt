@@ -3,10 +3,10 @@ use Rattle.line_io.specs.Cut.{lines_of}
 use Rattle.trace_picture.specs.Pictures.{Parted}
 use Rattle.trace_picture.proofs.picture.find_answers.Given as goal
 
--- what parts what is left of the text parts the text
+-- A separator of the text that is left separates the whole text.
 abbrev pub invariant-lines : goal.invariant-lines
-invariant-lines l = (behind : List (List ℕ)) → Parted (lines_of l.rest) behind → Parted (lines_of l.text) behind
+invariant-lines l = (following : List (List ℕ)) → Parted (lines_of l.rest) following → Parted (lines_of l.text) following
 
--- what is left to read grows shorter
+-- The text that is left gets shorter.
 abbrev pub decreases-lines : goal.decreases-lines
 decreases-lines l = length l.rest

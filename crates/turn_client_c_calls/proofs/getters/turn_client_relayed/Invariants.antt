@@ -1,6 +1,6 @@
-use Rattle.turn_client_c_calls.specs.Shown.{told_relayed}
+use Rattle.turn_client_c_calls.specs.Visible.{reported_relayed}
 use Rattle.turn_client_c_calls.proofs.Showing.{IsUnderWay}
 use Rattle.turn_client_c_calls.proofs.getters.turn_client_relayed.Given as goal
 
 abbrev pub invariant-loop-slot : goal.invariant-loop-slot
-invariant-loop-slot l = IsUnderWay told_relayed l.initial.shown l.initial.out l.shown l.out l.slot-index
+invariant-loop-slot l = IsUnderWay reported_relayed l.initial.visible l.initial.out l.visible l.out l.slot-index

@@ -9,4 +9,4 @@ returns c =
     (named _ c.in-Some-to_socket.here _ _ _ _ _ (sym c.to_socket-2.ensures ∙ c.in-Some-to_socket.is)
     (on_client (λ (s : ℤ). IsFed c.args.bytes c.in-Some.sender c.in-Some-to_socket.here c.args.now s c.args.payload.now c.feed-status.new.payload) _ _ _ c.feed-status.result c.in-Some-take.whole.value c.deref_mut.result.now c.feed-status.new.whole
     (search rules) c.in-Some-take.ensures.client c.deref_mut.ensures.value c.put.ensures
-    (subst (λ (n : ℕ). IsFed c.args.bytes c.in-Some.sender c.in-Some-to_socket.here n c.feed-status.result c.args.payload.now c.feed-status.new.payload c.deref_mut.result.now c.feed-status.new.whole) c.from_nanos-moment.ensures c.feed-status.ensures)))
+    (subst (λ (n : ℕ). IsFed c.args.bytes c.in-Some.sender c.in-Some-to_socket.here n c.feed-status.result c.args.payload.now c.feed-status.new.payload c.deref_mut.result.now c.feed-status.new.whole) c.from_nanos-time.ensures c.feed-status.ensures)))

@@ -2,6 +2,6 @@ use Rattle.std.proofs.Common.{◌≡◌, take}
 use Rattle.turn_client_proto_allocation.proofs.Earliest.{earliest}
 use Rattle.turn_client_proto_allocation.proofs.listed.earliest.Given as goal
 
--- the earliest of those so far
+-- The earliest time of the elements so far.
 abbrev pub invariant-loop-allocation : goal.invariant-loop-allocation
 invariant-loop-allocation l = l.next ≡ earliest l.ended l.ready l.now l.fn.wait (take l.allocation-index l.allocations)

@@ -7,6 +7,6 @@ use Rattle.turn_client_proto_allocation.proofs.permissions.ask_again.Goals as go
 
 pub returns-clause-ok : goal.returns-clause-ok
 returns-clause-ok c =
-    let x : PendingPermission = get_or c.args.pending.now c.in-Some.place c.index-pending-place.result in
-    let is_there = ap (λ y. get_or c.args.pending.now c.in-Some.place y) c.index-pending-place.is in
-    on_ok c.push.result (λ is. put_there (asks_for_permission c.args.old) (with_number c.args.number) c.args.pending.now c.in-Some.place x (record x { numbers = c.push.new.self }) (sym c.place_asked.ensures ∙ c.in-Some.is) is_there (ap (λ l. record x { numbers = l }) is)) c.push.ensures.ok
+    let x : PendingPermission = get_or c.args.pending.now c.in-Some.index c.index-pending-index.result in
+    let is_there = ap (λ y. get_or c.args.pending.now c.in-Some.index y) c.index-pending-index.is in
+    on_ok c.push.result (λ is. put_there (asks_for_permission c.args.old) (with_number c.args.transaction_id) c.args.pending.now c.in-Some.index x (record x { numbers = c.push.new.self }) (sym c.index_requested.ensures ∙ c.in-Some.is) is_there (ap (λ l. record x { numbers = l }) is)) c.push.ensures.ok

@@ -7,6 +7,6 @@ use Rattle.turn_client_proto_connection.proofs.attempts.attempt_among.Goals as g
 
 pub returns : goal.returns
 returns c =
-    let x : Waiting = get_or c.args.waiting.now c.in_ok-place.place c.index-waiting-place.result in
-    let is_there = ap (λ y. get_or c.args.waiting.now c.in_ok-place.place y) c.index-waiting-place.is in
-    sym (ap (option_and_then (λ (w : Waiting). w.attempt)) (found_at (is_socket_for c.args.connection c.args.peer) c.args.waiting.now c.in_ok-place.place x (sym c.place_among.ensures ∙ c.in_ok-place.was) is_there))
+    let x : Waiting = get_or c.args.waiting.now c.in_ok-index.index c.index-waiting-index.result in
+    let is_there = ap (λ y. get_or c.args.waiting.now c.in_ok-index.index y) c.index-waiting-index.is in
+    sym (ap (option_and_then (λ (w : Waiting). w.attempt)) (found_at (is_socket_for c.args.connection c.args.peer) c.args.waiting.now c.in_ok-index.index x (sym c.index_among.ensures ∙ c.in_ok-index.was) is_there))

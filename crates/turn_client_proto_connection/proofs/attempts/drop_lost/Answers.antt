@@ -5,4 +5,4 @@ use Rattle.turn_client_proto_connection.proofs.attempts.drop_lost.Goals as goal
 
 pub returns-in-Some : goal.returns-in-Some
 returns-in-Some c =
-    c.remove.ensures.others ∙ taken_at (is_lost c.args.ended.now) c.args.waiting.now c.in-Some.place (ap (position (is_lost c.args.ended.now)) (sym c.as_slice.ensures) ∙ sym c.place_lost.ensures ∙ c.in-Some.is)
+    c.remove.ensures.others ∙ taken_at (is_lost c.args.ended.now) c.args.waiting.now c.in-Some.index (ap (position (is_lost c.args.ended.now)) (sym c.as_slice.ensures) ∙ sym c.index_lost.ensures ∙ c.in-Some.is)

@@ -2,6 +2,6 @@ use Rattle.std.proofs.Common.{◌≡◌, ◌++◌, map, take, drop}
 use Rattle.turn_client_proto_connection.specs.Sockets.{closed}
 use Rattle.turn_client_proto_connection.proofs.sockets.close.Given as goal
 
--- those so far are changed, and the others are as they were
+-- The elements so far are changed, and the others are as they were.
 abbrev pub invariant-loop-allocation : goal.invariant-loop-allocation
 invariant-loop-allocation l = l.allocations ≡ map (closed l.here) (take l.allocation-index l.fn.allocations) ++ drop l.allocation-index l.fn.allocations

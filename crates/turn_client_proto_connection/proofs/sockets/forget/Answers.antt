@@ -8,18 +8,18 @@ use Rattle.turn_client_proto_connection.proofs.sockets.forget.Goals as goal
 
 pub returns : goal.returns
 returns c = λ before a pending there is.
-    let place = c.args.place in
+    let index = c.args.index in
     let lent : List Allocation = c.as_mut_slice-items.result.now in
-    let found : Allocation = c.index-items-place.result in
-    let x : Allocation = get_or lent place found in
+    let found : Allocation = c.index-items-index.result in
+    let x : Allocation = get_or lent index found in
     let after : Allocation = record x { connections = c.pop.new.self } in
-    let left : List Allocation = slice_set lent place after in
+    let left : List Allocation = slice_set lent index after in
     let was = c.as_mut_slice-items.ensures.value ∙ is in
-    let long : place < length before = subst (λ n. place < n) (ap length is ∙ length-set before place (binding pending a)) c.requires in
+    let long : index < length before = subst (λ n. index < n) (ap length is ∙ length-set before index (binding pending a)) c.requires in
     let here : x ≡ binding pending a =
-    ap (λ l. get_or l place found) was ∙ get_or-set_same before place (binding pending a) found long in
+    ap (λ l. get_or l index found) was ∙ get_or-set_same before index (binding pending a) found long in
     let popped : c.pop.new.self ≡ a.connections = c.pop.ensures.undone a.connections pending (ap (λ (y : Allocation). y.connections) here) in
-    lent_back c.args.allocations.now left (length-set lent place after ∙ ap (λ (l : List Allocation). length l) c.as_mut_slice-items.ensures.value)
-    ∙ ap (λ l. slice_set l place after) was
-    ∙ ap (λ y. slice_set (slice_set before place (binding pending a)) place y) (ap (λ (y : Allocation). record y { connections = c.pop.new.self }) here ∙ ap (λ l. record a { connections = l }) popped)
-    ∙ set_back before place a (binding pending a) there
+    lent_back c.args.allocations.now left (length-set lent index after ∙ ap (λ (l : List Allocation). length l) c.as_mut_slice-items.ensures.value)
+    ∙ ap (λ l. slice_set l index after) was
+    ∙ ap (λ y. slice_set (slice_set before index (binding pending a)) index y) (ap (λ (y : Allocation). record y { connections = c.pop.new.self }) here ∙ ap (λ l. record a { connections = l }) popped)
+    ∙ set_back before index a (binding pending a) there

@@ -8,5 +8,5 @@ use Rattle.turn_client_proto_connection.proofs.streams.await_in.Goals as goal
 pub returns-in-Some : goal.returns-in-Some
 returns-in-Some c =
     let all = c.args.connections.now in
-    let x : Connection = get_or all c.in-Some.place c.index-connections-place.result in
-    put_there (is_from c.args.here) (awaiting c.args.awaited) all c.in-Some.place x (record x { awaited = c.args.awaited }) (sym c.place_in.ensures ∙ c.in-Some.is) (ap (λ y. get_or all c.in-Some.place y) c.index-connections-place.is) refl
+    let x : Connection = get_or all c.in-Some.index c.index-connections-index.result in
+    put_there (is_from c.args.here) (awaiting c.args.awaited) all c.in-Some.index x (record x { awaited = c.args.awaited }) (sym c.index_in.ensures ∙ c.in-Some.is) (ap (λ y. get_or all c.in-Some.index y) c.index-connections-index.is) refl

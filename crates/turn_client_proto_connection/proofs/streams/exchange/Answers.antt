@@ -12,16 +12,16 @@ use Rattle.turn_client_proto_connection.proofs.streams.exchange.Goals as goal
 pub returns-clause-given : goal.returns-clause-given
 returns-clause-given c =
     let all = c.args.allocations.now in
-    let x : Allocation = get_or all c.in_ok-place.place c.index-allocations-place.result in
+    let x : Allocation = get_or all c.in_ok-index.index c.index-allocations-index.result in
     c.exchange_in.ensures.given
     ∙ ap (λ (l : List Connection). option_map (λ (k : Connection). k.stream) (find (is_from c.args.here) l)) c.as_mut_slice.ensures.value
-    ∙ sym (ap (λ (o : Option Allocation). option_map (λ (k : Connection). k.stream) (option_and_then (from_in c.args.here) o)) (found_at (has_from c.args.here) all c.in_ok-place.place x (sym c.place_from.ensures ∙ c.in_ok-place.was) (ap (λ y. get_or all c.in_ok-place.place y) c.index-allocations-place.is)))
+    ∙ sym (ap (λ (o : Option Allocation). option_map (λ (k : Connection). k.stream) (option_and_then (from_in c.args.here) o)) (found_at (has_from c.args.here) all c.in_ok-index.index x (sym c.index_from.ensures ∙ c.in_ok-index.was) (ap (λ y. get_or all c.in_ok-index.index y) c.index-allocations-index.is)))
 
 pub returns-clause-after : goal.returns-clause-after
 returns-clause-after c =
     let all = c.args.allocations.now in
-    let x : Allocation = get_or all c.in_ok-place.place c.index-allocations-place.result in
+    let x : Allocation = get_or all c.in_ok-index.index c.index-allocations-index.result in
     let left = c.exchange_in.new.connections in
-    put_there (has_from c.args.here) (exchanged_in c.args.here c.args.stream) all c.in_ok-place.place x (record x { connections = take (length x.connections) (left ++ drop (length left) x.connections) })
-    (sym c.place_from.ensures ∙ c.in_ok-place.was) (ap (λ y. get_or all c.in_ok-place.place y) c.index-allocations-place.is)
+    put_there (has_from c.args.here) (exchanged_in c.args.here c.args.stream) all c.in_ok-index.index x (record x { connections = take (length x.connections) (left ++ drop (length left) x.connections) })
+    (sym c.index_from.ensures ∙ c.in_ok-index.was) (ap (λ y. get_or all c.in_ok-index.index y) c.index-allocations-index.is)
     (ap (λ l. record x { connections = l }) (first_back (is_from c.args.here) (with_stream c.args.stream) x.connections c.as_mut_slice.result.now left c.as_mut_slice.ensures.value c.exchange_in.ensures.after))

@@ -8,4 +8,4 @@ use Rattle.turn_client_proto_connection.proofs.streams.from.Goals as goal
 pub returns : goal.returns
 returns c =
     c.from_in.ensures
-    ∙ sym (ap (option_and_then (from_in c.args.here)) (found_at (has_from c.args.here) c.args.allocations.now c.in_ok-place.place c.index-allocations-place.result (sym c.place_from.ensures ∙ c.in_ok-place.was) c.index-allocations-place.is))
+    ∙ sym (ap (option_and_then (from_in c.args.here)) (found_at (has_from c.args.here) c.args.allocations.now c.in_ok-index.index c.index-allocations-index.result (sym c.index_from.ensures ∙ c.in_ok-index.was) c.index-allocations-index.is))

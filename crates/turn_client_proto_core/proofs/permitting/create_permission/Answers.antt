@@ -5,75 +5,75 @@ use Rattle.std.specs.Prelude.{None, Some, Ok, Err}
 use Rattle.turn_client_proto_api.specs.declared.error.CreatePermissionError.TheVariants.{AlreadyExists, NoAllocation, NoMemory}
 use Rattle.turn_client_proto_peers.specs.Permission.Asking.{is_of}
 use Rattle.turn_client_proto_core.specs.Permitting.{family_of_ip}
-use Rattle.turn_client_proto_core.proofs.Granting.{answered_by, asked_there, ended, free, known, past, refused_by}
-use Rattle.turn_client_proto_core.proofs.Places.{found, marked_past, nowhere, place_is, unmarked}
+use Rattle.turn_client_proto_core.proofs.Granting.{answered_by, requested_there, ended, free, known, past, refused_by}
+use Rattle.turn_client_proto_core.proofs.Indexes.{found, marked_past, nowhere, index_is, unmarked}
 use Rattle.turn_client_proto_core.proofs.permitting.create_permission.Goals as goal
 
 pub returns-in_default : goal.returns-in_default
 returns-in_default c =
     let old = c.args.protocol.now in
     let own = family_of_ip c.args.ip in
-    refused_by old c.args.transport c.args.ip c.args.now None (nowhere old c.args.transport own (place_is old c.args.transport own c.place_of.result None c.from-family.result c.as_slice.result.now c.from-family.ensures c.as_slice.ensures c.place_of.ensures c.in_default.is)) NoAllocation old refl refl
+    refused_by old c.args.transport c.args.ip c.args.now None (nowhere old c.args.transport own (index_is old c.args.transport own c.index_of.result None c.from-family.result c.as_slice.result.now c.from-family.ensures c.as_slice.ensures c.index_of.ensures c.in_default.is)) NoAllocation old refl refl
 
 pub returns-then-is_past : goal.returns-then-is_past
 returns-then-is_past c =
     let old = c.args.protocol.now in
     let own = family_of_ip c.args.ip in
-    let a = c.index-as_slice-place.result in
-    let here = place_is old c.args.transport own c.place_of.result (Some c.in-Some.place) c.from-family.result c.as_slice.result.now c.from-family.ensures c.as_slice.ensures c.place_of.ensures c.in-Some.is in
-    let at = c.index-as_slice-place.is ∙ ap (λ l. get_or l c.in-Some.place a) c.as_slice-2.ensures in
+    let a = c.index-as_slice-index.result in
+    let here = index_is old c.args.transport own c.index_of.result (Some c.in-Some.index) c.from-family.result c.as_slice.result.now c.from-family.ensures c.as_slice.ensures c.index_of.ensures c.in-Some.is in
+    let at = c.index-as_slice-index.is ∙ ap (λ l. get_or l c.in-Some.index a) c.as_slice-2.ensures in
     let is = sym c.is_past.ensures ∙ c.if-is_past.true in
-    refused_by old c.args.transport c.args.ip c.args.now (Some a) (found old c.args.transport own c.args.now c.in-Some.place a here at) NoAllocation _
+    refused_by old c.args.transport c.args.ip c.args.now (Some a) (found old c.args.transport own c.args.now c.in-Some.index a here at) NoAllocation _
     (past old.phase c.args.ip c.args.now a is)
-    (marked_past old c.args.transport own c.args.now c.in-Some.place a here at c.mark.new.allocations is c.mark.ensures)
+    (marked_past old c.args.transport own c.args.now c.in-Some.index a here at c.mark.new.allocations is c.mark.ensures)
 
 pub returns-then-knows : goal.returns-then-knows
 returns-then-knows c =
     let old = c.args.protocol.now in
     let own = family_of_ip c.args.ip in
-    let a = c.index-as_slice-place.result in
-    let here = place_is old c.args.transport own c.place_of.result (Some c.in-Some.place) c.from-family.result c.as_slice.result.now c.from-family.ensures c.as_slice.ensures c.place_of.ensures c.in-Some.is in
-    let at = c.index-as_slice-place.is ∙ ap (λ l. get_or l c.in-Some.place a) c.as_slice-2.ensures in
+    let a = c.index-as_slice-index.result in
+    let here = index_is old c.args.transport own c.index_of.result (Some c.in-Some.index) c.from-family.result c.as_slice.result.now c.from-family.ensures c.as_slice.ensures c.index_of.ensures c.in-Some.is in
+    let at = c.index-as_slice-index.is ∙ ap (λ l. get_or l c.in-Some.index a) c.as_slice-2.ensures in
     let not_past = sym c.is_past.ensures ∙ c.if-is_past.false in
-    refused_by old c.args.transport c.args.ip c.args.now (Some a) (found old c.args.transport own c.args.now c.in-Some.place a here at) AlreadyExists old
+    refused_by old c.args.transport c.args.ip c.args.now (Some a) (found old c.args.transport own c.args.now c.in-Some.index a here at) AlreadyExists old
     (known old.phase c.args.ip c.args.now a not_past (sym c.knows.ensures ∙ c.if-knows.true))
-    (unmarked old c.args.transport own c.args.now c.in-Some.place a here at not_past)
+    (unmarked old c.args.transport own c.args.now c.in-Some.index a here at not_past)
 
 pub returns-then-not-is_authenticated : goal.returns-then-not-is_authenticated
 returns-then-not-is_authenticated c =
     let old = c.args.protocol.now in
     let own = family_of_ip c.args.ip in
-    let a = c.index-as_slice-place.result in
-    let here = place_is old c.args.transport own c.place_of.result (Some c.in-Some.place) c.from-family.result c.as_slice.result.now c.from-family.ensures c.as_slice.ensures c.place_of.ensures c.in-Some.is in
-    let at = c.index-as_slice-place.is ∙ ap (λ l. get_or l c.in-Some.place a) c.as_slice-2.ensures in
+    let a = c.index-as_slice-index.result in
+    let here = index_is old c.args.transport own c.index_of.result (Some c.in-Some.index) c.from-family.result c.as_slice.result.now c.from-family.ensures c.as_slice.ensures c.index_of.ensures c.in-Some.is in
+    let at = c.index-as_slice-index.is ∙ ap (λ l. get_or l c.in-Some.index a) c.as_slice-2.ensures in
     let not_past = sym c.is_past.ensures ∙ c.if-is_past.false in
-    refused_by old c.args.transport c.args.ip c.args.now (Some a) (found old c.args.transport own c.args.now c.in-Some.place a here at) NoAllocation old
+    refused_by old c.args.transport c.args.ip c.args.now (Some a) (found old c.args.transport own c.args.now c.in-Some.index a here at) NoAllocation old
     (ended old.phase c.args.ip c.args.now a not_past (sym c.knows.ensures ∙ c.if-knows.false) (sym c.is_authenticated.ensures ∙ c.if-not-is_authenticated.true))
-    (unmarked old c.args.transport own c.args.now c.in-Some.place a here at not_past)
+    (unmarked old c.args.transport own c.args.now c.in-Some.index a here at not_past)
 
 pub returns-in-Ok : goal.returns-in-Ok
 returns-in-Ok c =
     let old = c.args.protocol.now in
     let own = family_of_ip c.args.ip in
-    let a = c.index-as_slice-place.result in
-    let here = place_is old c.args.transport own c.place_of.result (Some c.in-Some.place) c.from-family.result c.as_slice.result.now c.from-family.ensures c.as_slice.ensures c.place_of.ensures c.in-Some.is in
-    let at = c.index-as_slice-place.is ∙ ap (λ l. get_or l c.in-Some.place a) c.as_slice-2.ensures in
+    let a = c.index-as_slice-index.result in
+    let here = index_is old c.args.transport own c.index_of.result (Some c.in-Some.index) c.from-family.result c.as_slice.result.now c.from-family.ensures c.as_slice.ensures c.index_of.ensures c.in-Some.is in
+    let at = c.index-as_slice-index.is ∙ ap (λ l. get_or l c.in-Some.index a) c.as_slice-2.ensures in
     let not_past = sym c.is_past.ensures ∙ c.if-is_past.false in
-    let within = position-Some (is_of c.args.transport own) old.allocations c.in-Some.place a here in
-    let there = slice_get_read old.allocations (length old.allocations) c.in-Some.place a refl within.0 at in
+    let within = position-Some (is_of c.args.transport own) old.allocations c.in-Some.index a here in
+    let there = slice_get_read old.allocations (length old.allocations) c.in-Some.index a refl within.0 at in
     let is = c.in-Ok.ensures.ok in
-    answered_by old c.args.transport c.args.ip c.args.now (Some a) (found old c.args.transport own c.args.now c.in-Some.place a here at) (Ok tt) c.ask_permission.new.self
+    answered_by old c.args.transport c.args.ip c.args.now (Some a) (found old c.args.transport own c.args.now c.in-Some.index a here at) (Ok tt) c.ask_permission.new.self
     (free old.phase c.args.ip c.args.now a not_past (sym c.knows.ensures ∙ c.if-knows.false) (sym c.is_authenticated.ensures ∙ c.if-not-is_authenticated.false))
-    (asked_there old c.args.transport c.args.ip c.args.now c.in-Some.place a is.0 c.ask_permission.new.self (slice_get old.allocations c.in-Some.place) here refl there is.1 is.2 is.3)
+    (requested_there old c.args.transport c.args.ip c.args.now c.in-Some.index a is.0 c.ask_permission.new.self (slice_get old.allocations c.in-Some.index) here refl there is.1 is.2 is.3)
 
 pub returns-in-Err : goal.returns-in-Err
 returns-in-Err c =
     let old = c.args.protocol.now in
     let own = family_of_ip c.args.ip in
-    let a = c.index-as_slice-place.result in
-    let here = place_is old c.args.transport own c.place_of.result (Some c.in-Some.place) c.from-family.result c.as_slice.result.now c.from-family.ensures c.as_slice.ensures c.place_of.ensures c.in-Some.is in
-    let at = c.index-as_slice-place.is ∙ ap (λ l. get_or l c.in-Some.place a) c.as_slice-2.ensures in
+    let a = c.index-as_slice-index.result in
+    let here = index_is old c.args.transport own c.index_of.result (Some c.in-Some.index) c.from-family.result c.as_slice.result.now c.from-family.ensures c.as_slice.ensures c.index_of.ensures c.in-Some.is in
+    let at = c.index-as_slice-index.is ∙ ap (λ l. get_or l c.in-Some.index a) c.as_slice-2.ensures in
     let not_past = sym c.is_past.ensures ∙ c.if-is_past.false in
-    answered_by old c.args.transport c.args.ip c.args.now (Some a) (found old c.args.transport own c.args.now c.in-Some.place a here at) (Err NoMemory) c.ask_permission.new.self
+    answered_by old c.args.transport c.args.ip c.args.now (Some a) (found old c.args.transport own c.args.now c.in-Some.index a here at) (Err NoMemory) c.ask_permission.new.self
     (free old.phase c.args.ip c.args.now a not_past (sym c.knows.ensures ∙ c.if-knows.false) (sym c.is_authenticated.ensures ∙ c.if-not-is_authenticated.false))
     (refl, c.in-Err.ensures.err)

@@ -7,7 +7,7 @@ use Rattle.turn_client_proto_handshake_laws.proofs.Steps.{poll_steps}
 use Rattle.turn_client_proto_handshake_laws.proofs.driving.ask.Goals as goal
 
 pub returns-in-WaitUntil : goal.returns-in-WaitUntil
-returns-in-WaitUntil c = poll_steps c.args.client.now c.poll.new.protocol c.args.now (WaitUntil c.in-WaitUntil.moment) c.requires c.in-WaitUntil.ensures
+returns-in-WaitUntil c = poll_steps c.args.client.now c.poll.new.protocol c.args.now (WaitUntil c.in-WaitUntil.time) c.requires c.in-WaitUntil.ensures
 
 pub returns-in-Closed : goal.returns-in-Closed
 returns-in-Closed c = poll_steps c.args.client.now c.poll.new.protocol c.args.now Closed c.requires c.in-Closed.ensures

@@ -1,11 +1,11 @@
 use Rattle.std.proofs.Common.{◌≤◌, List, length, subst}
 use Rattle.stun_types_base.specs.declared.family.AddressFamily.{AddressFamily}
-use Rattle.turn_client_proto_handshake_laws.specs.Promises.{HasSent, HasTold}
+use Rattle.turn_client_proto_handshake_laws.specs.Promises.{HasSent, HasReported}
 use Rattle.turn_client_proto_handshake_laws.specs.Sent.{Beginning, HasRoom}
 use Rattle.turn_client_proto_handshake_laws.specs.declared.driving.Stage.{Stage}
 use Rattle.turn_client_proto_handshake_laws.proofs.driving.drive_new.Goals as goal
 
--- the client that begins
+-- The client at its start.
 abbrev beginning : goal.After-drive-stage → Beginning
 beginning c = record {
   transport = c.args.transport;
@@ -17,13 +17,13 @@ beginning c = record {
 }
 
 has_room : (c : goal.After-drive-stage) → HasRoom c.args.config
-has_room c = (c.requires, subst (λ (l : List AddressFamily). length l ≤ 2) c.requested_families.ensures c.requests_are_lawful.ensures)
+has_room c = (c.requires, subst (λ (l : List AddressFamily). length l ≤ 2) c.requested_families.ensures c.proof_requests_are_lawful.ensures)
 
 pub returns-clause-closed : goal.returns-clause-closed
 returns-clause-closed c = λ now over.
     let d = c.drive-stage.ensures.2 in
-    let told = c.unanswered_clients_end.ensures.told (beginning c) c.new-client.result c.drive-stage.new.client d.calls c.drive-stage.result (has_room c) c.new-client.ensures d.driven in
-    (subst (λ (s : Stage). HasTold (beginning c) d.calls s c.drive-stage.new.client) over told).0
+    let reported = c.unanswered_clients_end.ensures.reported (beginning c) c.new-client.result c.drive-stage.new.client d.calls c.drive-stage.result (has_room c) c.new-client.ensures d.driven in
+    (subst (λ (s : Stage). HasReported (beginning c) d.calls s c.drive-stage.new.client) over reported).0
 
 pub returns-clause-found : goal.returns-clause-found
 returns-clause-found c = λ astray.

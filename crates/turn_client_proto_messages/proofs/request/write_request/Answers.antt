@@ -6,14 +6,14 @@ use Rattle.turn_client_proto_messages.proofs.request.write_request.Goals as goal
 pub sign_outgoing_message_unchecked-requires-clause-accepted :
     goal.sign_outgoing_message_unchecked-requires-clause-accepted
 sign_outgoing_message_unchecked-requires-clause-accepted c =
-    request_accepted c.args.auth.now c.args.request c.args.number (own_draft c.in_ok-draft.draft) c.requires c.in_ok-draft.ensures.request c.in_ok-draft.ensures.short
+    request_accepted c.args.auth.now c.args.request c.args.transaction_id (own_draft c.in_ok-draft.draft) c.requires c.in_ok-draft.ensures.request c.in_ok-draft.ensures.short
 
 pub returns-in_ok-signed : goal.returns-in_ok-signed
 returns-in_ok-signed c =
     c.finish.ensures
-    ∙ signed_text c.args.auth.now c.args.request c.args.number (own_draft c.in_ok-draft.draft) (own_draft c.in_ok-signed.signed) (sym c.is_signed-is_signed.ensures ∙ c.if-is_signed.true) c.in_ok-draft.ensures.request c.in_ok-signed.ensures.ok
+    ∙ signed_text c.args.auth.now c.args.request c.args.transaction_id (own_draft c.in_ok-draft.draft) (own_draft c.in_ok-signed.signed) (sym c.is_signed-is_signed.ensures ∙ c.if-is_signed.true) c.in_ok-draft.ensures.request c.in_ok-signed.ensures.ok
 
 pub returns-else-is_signed : goal.returns-else-is_signed
 returns-else-is_signed c =
     c.finish-else-is_signed.ensures
-    ∙ unsigned_text c.args.auth.now c.args.request c.args.number (own_draft c.in_ok-draft.draft) (sym c.is_signed-is_signed.ensures ∙ c.if-is_signed.false) c.in_ok-draft.ensures.request
+    ∙ unsigned_text c.args.auth.now c.args.request c.args.transaction_id (own_draft c.in_ok-draft.draft) (sym c.is_signed-is_signed.ensures ∙ c.if-is_signed.false) c.in_ok-draft.ensures.request

@@ -1,7 +1,7 @@
 use Rattle.std.proofs.Common.{◌≡◌, ◌++◌, length}
 use Rattle.turn_client_proto_messages.proofs.signer.set_algorithms.Given as goal
 
--- what is supported, and behind it what is left, are the algorithms; nothing else changes
+-- The supported algorithms followed by the remaining ones are the given algorithms. Nothing else changes.
 abbrev pub invariant-loop-algorithm : goal.invariant-loop-algorithm
 invariant-loop-algorithm l = (l.auth ≡ record l.fn.auth { algorithms = l.auth.algorithms }) × (l.auth.algorithms ++ l.left ≡ l.fn.algorithms)
 

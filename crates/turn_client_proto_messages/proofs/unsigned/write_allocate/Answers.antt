@@ -7,7 +7,7 @@ use Rattle.turn_client_proto_messages.proofs.unsigned.write_allocate.Goals as go
 pub returns-clause-request : goal.returns-clause-request
 returns-clause-request c =
     let kind = type_of Request allocate_method in
-    let number = c.args.number in
-    let one = c.in_ok-add_transport.ensures.behind kind number [] c.in_ok-draft.ensures.unsigned in
-    let two = c.in_ok-add_lifetime.ensures.behind kind number _ one in
-    c.in_ok-add_families.ensures.families.behind kind number _ two
+    let number = c.args.transaction_id in
+    let one = c.in_ok-add_transport.ensures.following kind number [] c.in_ok-draft.ensures.unsigned in
+    let two = c.in_ok-add_lifetime.ensures.following kind number _ one in
+    c.in_ok-add_families.ensures.families.following kind number _ two

@@ -7,6 +7,6 @@ use Rattle.turn_client_proto_messages.proofs.unsigned.write_channel_bind.Goals a
 pub returns-clause-request : goal.returns-clause-request
 returns-clause-request c =
     let kind = type_of Request channel_bind_method in
-    let number = c.args.number in
-    let one = c.in_ok-add_channel.ensures.behind kind number [] c.in_ok-draft.ensures.unsigned in
-    c.in_ok-add_peer.ensures.behind kind number _ one
+    let number = c.args.transaction_id in
+    let one = c.in_ok-add_channel.ensures.following kind number [] c.in_ok-draft.ensures.unsigned in
+    c.in_ok-add_peer.ensures.following kind number _ one

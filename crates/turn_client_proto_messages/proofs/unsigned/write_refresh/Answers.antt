@@ -5,4 +5,4 @@ use Rattle.turn_types_attributes.specs.TurnRegistry.{refresh_method}
 use Rattle.turn_client_proto_messages.proofs.unsigned.write_refresh.Goals as goal
 
 pub returns-clause-request : goal.returns-clause-request
-returns-clause-request c = c.in_ok-add_lifetime.ensures.behind (type_of Request refresh_method) c.args.number [] c.in_ok-draft.ensures.unsigned
+returns-clause-request c = c.in_ok-add_lifetime.ensures.following (type_of Request refresh_method) c.args.transaction_id [] c.in_ok-draft.ensures.unsigned

@@ -12,7 +12,7 @@ use Rattle.turn_client_proto_payload.specs.Sending.{IsSentOver, Numbered, answer
 use Rattle.turn_client_proto_payload.proofs.sending.carried.Goals as goal
 use Rattle.turn_client_proto_payload.proofs.sending.carried.Goals.{in_default-via-in-Some+else-le, in_default-via-in_default}
 
--- where no channel to the peer stands, an indication goes
+-- Without an active channel to the peer, an indication is sent.
 indicated : {T : Type 0} (items : T → List ℕ) (bytes : T) (old new : Protocol) (to : SocketAddr) (now number : ℕ)
     (message : Sent) (built : TransmitBuild (DelayedMessageOrChannelSend T))
     → message ≡ record { method = send_method; peer = to; number = number; payload = items bytes }
@@ -24,7 +24,7 @@ indicated items bytes old new to now number message built sent is next after non
 
 pub returns-in-Ok : goal.returns-in-Ok
 returns-in-Ok g c =
-    let sent = indicated g.T.AsSlice.items c.args.bytes c.args.protocol.now c.draw_number.new.self c.args.to c.args.now c.in-Ok.number c.for_server-message.result c.new-in-Ok.result in
+    let sent = indicated g.T.AsSlice.items c.args.bytes c.args.protocol.now c.generate_id.new.self c.args.to c.args.now c.in-Ok.number c.for_server-message.result c.new-in-Ok.result in
     elim c.in_default.branch [
       | in_default-via-in-Some+else-le w ↦ sent (search rules) (search rules) (search rules) (search rules) (search rules)
       | in_default-via-in_default w ↦ sent (search rules) (search rules) (search rules) (search rules) (search rules)

@@ -11,7 +11,7 @@ use Rattle.turn_client_proto_core.specs.declared.protocol.Protocol.{Protocol}
 use Rattle.turn_client_proto_payload.specs.Sending.{send_refusal}
 use Rattle.turn_client_proto_payload.proofs.sending.send_to.Goals as goal
 
--- over UDP, few enough bytes to a peer with a permission are not refused
+-- Over UDP, at most `most_payload` bytes to a peer with a permission are not refused.
 none_refused : (transport : TransportType) (old : Protocol) (to : SocketAddr) (bytes : List ℕ) → transport ≡ Udp
     → list_any (permits_over transport (socket_ip to)) old.allocations ≡ true → length bytes ≤ most_payload
     → send_refusal transport old to bytes ≡ None

@@ -3,7 +3,7 @@ use Rattle.turn_client_proto_messages.specs.TurnTypesAttributes.TurnRegistry.{ch
 use Rattle.turn_client_proto_step_laws.specs.Payload.declared.payload.Payload.TheVariants.{Framed}
 use Rattle.turn_client_proto_progress_laws.proofs.Asking.Bound.{frame_given}
 use Rattle.turn_client_proto_progress_laws.proofs.Asking.Frames.{frame_part, no_message}
-use Rattle.turn_client_proto_progress_laws.proofs.Asking.Given.{given_by, same_kept}
+use Rattle.turn_client_proto_progress_laws.proofs.Asking.Given.{given_by, same_stored}
 use Rattle.turn_client_proto_progress_laws.proofs.channels.frames_are_taken.Goals as goal
 
 pub returns : goal.returns
@@ -18,5 +18,5 @@ returns g c = λ b channel old new came now answer peer payload is over from are
         transport_is = refl;
         peer_is = refl;
       },
-      same_kept old new given.1 (given.2 ∙ sym over),
+      same_stored old new given.1 (given.2 ∙ sym over),
     )

@@ -1,4 +1,4 @@
-use Rattle.turn_client_proto_progress_laws.proofs.Renewing.Drawn.{holding_keeps}
+use Rattle.turn_client_proto_progress_laws.proofs.Renewing.Transmitted.{holding_keeps}
 use Rattle.turn_client_proto_progress_laws.proofs.renewals.holding_clients_keep.Goals as goal
 
 pub returns : goal.returns

@@ -16,16 +16,16 @@ returns-clause-request c = λ b choice number room text chosen fits. by b choice
         let r = c.signed_allocates_answer.ensures.read b choice text chosen in
         let short : HasShortTexts (signed_by b choice) = record { username = s.username; challenge = s.challenge } in
         let reads : HasReadTexts (signed_by b choice) = record { username = r.username; challenge = r.challenge } in
-        let laws = c.requests_are_read.ensures in
+        let laws = c.proof_requests_are_read.ensures in
         record {
           message = laws.message (signed_by b choice) refresh_for number short (omega arith) fits;
           request = laws.request (signed_by b choice) refresh_for number;
           number_is = laws.number (signed_by b choice) refresh_for number short (omega arith) fits;
           method = ap method_of (laws.read (signed_by b choice) refresh_for number short (omega arith) fits).kind;
-          told = laws.told (signed_by b choice) refresh_for number short (omega arith) fits tt;
+          reported = laws.reported (signed_by b choice) refresh_for number short (omega arith) fits tt;
           valid = laws.valid (signed_by b choice) refresh_for number (standing_by b choice) short (omega arith) fits refl refl;
           claims = c.signed_requests_claim.ensures (signed_by b choice) refresh_for number (standing_by b choice) short reads (omega arith) fits refl refl;
         }
 
-pub returns-clause-stands : goal.returns-clause-stands
-returns-clause-stands c = λ b choice. refl
+pub returns-clause-occurs : goal.returns-clause-occurs
+returns-clause-occurs c = λ b choice. refl

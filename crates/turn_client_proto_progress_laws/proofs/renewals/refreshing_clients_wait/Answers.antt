@@ -3,10 +3,10 @@ use Rattle.turn_client_proto_progress_laws.proofs.Renewing.Only.{due_or_quiet}
 use Rattle.turn_client_proto_progress_laws.proofs.renewals.refreshing_clients_wait.Goals as goal
 
 pub returns-clause-again : goal.returns-clause-again
-returns-clause-again c = λ b choice address t number made many last events old new now sent w due drawn. refreshing_again b choice address t number made many last events old w now sent new due drawn
+returns-clause-again c = λ b choice address t number made many last events old new now sent w due transmitted. refreshing_again b choice address t number made many last events old w now sent new due transmitted
 
 pub returns-clause-still : goal.returns-clause-still
-returns-clause-still c = λ b choice address t number made many last events old new now sent w quiet drawn. refreshing_still b choice address t number made many last events old w now sent new quiet drawn
+returns-clause-still c = λ b choice address t number made many last events old new now sent w quiet transmitted. refreshing_still b choice address t number made many last events old w now sent new quiet transmitted
 
 pub returns-clause-polled : goal.returns-clause-polled
 returns-clause-polled c = λ b choice address t number made many last events old new now ret w is in_range open_still lasts polled.

@@ -1,14 +1,14 @@
-use Rattle.turn_client_proto_progress_laws.proofs.Renewing.Arriving.{datagram_heard, piece_ends, piece_waits}
+use Rattle.turn_client_proto_progress_laws.proofs.Renewing.Arriving.{datagram_processed, chunk_ends, chunk_waits}
 use Rattle.turn_client_proto_progress_laws.proofs.renewals.successes_reach_clients.Goals as goal
 
 pub returns-clause-datagram : goal.returns-clause-datagram
 returns-clause-datagram g c = λ b old new came now answer is over from message received.
-    datagram_heard b old is g.T.AsSlice.items came from now answer new over message received
+    datagram_processed b old is g.T.AsSlice.items came from now answer new over message received
 
-pub returns-clause-piece : goal.returns-clause-piece
-returns-clause-piece g c = λ b old new came now answer before message is come from some part received.
-    piece_waits b old is g.T.AsSlice.items came from now answer new before some message part come received
+pub returns-clause-chunk : goal.returns-clause-chunk
+returns-clause-chunk g c = λ b old new came now answer before message is come from some part received.
+    chunk_waits b old is g.T.AsSlice.items came from now answer new before some message part come received
 
 pub returns-clause-whole : goal.returns-clause-whole
 returns-clause-whole g c = λ b old new came now answer before is come from some message received.
-    piece_ends b old is g.T.AsSlice.items came from now answer new before some message come received
+    chunk_ends b old is g.T.AsSlice.items came from now answer new before some message come received

@@ -5,15 +5,15 @@ use Rattle.turn_client_proto_progress_laws.proofs.requests.granted_permissions_a
 
 read : (c : goal.After-signed_requests_claim) → AreRead
 read c = record {
-  message = c.requests_are_read.ensures.message;
-  number = c.requests_are_read.ensures.number;
-  kind = λ client r number short lawful fits. (c.requests_are_read.ensures.read client r number short lawful fits).kind;
+  message = c.proof_requests_are_read.ensures.message;
+  number = c.proof_requests_are_read.ensures.number;
+  kind = λ client r number short lawful fits. (c.proof_requests_are_read.ensures.read client r number short lawful fits).kind;
 }
 
 pub returns-clause-holds : goal.returns-clause-holds
-returns-clause-holds c = λ b realm address ip request reply now old new handled is grant heard.
+returns-clause-holds c = λ b realm address ip request reply now old new handled is grant processed.
     holds b realm address ip request now old is reply (shows_number b realm address (APermission ip) request now old is (read c)) (claims_own b realm address (APermission ip) request now old is c.signed_requests_claim.ensures)
-    (shows_method b realm address (APermission ip) request now old is (read c)) grant handled new heard
+    (shows_method b realm address (APermission ip) request now old is (read c)) grant handled new processed
 
 pub returns-clause-had : goal.returns-clause-had
 returns-clause-had c = λ b ip p is. says_so b ip p is

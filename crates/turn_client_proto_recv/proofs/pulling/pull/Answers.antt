@@ -1,5 +1,5 @@
 use Rattle.std.proofs.Common.{subst, sym, ◌∙◌}
-use Rattle.turn_client_proto_recv.specs.Pieces.{IsTakenOff}
+use Rattle.turn_client_proto_recv.specs.Chunks.{IsTakenOff}
 use Rattle.turn_client_proto_recv.proofs.Loops.{ends, gives, goes, less, lost, on_err}
 use Rattle.turn_client_proto_recv.proofs.pulling.pull.Goals as goal
 

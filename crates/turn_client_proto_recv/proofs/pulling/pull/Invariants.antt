@@ -2,9 +2,9 @@ use Rattle.std.proofs.Common.{length}
 use Rattle.turn_client_proto_recv.proofs.Loops.{IsOnward}
 use Rattle.turn_client_proto_recv.proofs.pulling.pull.Given as goal
 
--- whatever the pull from here on comes to, so does the whole one
+-- The outcome of the pull from here on is the outcome of the whole pull.
 abbrev pub invariant-loop-given : goal.invariant-loop-given
 invariant-loop-given g l = IsOnward l.fn.now l.fn.stream l.fn.protocol l.stream l.protocol
 
 abbrev pub decreases-loop-given : goal.decreases-loop-given
-decreases-loop-given g l = length l.stream.kept
+decreases-loop-given g l = length l.stream.stored

@@ -1,6 +1,6 @@
 use Rattle.std.proofs.Common.{subst}
-use Rattle.turn_client_proto_recv.specs.SocketPieces.{IsNextTaken}
-use Rattle.turn_client_proto_recv.proofs.Feeding.{ends_here, goes_less, goes_on, lost_here}
+use Rattle.turn_client_proto_recv.specs.SocketChunks.{IsNextTaken}
+use Rattle.turn_client_proto_recv.proofs.Feeding.{ends_here, goes_less, continues, lost_here}
 use Rattle.turn_client_proto_recv.proofs.Loops.{on_err}
 use Rattle.turn_client_proto_recv.proofs.sockets.feed.Goals as goal
 
@@ -16,7 +16,7 @@ loop-smaller c =
 
 pub loop-preserved : goal.loop-preserved
 loop-preserved c =
-    goes_on c.args.here c.args.now c.args.stream.now c.args.protocol.now c.loop.stream c.loop.protocol c.loop.invariant c.take_next.new.stream c.take_next.new.protocol
+    continues c.args.here c.args.now c.args.stream.now c.args.protocol.now c.loop.stream c.loop.protocol c.loop.invariant c.take_next.new.stream c.take_next.new.protocol
     (subst (λ went. IsNextTaken c.args.here c.args.now c.loop.stream c.loop.protocol went c.take_next.new.stream c.take_next.new.protocol) c.if-branch.true c.in_ok-take_next.ensures.ok)
 
 pub returns-clause-ok : goal.returns-clause-ok

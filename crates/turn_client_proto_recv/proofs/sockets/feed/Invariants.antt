@@ -2,9 +2,9 @@ use Rattle.std.proofs.Common.{length}
 use Rattle.turn_client_proto_recv.proofs.Feeding.{IsOnwardAt}
 use Rattle.turn_client_proto_recv.proofs.sockets.feed.Given as goal
 
--- whatever the frames from here on come to, so do all
+-- The outcome of the frames from here on is the outcome of all of them.
 abbrev pub invariant-loop : goal.invariant-loop
 invariant-loop l = IsOnwardAt l.fn.here l.fn.now l.fn.stream l.fn.protocol l.stream l.protocol
 
 abbrev pub decreases-loop : goal.decreases-loop
-decreases-loop l = length l.stream.kept
+decreases-loop l = length l.stream.stored

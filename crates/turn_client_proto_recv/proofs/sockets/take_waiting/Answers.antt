@@ -1,6 +1,6 @@
 use Rattle.std.proofs.Common.{Some, ap, option_map, subst, sym, ◌∙◌}
 use Rattle.turn_client_proto_connection.specs.Streams.{raw_of}
-use Rattle.turn_client_proto_recv.specs.SocketPieces.{IsWaitingTaken}
+use Rattle.turn_client_proto_recv.specs.SocketChunks.{IsWaitingTaken}
 use Rattle.turn_client_proto_recv.proofs.Asking.{none_taken, some_taken}
 use Rattle.turn_client_proto_recv.proofs.sockets.take_waiting.Goals as goal
 

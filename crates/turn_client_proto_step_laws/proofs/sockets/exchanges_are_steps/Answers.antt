@@ -3,6 +3,6 @@ use Rattle.turn_client_proto_step_laws.proofs.sockets.exchanges_are_steps.Goals 
 
 pub returns : goal.returns
 returns c = record {
-  kept = λ client here stream sound. exchange_step client here stream sound;
+  stored = λ client here stream sound. exchange_step client here stream sound;
   taken = λ client sound. emptying_step client sound;
 }

@@ -5,5 +5,5 @@ use Rattle.turn_client_proto_step_laws.proofs.steps.closings_are_steps.Goals as 
 pub returns : goal.returns
 returns c = record {
   step = λ client here server new sound is. close_step client here server new sound is;
-  gone = λ old new here peer number tcp is kept. none_over old new here peer number tcp is kept;
+  gone = λ old new here peer number tcp is stored. none_over old new here peer number tcp is stored;
 }

@@ -1,4 +1,4 @@
-use Rattle.turn_client_proto_step_laws.proofs.Shown.{had_held, held_had}
+use Rattle.turn_client_proto_step_laws.proofs.Visible.{had_held, held_had}
 use Rattle.turn_client_proto_step_laws.proofs.steps.permissions_had_are_held.Goals as goal
 
 pub returns : goal.returns

@@ -7,14 +7,14 @@ pub returns-in-Ok : goal.returns-in-Ok
 returns-in-Ok c =
     let old = c.args.protocol.now in
     let no_answer = sym c.has_answer.ensures ∙ c.if-has_answer.false in
-    named old c.args.now c.in-Ok.answer c.tick.new.protocol c.in-Ok.ensures.named (no_events old.events c.len-events.result old c.args.now c.in-Ok.answer c.tick.new.protocol c.len-events.ensures c.if-events-gt0.false no_answer c.in-Ok.ensures.ok)
+    named old c.args.now c.in-Ok.answer c.poll_agent.new.protocol c.in-Ok.ensures.named (no_events old.events c.len-events.result old c.args.now c.in-Ok.answer c.poll_agent.new.protocol c.len-events.ensures c.if-events-gt0.false no_answer c.in-Ok.ensures.ok)
 
 pub returns-in-Err : goal.returns-in-Err
 returns-in-Err c = record {
-  failed = failed_from c.args.protocol.now c.tick.new.protocol c.fail.new.self c.len-events.result c.len-events.ensures c.in-Err.ensures.err c.fail.ensures;
+  failed = failed_from c.args.protocol.now c.poll_agent.new.protocol c.fail.new.self c.len-events.result c.len-events.ensures c.in-Err.ensures.err c.fail.ensures;
   no_event = none_waits c.args.protocol.now.events c.len-events.result c.len-events.ensures c.if-events-gt0.false;
   no_answer = sym c.has_answer.ensures ∙ c.if-has_answer.false;
-  has_to_tell = c.in-Err.ensures.memory;
+  has_to_report = c.in-Err.ensures.memory;
 }
 
 pub returns-then-has_answer : goal.returns-then-has_answer

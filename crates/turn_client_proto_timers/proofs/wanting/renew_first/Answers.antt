@@ -9,7 +9,7 @@ use Rattle.turn_client_proto_timers.proofs.wanting.renew_first.Goals as goal
 
 pub returns-clause-ok : goal.returns-clause-ok
 returns-clause-ok c =
-    let x : Allocation = get_or c.args.allocations.now c.in-Some.place c.index-allocations-place.result in
-    let is_there = ap (λ y. get_or c.args.allocations.now c.in-Some.place y) c.index-allocations-place.is in
-    on_ok c.renew_first.result (λ is. put_there (wants c.args.now) (renewing c.args.now c.args.number) c.args.allocations.now c.in-Some.place x _ (sym c.place_wanting.ensures ∙ c.in-Some.is) is_there
-    (ap (λ l. record x { permissions = l }) (first_back (wants_renewal c.args.now) (awaiting c.args.number) x.permissions c.as_mut_slice.result.now c.renew_first.new.permissions c.as_mut_slice.ensures.value is))) c.renew_first.ensures.ok
+    let x : Allocation = get_or c.args.allocations.now c.in-Some.index c.index-allocations-index.result in
+    let is_there = ap (λ y. get_or c.args.allocations.now c.in-Some.index y) c.index-allocations-index.is in
+    on_ok c.renew_first.result (λ is. put_there (wants c.args.now) (renewing c.args.now c.args.transaction_id) c.args.allocations.now c.in-Some.index x _ (sym c.index_wanting.ensures ∙ c.in-Some.is) is_there
+    (ap (λ l. record x { permissions = l }) (first_back (wants_renewal c.args.now) (awaiting c.args.transaction_id) x.permissions c.as_mut_slice.result.now c.renew_first.new.permissions c.as_mut_slice.ensures.value is))) c.renew_first.ensures.ok

@@ -6,5 +6,5 @@ use Rattle.turn_client_proto_timers.proofs.wanting.wanted.Goals as goal
 
 pub returns : goal.returns
 returns c =
-    let found = found_at (wants c.args.now) c.args.allocations.now c.in_ok-place.place c.index-allocations-place.result (sym c.place_wanting.ensures ∙ c.in_ok-place.was) c.index-allocations-place.is in
+    let found = found_at (wants c.args.now) c.args.allocations.now c.in_ok-index.index c.index-allocations-index.result (sym c.index_wanting.ensures ∙ c.in_ok-index.was) c.index-allocations-index.is in
     c.want_of.ensures ∙ ap (option_and_then (want c.args.now)) (sym found)

@@ -12,7 +12,7 @@ use Rattle.turn_types_attributes.specs.TurnRegistry.{xor_relayed_address_kind}
 
 pub returns-in_ok-add_as-clause-composed : goal.returns-in_ok-add_as-clause-composed
 returns-in_ok-add_as-clause-composed c = λ kind attributes old h.
-    let number = c.args.number in
+    let number = c.args.transaction_id in
     let new = own_draft c.add_as.new.writer in
     let made = composed_more kind number attributes _ old _ _ h c.in_ok-add_as.ensures.ok refl c.in_ok-add_as.ensures.cause in
     let value : attr_of xor_relayed_address_kind c.new-relayed.result ≡ relayed_attribute number c.in-Some.addr.now = ap (λ (v : List ℕ). attr_of xor_relayed_address_kind v) c.new-relayed.ensures in

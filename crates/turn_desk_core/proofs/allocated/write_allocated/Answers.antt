@@ -16,7 +16,7 @@ pub add_relayed-requires-clause-room : goal.add_relayed-requires-clause-room
 add_relayed-requires-clause-room c =
     let kind = success_type c.args.request.now in
     let n = number_at c.args.request.now in
-    let r0 = composed_none kind n (own_draft c.new.result) (own_draft c.in_ok-reply.reply) c.in_ok-reply.ensures.begun in
+    let r0 = composed_none kind n (own_draft c.new.result) (own_draft c.in_ok-reply.reply) c.in_ok-reply.ensures.started in
     relayed_room kind n c.transaction_id-number.result [] (own_draft c.new.result) (own_draft c.in_ok-reply.reply) c.new.ensures r0 (none-length kind n)
 
 pub add_relayed-requires-2-clause-room : goal.add_relayed-requires-2-clause-room
@@ -25,7 +25,7 @@ add_relayed-requires-2-clause-room c =
     let m = c.transaction_id-number.result in
     let first = option_copied c.first.result in
     let old = own_draft c.new.result in
-    let r0 = composed_none kind _ old (own_draft c.in_ok-reply.reply) c.in_ok-reply.ensures.begun in
+    let r0 = composed_none kind _ old (own_draft c.in_ok-reply.reply) c.in_ok-reply.ensures.started in
     let r1 = c.in_ok-add_relayed.ensures.composed kind [] old (rw c.transaction_id-number.ensures r0) in
     relayed_room kind m m (relayed_attributes m (option_to_list first)) old (own_draft c.add_relayed.new.reply) c.new.ensures r1 (first-length kind m m first)
 
@@ -34,7 +34,7 @@ returns-in_err-add_as-clause-memory c =
     let kind = success_type c.args.request.now in
     let n = number_at c.args.request.now in
     let old = own_draft c.new.result in
-    let r0 = composed_none kind n old (own_draft c.in_ok-reply.reply) c.in_ok-reply.ensures.begun in
+    let r0 = composed_none kind n old (own_draft c.in_ok-reply.reply) c.in_ok-reply.ensures.started in
     let r1 = c.in_ok-add_relayed.ensures.composed kind [] old (rw c.transaction_id-number.ensures r0) in
     let r2 = c.in_ok-add_relayed-2.ensures.composed kind _ old r1 in
     let second = second_of c.get.result c.args.relayed.now c.get.ensures.lookup.3 in
@@ -48,7 +48,7 @@ returns-in_err-add_as-2-clause-memory c =
     let kind = success_type c.args.request.now in
     let n = number_at c.args.request.now in
     let old = own_draft c.new.result in
-    let r0 = composed_none kind n old (own_draft c.in_ok-reply.reply) c.in_ok-reply.ensures.begun in
+    let r0 = composed_none kind n old (own_draft c.in_ok-reply.reply) c.in_ok-reply.ensures.started in
     let r1 = c.in_ok-add_relayed.ensures.composed kind [] old (rw c.transaction_id-number.ensures r0) in
     let r2 = c.in_ok-add_relayed-2.ensures.composed kind _ old r1 in
     let second = second_of c.get.result c.args.relayed.now c.get.ensures.lookup.3 in
@@ -64,7 +64,7 @@ returns-clause-reply c =
     let n = number_at c.args.request.now in
     let number : c.transaction_id-number.result ≡ n = c.transaction_id-number.ensures in
     let old = own_draft c.new.result in
-    let r0 : IsComposed kind n [] old (own_draft c.in_ok-reply.reply) = composed_none kind n old (own_draft c.in_ok-reply.reply) c.in_ok-reply.ensures.begun in
+    let r0 : IsComposed kind n [] old (own_draft c.in_ok-reply.reply) = composed_none kind n old (own_draft c.in_ok-reply.reply) c.in_ok-reply.ensures.started in
     let r1 = c.in_ok-add_relayed.ensures.composed kind [] old (rw number r0) in
     let r2 = c.in_ok-add_relayed-2.ensures.composed kind _ old r1 in
     let second : option_copied c.get.result ≡ slice_get c.args.relayed.now 1 = second_of c.get.result c.args.relayed.now c.get.ensures.lookup.3 in

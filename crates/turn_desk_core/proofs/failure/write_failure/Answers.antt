@@ -20,10 +20,10 @@ returns-in_err-code-clause-memory c =
 pub returns-in_err-add_as-clause-memory : goal.returns-in_err-add_as-clause-memory
 returns-in_err-add_as-clause-memory c =
     let same = default_error c.builder.result c.in_ok-code.code c.args.code c.builder.ensures.code c.builder.ensures.reason c.in_ok-code.ensures.ok.0 c.in_ok-code.ensures.ok.1 in
-    let begun = composed_none (error_type c.args.request.now) (number_at c.args.request.now) _ _ c.in_ok-reply.ensures.begun in
+    let started = composed_none (error_type c.args.request.now) (number_at c.args.request.now) _ _ c.in_ok-reply.ensures.started in
     let memory : c.in_err-add_as.field-0.0 ≡ NoMemory =
     only_memory _ _ c.in_err-add_as.ensures.cause
-    (error_room (error_type c.args.request.now) (number_at c.args.request.now) c.args.code _ (own_draft c.new.result) (own_draft c.in_ok-reply.reply) c.new.ensures begun same) in
+    (error_room (error_type c.args.request.now) (number_at c.args.request.now) c.args.code _ (own_draft c.new.result) (own_draft c.in_ok-reply.reply) c.new.ensures started same) in
     search rules
 
 pub returns-clause-reply : goal.returns-clause-reply
@@ -31,6 +31,6 @@ returns-clause-reply c =
     let kind = error_type c.args.request.now in
     let number = number_at c.args.request.now in
     let same = default_error c.builder.result c.in_ok-code.code c.args.code c.builder.ensures.code c.builder.ensures.reason c.in_ok-code.ensures.ok.0 c.in_ok-code.ensures.ok.1 in
-    let made = composed_more kind number [] _ _ _ _ (composed_none kind number _ _ c.in_ok-reply.ensures.begun) c.in_ok-add_as.ensures.ok refl c.in_ok-add_as.ensures.cause in
+    let made = composed_more kind number [] _ _ _ _ (composed_none kind number _ _ c.in_ok-reply.ensures.started) c.in_ok-add_as.ensures.ok refl c.in_ok-add_as.ensures.cause in
     let composed = subst (λ (a : Attr). IsComposed kind number (a ∷ []) (own_draft c.new.result) (own_draft c.add_as.new.writer)) same made in
     failure_reply kind number c.args.code (own_draft c.new.result) (own_draft c.add_as.new.writer) c.new.ensures composed

@@ -9,4 +9,4 @@ pub returns-clause-reply : goal.returns-clause-reply
 returns-clause-reply c =
     let kind = success_type c.args.request.now in
     let n = number_at c.args.request.now in
-    granted_reply kind n (own_draft c.new.result) (own_draft c.in_ok-reply.reply) c.new.ensures (composed_none kind n (own_draft c.new.result) (own_draft c.in_ok-reply.reply) c.in_ok-reply.ensures.begun)
+    granted_reply kind n (own_draft c.new.result) (own_draft c.in_ok-reply.reply) c.new.ensures (composed_none kind n (own_draft c.new.result) (own_draft c.in_ok-reply.reply) c.in_ok-reply.ensures.started)

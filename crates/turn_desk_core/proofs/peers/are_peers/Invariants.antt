@@ -2,10 +2,10 @@ use Rattle.std.proofs.Common.{◌≡◌, map, eqb}
 use Rattle.std.specs.Prelude.{is_some}
 use Rattle.std.specs.List.{filter, list_all}
 use Rattle.turn_types_attributes.specs.TurnRegistry.{xor_peer_address_kind}
-use Rattle.turn_desk_core.specs.AskedFor.{are_peers, peer_in}
+use Rattle.turn_desk_core.specs.RequestedFor.{are_peers, peer_in}
 use Rattle.turn_desk_core.proofs.peers.are_peers.Given as goal
 
--- those of what is left are well formed where all are
+-- The remaining attributes are well formed exactly if all are.
 abbrev pub invariant-loop-raw : goal.invariant-loop-raw
 invariant-loop-raw l =
     (goal.iterator-loop-raw).can_next l.raw-iterator ×

@@ -3,7 +3,7 @@ use Rattle.std.specs.List.{flat_map}
 use Rattle.turn_desk_event.specs.Printed.{connection_text}
 use Rattle.turn_desk_event.proofs.print.print_connections.Given as goal
 
--- the text so far has those of the list that were passed
+-- The text so far has the elements of the list that were visited.
 abbrev pub invariant-loop-connection : goal.invariant-loop-connection
 invariant-loop-connection l =
     string_bytes l.text ≡ codes "connections" ++ flat_map connection_text (take l.connection-index l.list)

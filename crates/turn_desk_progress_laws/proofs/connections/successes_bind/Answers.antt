@@ -13,19 +13,19 @@ use Rattle.turn_client_proto_messages.specs.declared.request.TurnRequest.TheVari
 use Rattle.turn_desk_world_laws.specs.World.Model.{World}
 use Rattle.turn_desk_progress_laws.specs.Scripts.{Plan}
 use Rattle.turn_desk_progress_laws.proofs.Coming.{none_yet}
-use Rattle.turn_desk_progress_laws.specs.Joining.{IsBinding, StandsAt, holder_in}
+use Rattle.turn_desk_progress_laws.specs.Joining.{IsBinding, IsAtStep, holder_in}
 use Rattle.turn_desk_progress_laws.specs.Linked.{IsSigned, IsSuccessTo}
 use Rattle.turn_desk_progress_laws.specs.Links.{Answered, Binding, Link}
 use Rattle.turn_desk_progress_laws.proofs.connections.successes_bind.Goals as goal
 
-module _ (c : goal.After-holders_can_ask) (plan : Plan) (old w : World) (address : SocketAddr) (lifetime : ℕ) (link : Link) (sent : ℕ) (request : Sent) (s : StandsAt plan old address lifetime link (Binding sent request) w) (reply : List ℕ) (is : IsSuccessTo plan old request reply) where
+module _ (c : goal.After-holders_can_ask) (plan : Plan) (old w : World) (address : SocketAddr) (lifetime : ℕ) (link : Link) (sent : ℕ) (request : Sent) (s : IsAtStep plan old address lifetime link (Binding sent request) w) (reply : List ℕ) (is : IsSuccessTo plan old request reply) where
   abbrev h : Holder
   h = holder_in plan address lifetime s.auth s.standing
 
   abbrev b : IsBinding link sent request [] h s.events s.client.core s.client.is.number
   b = s.client.is.is
 
-  -- the algorithm is the one by which the client signs
+  -- The algorithm is the one by which the client signs.
   algorithm_is : is.algorithm ≡ s.standing.challenge.choice
   algorithm_is =
       let k = c.holders_can_ask.ensures.signs h (ConnectionBind link.number) s.client.is.number b.is.signs b.lawful refl s.client.is.fits in
@@ -36,7 +36,7 @@ module _ (c : goal.After-holders_can_ask) (plan : Plan) (old w : World) (address
   number_is = ap (λ (r : Sent). number_at r.bytes) b.request_is
       ∙ (c.holders_can_ask.ensures.signs h (ConnectionBind link.number) s.client.is.number b.is.signs b.lawful refl s.client.is.fits).number_is
 
-  pub answered_so : IsSigned plan old link.local connection_bind_method request → StandsAt plan old address lifetime link (Answered sent request reply []) w
+  pub answered_so : IsSigned plan old link.local connection_bind_method request → IsAtStep plan old address lifetime link (Answered sent request reply []) w
   answered_so signed = record {
     auth = s.auth;
     standing = s.standing;
@@ -67,9 +67,9 @@ module _ (c : goal.After-holders_can_ask) (plan : Plan) (old w : World) (address
   }
 
 pub returns : goal.returns
-returns c = λ plan old one two new first pairs more asked request address lifetime granted reply link sent place fresh tcp run script timely go is success on then_.
-    let s = c.connections_are_bound.ensures.stands plan old one two first pairs asked address lifetime granted link (Binding sent request) fresh tcp run script timely go is in
-    let promised = c.connections_are_bound.ensures.promised plan old one two first pairs asked address lifetime granted link (Binding sent request) fresh tcp run script timely go is in
-    c.links_lead_on.ensures.promised plan old new address lifetime link place fresh tcp timely
-    (c.links_lead_on.ensures.stands plan old two new address lifetime link (Answered sent request reply []) place more fresh tcp timely
+returns c = λ plan old one two new first pairs more requested request address lifetime granted reply link sent progress fresh tcp run script timely go is success on then_.
+    let s = c.connections_are_bound.ensures.occurs plan old one two first pairs requested address lifetime granted link (Binding sent request) fresh tcp run script timely go is in
+    let promised = c.connections_are_bound.ensures.promised plan old one two first pairs requested address lifetime granted link (Binding sent request) fresh tcp run script timely go is in
+    c.links_lead_on.ensures.promised plan old new address lifetime link progress fresh tcp timely
+    (c.links_lead_on.ensures.occurs plan old two new address lifetime link (Answered sent request reply []) progress more fresh tcp timely
     (answered_so c plan old two address lifetime link sent request s reply success promised.0) on then_)

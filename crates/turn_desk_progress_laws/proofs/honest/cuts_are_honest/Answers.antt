@@ -13,50 +13,50 @@ none_of [] other is = refl
 none_of (byte ∷ one) other is = absurd (Prim.cc is)
 
 module _ (plan : Plan) (tcp : plan.client.transport ≡ Tcp) (request : Sent) (reply : List ℕ) where
-  -- what is left grows less by a piece
-  less : (front left piece rest : List ℕ) → reply ≡ front ++ left → left ≡ piece ++ rest → reply ≡ (front ++ piece) ++ rest
-  less front left piece rest all parts = all ∙ ap (λ (l : List ℕ). front ++ l) parts ∙ sym (append_assoc front piece rest)
+  -- What is left gets shorter by a chunk.
+  less : (head left chunk rest : List ℕ) → reply ≡ head ++ left → left ≡ chunk ++ rest → reply ≡ (head ++ chunk) ++ rest
+  less head left chunk rest all parts = all ∙ ap (λ (l : List ℕ). head ++ l) parts ∙ sym (append_assoc head chunk rest)
 
-  on : (front piece rest : List ℕ) → piece ≢ [] → reply ≡ (front ++ piece) ++ rest → BringsOn plan.client.transport reply front piece rest
-  on front piece rest some all = subst (λ (t : TransportType). BringsOn t reply front piece rest) (sym tcp) (some, all)
+  on : (head chunk rest : List ℕ) → chunk ≢ [] → reply ≡ (head ++ chunk) ++ rest → BringsOn plan.client.transport reply head chunk rest
+  on head chunk rest some all = subst (λ (t : TransportType). BringsOn t reply head chunk rest) (sym tcp) (some, all)
 
-  first : (front left : List ℕ) (pieces : List (Vec ℕ Global × Answer)) → reply ≡ front ++ left → IsCut left pieces → IsScript plan (brought_first request reply front left) (given request plan.client.made pieces) Came
+  first : (head left : List ℕ) (chunks : List (Vec ℕ Global × Answer)) → reply ≡ head ++ left → IsCut left chunks → IsScript plan (brought_first request reply head left) (given request plan.client.made chunks) Came
   unfolding IsCut IsScript
-  first front [] [] all cut = refl
-  first front [] (piece ∷ pieces) all cut = absurd (cut.0 (none_of piece.0.items cut.1 cut.2))
-  first front (byte ∷ left) [] all cut = absurd (Prim.cc cut)
-  first front (byte ∷ left) (piece ∷ pieces) all cut =
-      let so = less front (byte ∷ left) piece.0.items cut.1 all cut.2 in (
-        brought_first request reply (front ++ piece.0.items) cut.1,
-        GiveFirst request reply front cut.1 piece.0 refl (on front piece.0.items cut.1 cut.0 so) refl refl,
-        first (front ++ piece.0.items) cut.1 pieces so cut.3,
+  first head [] [] all cut = refl
+  first head [] (chunk ∷ chunks) all cut = absurd (cut.0 (none_of chunk.0.items cut.1 cut.2))
+  first head (byte ∷ left) [] all cut = absurd (Prim.cc cut)
+  first head (byte ∷ left) (chunk ∷ chunks) all cut =
+      let so = less head (byte ∷ left) chunk.0.items cut.1 all cut.2 in (
+        brought_first request reply (head ++ chunk.0.items) cut.1,
+        GiveFirst request reply head cut.1 chunk.0 refl (on head chunk.0.items cut.1 cut.0 so) refl refl,
+        first (head ++ chunk.0.items) cut.1 chunks so cut.3,
       )
 
   module _ (address : SocketAddr) (lifetime : ℕ) where
-    second : (front left : List ℕ) (pieces : List (Vec ℕ Global × Answer)) → reply ≡ front ++ left → IsCut left pieces
-        → IsScript plan (brought_second request address lifetime reply front left) (given request plan.second pieces) (Done request address lifetime reply)
+    second : (head left : List ℕ) (chunks : List (Vec ℕ Global × Answer)) → reply ≡ head ++ left → IsCut left chunks
+        → IsScript plan (brought_second request address lifetime reply head left) (given request plan.second chunks) (Done request address lifetime reply)
     unfolding IsCut IsScript
-    second front [] [] all cut = refl
-    second front [] (piece ∷ pieces) all cut = absurd (cut.0 (none_of piece.0.items cut.1 cut.2))
-    second front (byte ∷ left) [] all cut = absurd (Prim.cc cut)
-    second front (byte ∷ left) (piece ∷ pieces) all cut =
-        let so = less front (byte ∷ left) piece.0.items cut.1 all cut.2 in (
-          brought_second request address lifetime reply (front ++ piece.0.items) cut.1,
-          GiveSecond request address lifetime reply front cut.1 piece.0 refl (on front piece.0.items cut.1 cut.0 so) refl refl,
-          second (front ++ piece.0.items) cut.1 pieces so cut.3,
+    second head [] [] all cut = refl
+    second head [] (chunk ∷ chunks) all cut = absurd (cut.0 (none_of chunk.0.items cut.1 cut.2))
+    second head (byte ∷ left) [] all cut = absurd (Prim.cc cut)
+    second head (byte ∷ left) (chunk ∷ chunks) all cut =
+        let so = less head (byte ∷ left) chunk.0.items cut.1 all cut.2 in (
+          brought_second request address lifetime reply (head ++ chunk.0.items) cut.1,
+          GiveSecond request address lifetime reply head cut.1 chunk.0 refl (on head chunk.0.items cut.1 cut.0 so) refl refl,
+          second (head ++ chunk.0.items) cut.1 chunks so cut.3,
         )
 
 pub returns-clause-first : goal.returns-clause-first
-returns-clause-first c = λ plan request reply pieces tcp some cut. by plan request reply pieces tcp some cut
+returns-clause-first c = λ plan request reply chunks tcp some cut. by plan request reply chunks tcp some cut
   where
-    by : (plan : Plan) (request : Sent) (reply : List ℕ) (pieces : List (Vec ℕ Global × Answer)) → plan.client.transport ≡ Tcp → reply ≢ [] → IsCut reply pieces → IsScript plan (Challenged request reply []) (given request plan.client.made pieces) Came
-    by plan request [] pieces tcp some cut = absurd (some refl)
-    by plan request (byte ∷ reply) pieces tcp some cut = first plan tcp request (byte ∷ reply) [] (byte ∷ reply) pieces refl cut
+    by : (plan : Plan) (request : Sent) (reply : List ℕ) (chunks : List (Vec ℕ Global × Answer)) → plan.client.transport ≡ Tcp → reply ≢ [] → IsCut reply chunks → IsScript plan (Challenged request reply []) (given request plan.client.made chunks) Came
+    by plan request [] chunks tcp some cut = absurd (some refl)
+    by plan request (byte ∷ reply) chunks tcp some cut = first plan tcp request (byte ∷ reply) [] (byte ∷ reply) chunks refl cut
 
 pub returns-clause-second : goal.returns-clause-second
-returns-clause-second c = λ plan request address lifetime reply pieces tcp some cut. by plan request address lifetime reply pieces tcp some cut
+returns-clause-second c = λ plan request address lifetime reply chunks tcp some cut. by plan request address lifetime reply chunks tcp some cut
   where
-    by : (plan : Plan) (request : Sent) (address : SocketAddr) (lifetime : ℕ) (reply : List ℕ) (pieces : List (Vec ℕ Global × Answer)) → plan.client.transport ≡ Tcp → reply ≢ [] → IsCut reply pieces
-        → IsScript plan (Granted request address lifetime reply []) (given request plan.second pieces) (Done request address lifetime reply)
-    by plan request address lifetime [] pieces tcp some cut = absurd (some refl)
-    by plan request address lifetime (byte ∷ reply) pieces tcp some cut = second plan tcp request (byte ∷ reply) address lifetime [] (byte ∷ reply) pieces refl cut
+    by : (plan : Plan) (request : Sent) (address : SocketAddr) (lifetime : ℕ) (reply : List ℕ) (chunks : List (Vec ℕ Global × Answer)) → plan.client.transport ≡ Tcp → reply ≢ [] → IsCut reply chunks
+        → IsScript plan (Granted request address lifetime reply []) (given request plan.second chunks) (Done request address lifetime reply)
+    by plan request address lifetime [] chunks tcp some cut = absurd (some refl)
+    by plan request address lifetime (byte ∷ reply) chunks tcp some cut = second plan tcp request (byte ∷ reply) address lifetime [] (byte ∷ reply) chunks refl cut

@@ -10,51 +10,51 @@ use Rattle.turn_desk_core.specs.State.{State}
 use Rattle.turn_desk_world_laws.specs.World.Model.{World}
 use Rattle.turn_desk_progress_laws.specs.Promises.{IsFresh, control_at, event_in}
 use Rattle.turn_desk_progress_laws.specs.Scripts.{Came, Plan, brought_first}
-use Rattle.turn_desk_progress_laws.specs.Standing.{IsChallenged, IsFirstReply, IsUnder, Stands}
-use Rattle.turn_desk_progress_laws.proofs.Coming.{IsBroughtOn, IsHeardOn, brings}
-use Rattle.turn_desk_progress_laws.proofs.Places.{first_in_range, untold}
+use Rattle.turn_desk_progress_laws.specs.Standing.{IsChallenged, IsFirstReply, IsUnder, IsAtStage}
+use Rattle.turn_desk_progress_laws.proofs.Coming.{IsBroughtOn, IsProcessedOn, brings}
+use Rattle.turn_desk_progress_laws.proofs.Indexes.{first_in_range, untold}
 use Rattle.turn_desk_progress_laws.proofs.honest.first_replies_are_taken.Goals as goal
 
-module _ (c : goal.After-messages_reach_clients) (plan : Plan) (old w v : World) (told : List TurnEvent) (fresh : IsFresh plan old) (none : told ≡ []) (request : Sent) (reply front : List ℕ) (is : IsChallenged plan old request reply front w) (ret : Answer)
-    (h : IsHeardOn (control_at plan.client.transport []) is.client.core reply plan.client.made ret w v) where
-  is_challenge : IsChallenge plan.client is.challenge.told reply
+module _ (c : goal.After-messages_reach_clients) (plan : Plan) (old w v : World) (reported : List TurnEvent) (fresh : IsFresh plan old) (none : reported ≡ []) (request : Sent) (reply head : List ℕ) (is : IsChallenged plan old request reply head w) (ret : Answer)
+    (h : IsProcessedOn (control_at plan.client.transport []) is.client.core reply plan.client.made ret w v) where
+  is_challenge : IsChallenge plan.client is.challenge.reported reply
   is_challenge = record {
-    shown = is.challenge.shown;
+    visible = is.challenge.visible;
     number = is.challenge.number ∙ c.new_clients_ask.ensures.number plan.client fresh.room;
   }
 
-  under : IsUnder plan old.desk is.challenge.told v.desk
-  under = subst (λ (d : State). IsUnder plan old.desk is.challenge.told d) (sym h.desk) (record { reply = reply; challenge = is.challenge; told_is = refl })
+  under : IsUnder plan old.desk is.challenge.reported v.desk
+  under = subst (λ (d : State). IsUnder plan old.desk is.challenge.reported d) (sym h.desk) (record { reply = reply; challenge = is.challenge; reported_is = refl })
 
-  so : Stands plan old (told ++ event_in ret) Came v
-  so = elim (c.challenges_are_answered.ensures.either plan.client 1 plan.client.made is.client.core h.core is.challenge.told reply plan.client.made h.handled is.client.is is_challenge h.heard) [
+  so : IsAtStage plan old (reported ++ event_in ret) Came v
+  so = elim (c.challenges_are_answered.ensures.either plan.client 1 plan.client.made is.client.core h.core is.challenge.reported reply plan.client.made h.handled is.client.is is_challenge h.processed) [
     | inl by ↦ (
-        let a = c.challenges_are_answered.ensures.answered plan.client 1 plan.client.made is.client.core h.core is.challenge.told reply plan.client.made h.handled by.0 fresh.room is.client.is is_challenge by.1 h.heard in
+        let a = c.challenges_are_answered.ensures.answered plan.client 1 plan.client.made is.client.core h.core is.challenge.reported reply plan.client.made h.handled by.0 fresh.room is.client.is is_challenge by.1 h.processed in
         inl (
-          untold told (event_in ret) none h.silent_is,
+          untold reported (event_in ret) none h.silent_is,
           record {
-            choice = record { told = is.challenge.told; algorithm = by.0; number = a.1; made = plan.client.made };
+            choice = record { reported = is.challenge.reported; algorithm = by.0; number = a.1; made = plan.client.made };
             chosen = record { under = under; made = refl; answered = by.1; client = record { core = h.core; there = h.there; is = a.2 } };
           },
         ))
     | inr barring ↦ (
-        let a = c.challenges_are_answered.ensures.barred plan.client 1 plan.client.made is.client.core h.core is.challenge.told reply plan.client.made h.handled is.client.is is_challenge barring h.heard in
+        let a = c.challenges_are_answered.ensures.barred plan.client 1 plan.client.made is.client.core h.core is.challenge.reported reply plan.client.made h.handled is.client.is is_challenge barring h.processed in
         inr (record {
-          challenge = is.challenge.told;
+          challenge = is.challenge.reported;
           under = under;
           barring = barring;
           left = failures plan.client;
-          tells = ap (λ (l : List TurnEvent). l ++ failures plan.client) (untold told (event_in ret) none h.silent_is);
+          decodes = ap (λ (l : List TurnEvent). l ++ failures plan.client) (untold reported (event_in ret) none h.silent_is);
           client = record { core = h.core; there = h.there; is = a.1 };
         }))
   ]
 
-module _ (c : goal.After-messages_reach_clients) (plan : Plan) (old w v : World) (told : List TurnEvent) (fresh : IsFresh plan old) (none : told ≡ []) (request : Sent) (reply front : List ℕ)
-    (is : IsChallenged plan old request reply front w) (ret : Answer) where
-  by_rest : (next rest : List ℕ) → IsBroughtOn plan.client.transport is.client.core reply next rest plan.client.made ret w v → Stands plan old (told ++ event_in ret) (brought_first request reply next rest) v
-  by_rest next [] h = so c plan old w v told fresh none request reply front is ret h
+module _ (c : goal.After-messages_reach_clients) (plan : Plan) (old w v : World) (reported : List TurnEvent) (fresh : IsFresh plan old) (none : reported ≡ []) (request : Sent) (reply head : List ℕ)
+    (is : IsChallenged plan old request reply head w) (ret : Answer) where
+  by_rest : (next rest : List ℕ) → IsBroughtOn plan.client.transport is.client.core reply next rest plan.client.made ret w v → IsAtStage plan old (reported ++ event_in ret) (brought_first request reply next rest) v
+  by_rest next [] h = so c plan old w v reported fresh none request reply head is ret h
   by_rest next (byte ∷ rest) h = (
-    untold told (event_in ret) none h.0.silent_is,
+    untold reported (event_in ret) none h.0.silent_is,
     record {
       request_is = is.request_is;
       client = record { core = is.client.core; there = h.0.there; is = is.client.is };
@@ -64,9 +64,9 @@ module _ (c : goal.After-messages_reach_clients) (plan : Plan) (old w v : World)
   )
 
 pub returns : goal.returns
-returns c = λ plan old w v told ret request reply front rest bytes fresh is on step.
+returns c = λ plan old w v reported ret request reply head rest bytes fresh is on step.
     let own = subst (λ (r : Sent). IsStep (ToClient bytes r.to r.from plan.client.made) w ret v) is.1.request_is step in
     let unserved = c.stages_are_unserved.ensures.asking plan.client 1 plan.client.made is.1.client.core is.1.client.is in
-    by_rest c plan old w v told fresh is.0 request reply front is.1 ret (front ++ bytes.items) rest
-    (brings (record { datagram = c.messages_reach_clients.ensures.datagram; piece = c.messages_reach_clients.ensures.piece; whole = c.messages_reach_clients.ensures.whole }) plan.client w v
-    is.1.client.core reply front rest bytes plan.client.made ret is.1.client.there unserved is.1.part.is_message on (first_in_range plan fresh.timely) own)
+    by_rest c plan old w v reported fresh is.0 request reply head is.1 ret (head ++ bytes.items) rest
+    (brings (record { datagram = c.messages_reach_clients.ensures.datagram; chunk = c.messages_reach_clients.ensures.chunk; whole = c.messages_reach_clients.ensures.whole }) plan.client w v
+    is.1.client.core reply head rest bytes plan.client.made ret is.1.client.there unserved is.1.part.is_message on (first_in_range plan fresh.timely) own)

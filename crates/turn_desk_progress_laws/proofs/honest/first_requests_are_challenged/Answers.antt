@@ -13,19 +13,19 @@ use Rattle.turn_desk_world_laws.specs.World.Desks.{IsDeskAnswered, IsReply, word
 use Rattle.turn_desk_world_laws.specs.World.Model.{World}
 use Rattle.turn_desk_progress_laws.specs.Promises.{IsFresh, event_in}
 use Rattle.turn_desk_progress_laws.specs.Scripts.{Plan, replied_first}
-use Rattle.turn_desk_progress_laws.specs.Standing.{IsAsked, Stands}
+use Rattle.turn_desk_progress_laws.specs.Standing.{IsRequested, IsAtStage}
 use Rattle.turn_desk_progress_laws.proofs.Coming.{none_yet}
-use Rattle.turn_desk_progress_laws.proofs.Places.{is_message, untold}
+use Rattle.turn_desk_progress_laws.proofs.Indexes.{is_message, untold}
 use Rattle.turn_desk_progress_laws.proofs.Coming.{none_yet}
-use Rattle.turn_desk_progress_laws.proofs.Places.{first_fits}
+use Rattle.turn_desk_progress_laws.proofs.Indexes.{first_fits}
 use Rattle.turn_desk_progress_laws.proofs.honest.first_requests_are_challenged.Goals as goal
 
--- by what the desk replies
-module _ (c : goal.After-first_requests_are_challenged) (plan : Plan) (old w v : World) (told : List TurnEvent) (fresh : IsFresh plan old) (none : told ≡ []) (request : Sent) (is : IsAsked plan old request w)
+-- By what the server core replies.
+module _ (c : goal.After-first_requests_are_challenged) (plan : Plan) (old w v : World) (reported : List TurnEvent) (fresh : IsFresh plan old) (none : reported ≡ []) (request : Sent) (is : IsRequested plan old request w)
     (decision : Decision) (seed : List ℕ) (client : v.client ≡ w.client) where
-  by_reply : (ret : Answer) → IsReply ret old.desk (first_request plan.client) plan.client.here plan.client.made decision seed v.desk → Stands plan old (told ++ event_in ret) (replied_first request ret) v
+  by_reply : (ret : Answer) → IsReply ret old.desk (first_request plan.client) plan.client.here plan.client.made decision seed v.desk → IsAtStage plan old (reported ++ event_in ret) (replied_first request ret) v
   by_reply (answer.Reply reply) replied = (
-    untold told [] none refl,
+    untold reported [] none refl,
     record {
       request_is = is.request_is;
       client = record { core = is.client.core; there = client ∙ is.client.there; is = is.client.is };
@@ -36,13 +36,13 @@ module _ (c : goal.After-first_requests_are_challenged) (plan : Plan) (old w v :
   )
   by_reply answer.Nothing replied =
       absurd (replied.0 (is_served_first (signer_of plan.client.config) plan.client.config.transport plan.client.config.families (first_number plan.client)
-      (c.requests_are_read.ensures.read (signer_of plan.client.config) (FirstAllocate plan.client.config.transport plan.client.config.families) (first_number plan.client)
+      (c.proof_requests_are_read.ensures.read (signer_of plan.client.config) (FirstAllocate plan.client.config.transport plan.client.config.families) (first_number plan.client)
       (c.new_clients_ask.ensures.short plan.client fresh.room) fresh.room.1 (first_fits plan.client))))
   by_reply _ replied = absurd replied
 
 pub returns : goal.returns
-returns c = λ plan old w v told ret request bytes decision seed fresh is same step.
+returns c = λ plan old w v reported ret request bytes decision seed fresh is same step.
     let at = subst (λ (d : State). IsDeskAnswered ret d bytes.items request.from plan.client.made decision seed v.desk) is.1.desk_is step.0 in
     let of = subst (λ (r : Sent). IsDeskAnswered ret old.desk r.bytes r.from plan.client.made decision seed v.desk) is.1.request_is
     (subst (λ (b : List ℕ). IsDeskAnswered ret old.desk b request.from plan.client.made decision seed v.desk) same at) in
-    by_reply c plan old w v told fresh is.0 request is.1 decision seed (ap (λ (x : World). x.client) step.1) ret of.reply
+    by_reply c plan old w v reported fresh is.0 request is.1 decision seed (ap (λ (x : World). x.client) step.1) ret of.reply

@@ -19,13 +19,13 @@ use Rattle.turn_desk_world_laws.specs.World.Desks.{IsDeskAnswered, IsReply, word
 use Rattle.turn_desk_world_laws.specs.World.Model.{World}
 use Rattle.turn_desk_progress_laws.specs.Promises.{IsFresh, allocation_granted, event_in}
 use Rattle.turn_desk_progress_laws.specs.Scripts.{Plan, replied_second}
-use Rattle.turn_desk_progress_laws.specs.Standing.{IsSigned, Stands}
+use Rattle.turn_desk_progress_laws.specs.Standing.{IsSigned, IsAtStage}
 use Rattle.turn_desk_progress_laws.proofs.Coming.{none_yet}
-use Rattle.turn_desk_progress_laws.proofs.Places.{untold}
+use Rattle.turn_desk_progress_laws.proofs.Indexes.{untold}
 use Rattle.turn_desk_progress_laws.proofs.Serving.{choice_of, differ_still, is_user, keeps_key, of_settings}
 use Rattle.turn_desk_progress_laws.proofs.honest.second_requests_are_granted.Goals as goal
 
-module _ (c : goal.After-messages_are_told_alike) (plan : Plan) (old w v : World) (told : List TurnEvent) (fresh : IsFresh plan old) (none : told ≡ []) (request : Sent) (is : IsSigned plan old request w)
+module _ (c : goal.After-messages_are_reported_alike) (plan : Plan) (old w v : World) (reported : List TurnEvent) (fresh : IsFresh plan old) (none : reported ≡ []) (request : Sent) (is : IsSigned plan old request w)
     (address : SocketAddr) (lifetime : ℕ) (seed : List ℕ) (asks : AsksForOne plan.client address) (whole : IsWhole address) (four : lifetime < 2 ^ 32) (client : v.client ≡ w.client) where
   choice_is : IsChoice plan.client is.choice
   choice_is = choice_of plan is.choice is.chosen.client.core is.chosen.client.is
@@ -50,21 +50,21 @@ module _ (c : goal.After-messages_are_told_alike) (plan : Plan) (old w v : World
       all ∙ ap (λ (l : List Grant). l ++ allocation_granted plan bytes address lifetime ∷ []) is.chosen.under.challenge.granted
       ∙ ap (λ (r : Sent). old.desk.grants ++ allocation_granted plan r.bytes address lifetime ∷ []) (sym is.request_is)
 
-  by_reply : (ret : Answer) → IsReply ret w.desk bytes plan.client.here plan.second (by.Allocate (address ∷ []) lifetime) seed v.desk → Stands plan old (told ++ event_in ret) (replied_second request address lifetime ret) v
+  by_reply : (ret : Answer) → IsReply ret w.desk bytes plan.client.here plan.second (by.Allocate (address ∷ []) lifetime) seed v.desk → IsAtStage plan old (reported ++ event_in ret) (replied_second request address lifetime ret) v
   by_reply (answer.Reply reply) replied =
       let g = c.signed_allocates_are_granted.ensures w.desk v.desk plan.client.here (signer_by plan.client is.choice) plan.client.config.transport plan.client.config.families is.choice.number plan.second
-      (words_of seed) (standing_by plan.client is.choice) (address ∷ []) lifetime reply.items short reads fresh.room.1 choice_is.fits (c.signed_allocates_answer.ensures.stands plan.client is.choice) own
-      (differ_still plan old.desk w.desk is.choice.told is.chosen.under fresh.hashes) (is.chosen.under.challenge.stands plan.second fresh.stands) refl
-      (c.relayed_addresses_are_told.ensures.relayed is.choice.number (address ∷ []) (whole, tt)) four replied.answer in
+      (words_of seed) (standing_by plan.client is.choice) (address ∷ []) lifetime reply.items short reads fresh.room.1 choice_is.fits (c.signed_allocates_answer.ensures.occurs plan.client is.choice) own
+      (differ_still plan old.desk w.desk is.choice.reported is.chosen.under fresh.hashes) (is.chosen.under.challenge.occurs plan.second fresh.occurs) refl
+      (c.relayed_addresses_are_reported.ensures.relayed is.choice.number (address ∷ []) (whole, tt)) four replied.answer in
       let right = c.successes_are_right.ensures w.desk v.desk plan.client.here bytes reply.items plan.client.config.transport (address ∷ []) lifetime (standing_by plan.client is.choice) own g in (
-        untold told [] none refl,
+        untold reported [] none refl,
         record {
           choice = is.choice;
           is = record {
             request_is = is.request_is;
             made = is.chosen.made;
             answered = is.chosen.answered;
-            of = of_settings plan old.desk w.desk is.choice.told is.chosen.under;
+            of = of_settings plan old.desk w.desk is.choice.reported is.chosen.under;
             asks = asks;
             request_right = subst (λ (r : Sent). IsRight r.bytes (standing_key (standing_by plan.client is.choice))) (sym is.request_is)
                 signed.valid;
@@ -73,11 +73,11 @@ module _ (c : goal.After-messages_are_told_alike) (plan : Plan) (old w v : World
               number = g.number ∙ signed.number;
               success = g.success;
               right = right.0;
-              relayed = c.messages_are_told_alike.ensures.relayed reply.items g.each ∙ g.shows;
-              lifetime_is = c.messages_are_told_alike.ensures.lifetime reply.items ∙ g.tells;
+              relayed = c.messages_are_reported_alike.ensures.relayed reply.items g.each ∙ g.shows;
+              lifetime_is = c.messages_are_reported_alike.ensures.lifetime reply.items ∙ g.decodes;
             };
             no_challenge = right.1;
-            keeps = keeps_key w.desk.auth v.desk.auth plan.client.here (standing_by plan.client is.choice) own g.kept;
+            keeps = keeps_key w.desk.auth v.desk.auth plan.client.here (standing_by plan.client is.choice) own g.stored;
             granted = granted_grants v.desk.grants g.granted;
           };
           part = none_yet reply.items g.message;
@@ -86,11 +86,11 @@ module _ (c : goal.After-messages_are_told_alike) (plan : Plan) (old w v : World
       )
   by_reply answer.Nothing replied =
       absurd (replied.0 (is_served (signer_by plan.client is.choice) plan.client.config.transport plan.client.config.families is.choice.number
-      (c.requests_are_read.ensures.read (signer_by plan.client is.choice) (allocate_of plan.client) is.choice.number short fresh.room.1 choice_is.fits)))
+      (c.proof_requests_are_read.ensures.read (signer_by plan.client is.choice) (allocate_of plan.client) is.choice.number short fresh.room.1 choice_is.fits)))
   by_reply _ replied = absurd replied
 
 pub returns : goal.returns
-returns c = λ plan old w v told ret request bytes address lifetime seed fresh is same asks whole step.
+returns c = λ plan old w v reported ret request bytes address lifetime seed fresh is same asks whole step.
     let at = subst (λ (b : List ℕ). IsDeskAnswered ret w.desk b request.from plan.second (by.Allocate (address ∷ []) lifetime) seed v.desk) same step.0 in
     let of = subst (λ (r : Sent). IsDeskAnswered ret w.desk r.bytes r.from plan.second (by.Allocate (address ∷ []) lifetime) seed v.desk) is.1.request_is at in
-    by_reply c plan old w v told fresh is.0 request is.1 address lifetime seed asks whole of.four_bytes (ap (λ (x : World). x.client) step.1) ret of.reply
+    by_reply c plan old w v reported fresh is.0 request is.1 address lifetime seed asks whole of.four_bytes (ap (λ (x : World). x.client) step.1) ret of.reply

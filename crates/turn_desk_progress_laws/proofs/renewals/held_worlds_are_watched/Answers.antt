@@ -11,21 +11,21 @@ module _ (plan : Plan) (choice : Choice) (from lifetime : ℕ) (enough : least �
   abbrev t : Term
   t = term_of lifetime from lifetime
 
-  record IsBegun (queue : List Queued) : Type 0 where
+  record IsStarted (queue : List Queued) : Type 0 where
     pub rested : from + room_of queue ≤ due_of t
     pub left : IsLeftOf plan choice queue []
     pub until : from ≤ next_of t from queue
 
-  begun_by : (queue : List Queued) → IsLeft plan choice queue → IsBegun queue
-  begun_by queue (inl none) = subst (λ (l : List Queued). IsBegun l) (sym none) (record { rested = omega (arith, enough); left = tt; until = omega (arith, enough) })
-  begun_by queue (inr one) = let early = lasts.early in
-      subst (λ (l : List Queued). IsBegun l) (sym one) (record { rested = omega (arith, enough); left = (refl, refl, refl); until = omega (arith, enough, early) })
+  started_by : (queue : List Queued) → IsLeft plan choice queue → IsStarted queue
+  started_by queue (inl none) = subst (λ (l : List Queued). IsStarted l) (sym none) (record { rested = omega (arith, enough); left = tt; until = omega (arith, enough) })
+  started_by queue (inr one) = let early = lasts.early in
+      subst (λ (l : List Queued). IsStarted l) (sym one) (record { rested = omega (arith, enough); left = (refl, refl, refl); until = omega (arith, enough, early) })
 
 pub returns : goal.returns
-returns c = λ plan old w told address lifetime fresh is enough.
+returns c = λ plan old w reported address lifetime fresh is enough.
     let range = fresh.timely.in_range in
     let lasts : IsTerm (term_of lifetime plan.second lifetime) = record { long = omega (arith, enough); enough = omega (arith, enough); fits = is.fits; early = omega (arith, range) } in
-    let b = begun_by plan is.choice plan.second lifetime enough lasts is.queue is.left in
+    let b = started_by plan is.choice plan.second lifetime enough lasts is.queue is.left in
     record {
       choice = is.choice;
       agreed = is.agreed;
@@ -38,7 +38,7 @@ returns c = λ plan old w told address lifetime fresh is enough.
       left = b.left;
       until = b.until;
       events = is.events;
-      told = tt;
+      reported = tt;
       client = record {
         core = is.client.core;
         there = is.client.there;

@@ -3,7 +3,7 @@ use Rattle.std.proofs.lemmas.Grind.{common_steps}
 use Rattle.std.specs.List.{find}
 use Rattle.byteorder.specs.Endian.{big_bytes, big_number}
 use Rattle.byteorder.specs.Numbers.{big_number-reads_back}
-use Rattle.turn_desk_core.specs.StunTypesWire.Grammar.{shown}
+use Rattle.turn_desk_core.specs.StunTypesWire.Grammar.{visible}
 use Rattle.turn_desk_core.specs.StunTypesWire.RawBytes.{type_and_len_refusal}
 use Rattle.turn_desk_core.specs.StunTypesWrite.ValueReading.{value_refusal}
 use Rattle.std.specs.Prelude.{is_some, if◌then◌else◌}
@@ -24,7 +24,7 @@ use Rattle.turn_desk_core.specs.StunProtoVerify.Judgement.{user_key}
 use Rattle.turn_desk_core.specs.StunProtoServer.Server.{Server, refreshed}
 use Rattle.turn_desk_core.specs.StunProtoServer.Users.{IsClaimedName}
 use Rattle.turn_desk_core.specs.TurnTypesAttributes.TurnRegistry.{lifetime_kind}
-use Rattle.turn_desk_core.specs.TurnTypesPeer.TurnShows.{number_in, number_shown, unless_refused}
+use Rattle.turn_desk_core.specs.TurnTypesPeer.TurnShows.{number_in, number_visible, unless_refused}
 use Rattle.turn_client_proto_handshake_laws.specs.Choosing.{Choice, standing_by}
 use Rattle.turn_client_proto_api.specs.Sent.{Sent}
 use Rattle.turn_client_proto_progress_laws.specs.Refreshed.{IsSignedRefresh, refresh_request}
@@ -44,51 +44,51 @@ use Rattle.turn_desk_world_laws.specs.World.Runs.{IsStep}
 use Rattle.turn_desk_progress_laws.specs.Promises.{IsFresh}
 use Rattle.turn_desk_progress_laws.specs.Scripts.{Plan}
 use Rattle.turn_desk_progress_laws.proofs.Coming.{none_yet}
-use Rattle.turn_desk_progress_laws.proofs.Places.{is_message}
+use Rattle.turn_desk_progress_laws.proofs.Indexes.{is_message}
 use Rattle.turn_desk_progress_laws.specs.Turns.{Renewing, least}
-use Rattle.turn_desk_progress_laws.specs.Watched.{IsAnswered, IsAwaiting, IsServing, StandsAt}
+use Rattle.turn_desk_progress_laws.specs.Watched.{IsAnswered, IsAwaiting, IsServing, IsAtStep}
 use Rattle.turn_desk_progress_laws.proofs.RenewalServing.{refreshed_realm, serves_on}
 use Rattle.turn_desk_progress_laws.proofs.renewals.refreshes_are_granted.Goals as goal
 
--- ---- what is told
+-- ---- what is reported
 
 four_accepted : (a b c d : ℕ) → value_refusal lifetime_kind 4 4 (record { kind = lifetime_kind; value = a ∷ b ∷ c ∷ d ∷ [] }) ≡ None
 unfolding type_and_len_refusal
 four_accepted a b c d = grind (arith, common_steps)
 
--- the number in four bytes
+-- The number in four bytes.
 number_again : (n : ℕ) → n < 2 ^ 32 → number_in 4 (Some (record { kind = lifetime_kind; value = big_bytes 4 n })) ≡ Some n
 number_again n small =
     ap (λ refused. unless_refused refused (Some (big_number 4 (big_bytes 4 n)))) (four_accepted (n / 16777216 % 256) (n / 65536 % 256) (n / 256 % 256) (n % 256))
     ∙ ap Some (big_number-reads_back 4 n [] small)
 
-refreshed_lifetime : (reply : List ℕ) (lifetime : ℕ) (seal : Attr) → lifetime < 2 ^ 32 → shown reply ≡ refreshed_attributes lifetime ++ seal ∷ [] → number_shown 4 lifetime_kind reply ≡ Some lifetime
+refreshed_lifetime : (reply : List ℕ) (lifetime : ℕ) (seal : Attr) → lifetime < 2 ^ 32 → visible reply ≡ refreshed_attributes lifetime ++ seal ∷ [] → number_visible 4 lifetime_kind reply ≡ Some lifetime
 refreshed_lifetime reply lifetime seal small shows =
     ap (λ (l : List Attr). number_in 4 (find (λ (a : Attr). eqb a.kind lifetime_kind) l)) shows ∙ number_again lifetime small
 
 shows_it : (bytes : List ℕ) (from : SocketAddr) (lifetime : ℕ) (shows : List Attr) (grant : Grant) → IsGrant bytes from (by.Refresh lifetime) shows grant → shows ≡ refreshed_attributes lifetime
 shows_it bytes from lifetime shows grant (Refreshed g) =
     let same : lifetime ≡ g.lifetime = Prim.cc g.decided in
-    g.shown ∙ ap refreshed_attributes (sym same)
+    g.visible ∙ ap refreshed_attributes (sym same)
 shows_it bytes from lifetime shows grant (Allocated g) = absurd (Prim.cc g.decided)
 shows_it bytes from lifetime shows grant (Permitted g) = absurd (Prim.cc g.decided)
 shows_it bytes from lifetime shows grant (Bound g) = absurd (Prim.cc g.decided)
 shows_it bytes from lifetime shows grant (Connected g) = absurd (Prim.cc g.decided)
 shows_it bytes from lifetime shows grant (Joined g) = absurd (Prim.cc g.decided)
 
-tells_it : (old new : State) (from : SocketAddr) (bytes reply : List ℕ) (lifetime : ℕ) → DeskStep old from bytes (by.Refresh lifetime) reply new → class_of (kind_at reply) ≡ Success → lifetime < 2 ^ 32 → number_shown 4 lifetime_kind reply ≡ Some lifetime
-tells_it old new from bytes reply lifetime step success small =
+reports_it : (old new : State) (from : SocketAddr) (bytes reply : List ℕ) (lifetime : ℕ) → DeskStep old from bytes (by.Refresh lifetime) reply new → class_of (kind_at reply) ≡ Success → lifetime < 2 ^ 32 → number_visible 4 lifetime_kind reply ≡ Some lifetime
+reports_it old new from bytes reply lifetime step success small =
     let r = step.grants success in
-    refreshed_lifetime reply lifetime r.integrity small (r.told ∙ ap (λ (l : List Attr). l ++ r.integrity ∷ []) (shows_it bytes from lifetime r.shows r.grant r.granted_by))
+    refreshed_lifetime reply lifetime r.integrity small (r.reported ∙ ap (λ (l : List Attr). l ++ r.integrity ∷ []) (shows_it bytes from lifetime r.shows r.grant r.granted_by))
 
 -- ---- whose key signs it
 
--- one who claims the name of a user, or its hash, is that user
+-- Who claims the name of a user, or its hash, is that user.
 same_name : (realm own name : List ℕ) (hidden : Bool) → IsClaimedName realm (if hidden then None else Some own) (if hidden then Some (userhash_of own realm) else None) name → (userhash_of name realm ≡ userhash_of own realm → name ≡ own) → name ≡ own
 same_name realm own name false named differ = named
 same_name realm own name true named differ = differ (Prim.cc (sym named))
 
-module _ (plan : Plan) (old d e : State) (serving : IsServing plan old d) (c : Choice) (realm_is : c.told.realm ≡ old.auth.realm) (number : ℕ) (request : IsSignedRefresh plan.client c number)
+module _ (plan : Plan) (old d e : State) (serving : IsServing plan old d) (c : Choice) (realm_is : c.reported.realm ≡ old.auth.realm) (number : ℕ) (request : IsSignedRefresh plan.client c number)
     (now more : ℕ) (seed reply : List ℕ) (success : class_of (kind_at reply) ≡ Success) where
   abbrev bytes : List ℕ
   bytes = refresh_request plan.client c number
@@ -96,8 +96,8 @@ module _ (plan : Plan) (old d e : State) (serving : IsServing plan old d) (c : C
   abbrev s : Standing
   s = standing_by plan.client c
 
-  -- the desk's realm is that of the challenge
-  realm_same : d.auth.realm ≡ c.told.realm
+  -- The server core's realm is that of the challenge.
+  realm_same : d.auth.realm ≡ c.reported.realm
   realm_same = serving.realm ∙ sym realm_is
 
   refused : {A : Type 0} → IsChallenge d plan.client.here bytes now (words_of seed) reply e → A
@@ -107,15 +107,15 @@ module _ (plan : Plan) (old d e : State) (serving : IsServing plan old d) (c : C
     abbrev server : Server
     server = refreshed d.auth plan.client.here now (words_of seed)
 
-    server_realm : server.realm ≡ c.told.realm
+    server_realm : server.realm ≡ c.reported.realm
     server_realm = refreshed_realm d.auth plan.client.here now (words_of seed) ∙ realm_same
 
     names : v.name ≡ plan.client.config.credentials.username
     names =
         let claims = subst (λ (x : Claimed). IsClaimedName server.realm x.username x.user_hash v.name) request.claims v.judged.accepts.named.named in
-        let here = subst (λ (r : List ℕ). IsClaimedName r (if hides_name plan.client.config.anonymous_username c.told.nonce then None else Some plan.client.config.credentials.username)
-        (if hides_name plan.client.config.anonymous_username c.told.nonce then Some (userhash_of plan.client.config.credentials.username c.told.realm) else None) v.name) server_realm claims in
-        same_name c.told.realm plan.client.config.credentials.username v.name (hides_name plan.client.config.anonymous_username c.told.nonce) here (λ same.
+        let here = subst (λ (r : List ℕ). IsClaimedName r (if hides_name plan.client.config.anonymous_username c.reported.nonce then None else Some plan.client.config.credentials.username)
+        (if hides_name plan.client.config.anonymous_username c.reported.nonce then Some (userhash_of plan.client.config.credentials.username c.reported.realm) else None) v.name) server_realm claims in
+        same_name c.reported.realm plan.client.config.credentials.username v.name (hides_name plan.client.config.anonymous_username c.reported.nonce) here (λ same.
         serving.hashes v.name plan.client.config.credentials.username (ap is_some v.present) (ap is_some serving.user)
         (subst (λ (r : List ℕ). userhash_of v.name r ≡ userhash_of plan.client.config.credentials.username r) (sym realm_same) same))
 
@@ -128,9 +128,9 @@ module _ (plan : Plan) (old d e : State) (serving : IsServing plan old d) (c : C
     right_by : (text : List ℕ) → Validates reply (user_key d.auth.realm v.name v.password v.algorithm) v.algorithm text → IsRight reply (standing_key s)
     right_by text valid = record {
       text = text;
-      validates = subst (λ (a : IntegrityAlgorithm). Validates reply (user_key c.told.realm plan.client.config.credentials.username plan.client.config.credentials.password a) a text) algorithms
-          (subst (λ (x : List ℕ). Validates reply (user_key c.told.realm plan.client.config.credentials.username x v.algorithm) v.algorithm text) passwords
-          (subst (λ (x : List ℕ). Validates reply (user_key c.told.realm x v.password v.algorithm) v.algorithm text) names
+      validates = subst (λ (a : IntegrityAlgorithm). Validates reply (user_key c.reported.realm plan.client.config.credentials.username plan.client.config.credentials.password a) a text) algorithms
+          (subst (λ (x : List ℕ). Validates reply (user_key c.reported.realm plan.client.config.credentials.username x v.algorithm) v.algorithm text) passwords
+          (subst (λ (x : List ℕ). Validates reply (user_key c.reported.realm x v.password v.algorithm) v.algorithm text) names
           (subst (λ (x : List ℕ). Validates reply (user_key x v.name v.password v.algorithm) v.algorithm text) realm_same valid)));
     }
 
@@ -140,7 +140,7 @@ module _ (plan : Plan) (old d e : State) (serving : IsServing plan old d) (c : C
 
 -- ---- in a world
 
-module _ (c : goal.After-messages_are_told_alike) (plan : Plan) (old w v : World) (fresh : IsFresh plan old) (address : SocketAddr) (request : Sent) (from lifetime now more : ℕ) (x : IsAwaiting plan old address request from lifetime now [] w) (enough : least ≤ more)
+module _ (c : goal.After-messages_are_reported_alike) (plan : Plan) (old w v : World) (fresh : IsFresh plan old) (address : SocketAddr) (request : Sent) (from lifetime now more : ℕ) (x : IsAwaiting plan old address request from lifetime now [] w) (enough : least ≤ more)
     (seed reply : List ℕ) (success : class_of (kind_at reply) ≡ Success) (fits : more < 2 ^ 32) (client : v.client ≡ w.client) where
   abbrev own : List ℕ
   own = refresh_request plan.client x.choice x.number
@@ -178,13 +178,13 @@ module _ (c : goal.After-messages_are_told_alike) (plan : Plan) (old w v : World
           success = success;
           method = step.method ∙ signed.method;
           right = signed_so plan old.desk w.desk v.desk x.serving x.choice x.agreed.of.realm x.number signed now more seed reply success replied.answer;
-          lifetime_is = c.messages_are_told_alike.ensures.lifetime reply ∙ tells_it w.desk v.desk plan.client.here own reply more step success fits;
+          lifetime_is = c.messages_are_reported_alike.ensures.lifetime reply ∙ reports_it w.desk v.desk plan.client.here own reply more step success fits;
         };
       }
 
-pub granted_so : (c : goal.After-messages_are_told_alike) (plan : Plan) (old w v : World) → IsFresh plan old → (address : SocketAddr) (request : Sent) (from lifetime now more : ℕ) → IsAwaiting plan old address request from lifetime now [] w → least ≤ more
+pub granted_so : (c : goal.After-messages_are_reported_alike) (plan : Plan) (old w v : World) → IsFresh plan old → (address : SocketAddr) (request : Sent) (from lifetime now more : ℕ) → IsAwaiting plan old address request from lifetime now [] w → least ≤ more
     → (bytes reply : Vec ℕ Global) (seed : List ℕ) → bytes.items ≡ request.bytes → IsStep (ToDesk bytes request.from now (by.Refresh more) seed) w (answer.Reply reply) v → class_of (kind_at reply.items) ≡ Success
-    → StandsAt plan old address (Renewing request reply.items [] more now) v
+    → IsAtStep plan old address (Renewing request reply.items [] more now) v
 granted_so c plan old w v fresh address request from lifetime now more x enough came reply seed same step success =
     let at = subst (λ (b : List ℕ). IsDeskAnswered (answer.Reply reply) w.desk b request.from now (by.Refresh more) seed v.desk) same step.0 in
     let of = subst (λ (r : Sent). IsDeskAnswered (answer.Reply reply) w.desk r.bytes r.from now (by.Refresh more) seed v.desk) x.request_is at in

@@ -5,14 +5,14 @@ use Rattle.turn_client_proto_api.specs.declared.answer.TurnPollRet.{TurnPollRet}
 use Rattle.turn_client_proto_api.specs.declared.answer.TurnPollRet.TheVariants as poll
 use Rattle.turn_client_proto_api.specs.declared.event.TurnEvent.{TurnEvent}
 use Rattle.turn_client_proto_handshake_laws.specs.Choosing.{Choice}
-use Rattle.turn_client_proto_step_laws.specs.Timers.Drawing.{IsDrawn}
+use Rattle.turn_client_proto_step_laws.specs.Timers.Drawing.{IsTransmitted}
 use Rattle.turn_client_proto_api.specs.Sent.{Sent, sent_of}
 use Rattle.turn_client_proto_handshake_laws.specs.Driving.{client_end}
 use Rattle.turn_client_proto_step_laws.specs.Timers.Polling.{IsPolled}
 use Rattle.turn_client_proto_progress_laws.specs.Keeping.{IsRefreshing, IsTerm, Term, due_of}
-use Rattle.turn_client_proto_progress_laws.specs.Refreshed.{refresh_asked}
-use Rattle.turn_desk_world_laws.specs.World.Calls.{IsDrawnAs, IsPolledAs}
-use Rattle.turn_client_proto_step_laws.specs.Recv.Kept.{Protocol}
+use Rattle.turn_client_proto_progress_laws.specs.Refreshed.{refresh_requested}
+use Rattle.turn_desk_world_laws.specs.World.Calls.{IsTransmittedAs, IsPolledAs}
+use Rattle.turn_client_proto_step_laws.specs.Recv.ClientState.{Protocol}
 use Rattle.turn_desk_event.specs.declared.answer.Answer.{Answer}
 use Rattle.turn_desk_event.specs.declared.answer.Answer.TheVariants as answer
 use Rattle.turn_desk_event.specs.declared.event.ClientCall.TheVariants as call
@@ -23,29 +23,29 @@ use Rattle.turn_desk_progress_laws.specs.Promises.{HasClient, control_at}
 use Rattle.turn_desk_progress_laws.specs.Scripts.{Plan}
 use Rattle.turn_desk_progress_laws.proofs.Clients.{draws}
 use Rattle.turn_desk_progress_laws.specs.Turns.{IsUnderWay, Off, Refreshing, Renewing, Turn, Watching}
-use Rattle.turn_desk_progress_laws.specs.Watched.{IsAnswered, IsAwaiting, StandsAt, term_of}
+use Rattle.turn_desk_progress_laws.specs.Watched.{IsAnswered, IsAwaiting, IsAtStep, term_of}
 use Rattle.turn_desk_progress_laws.proofs.RenewalServing.{same_serving}
 use Rattle.turn_desk_progress_laws.proofs.Waiting.{polls}
 use Rattle.turn_desk_progress_laws.proofs.renewals.refreshing_worlds_wait.Goals as goal
 
 module _ (c : goal.After-refreshing_clients_wait) (plan : Plan) (old : World) (address : SocketAddr) (w v : World) (ret : Answer) where
-  -- it awaits the response still
-  pub record IsStillAt (choice : Choice) (t : Term) (number at : ℕ) (events : List TurnEvent) (front : List ℕ) : Type 0 where
+  -- The client still awaits the response.
+  pub record IsStillAt (choice : Choice) (t : Term) (number at : ℕ) (events : List TurnEvent) (head : List ℕ) : Type 0 where
     pub many : ℕ
-    pub client : HasClient plan front v (λ p. IsRefreshing plan.client choice address t number at many at events p)
+    pub client : HasClient plan head v (λ p. IsRefreshing plan.client choice address t number at many at events p)
     pub desk : v.desk ≡ w.desk
 
   -- ---- for each turn
 
   abbrev Stays : (now : ℕ) → Type 0
-  Stays now = (choice : Choice) (t : Term) (number many : ℕ) (events : List TurnEvent) (front : List ℕ) → IsTerm t → now ≡ due_of t → now ≤ client_end
-      → HasClient plan front w (λ p. IsRefreshing plan.client choice address t number now many now events p) → IsStillAt choice t number now events front
+  Stays now = (choice : Choice) (t : Term) (number many : ℕ) (events : List TurnEvent) (head : List ℕ) → IsTerm t → now ≡ due_of t → now ≤ client_end
+      → HasClient plan head w (λ p. IsRefreshing plan.client choice address t number now many now events p) → IsStillAt choice t number now events head
 
-  by_turn : (now : ℕ) → Stays now → (at : Turn) → IsUnderWay at now → StandsAt plan old address at w → StandsAt plan old address at v
+  by_turn : (now : ℕ) → Stays now → (at : Turn) → IsUnderWay at now → IsAtStep plan old address at w → IsAtStep plan old address at v
   by_turn now stays (Watching s) under is = absurd under
   by_turn now stays Off under is = absurd under
   by_turn now stays (Refreshing request from lifetime at) under is =
-      subst (λ (n : ℕ). StandsAt plan old address (Refreshing request from lifetime n) v) under (awaits (subst (λ (n : ℕ). IsAwaiting plan old address request from lifetime n [] w) (sym under) is))
+      subst (λ (n : ℕ). IsAtStep plan old address (Refreshing request from lifetime n) v) under (awaits (subst (λ (n : ℕ). IsAwaiting plan old address request from lifetime n [] w) (sym under) is))
     where
       awaits : IsAwaiting plan old address request from lifetime now [] w → IsAwaiting plan old address request from lifetime now [] v
       awaits x =
@@ -65,13 +65,13 @@ module _ (c : goal.After-refreshing_clients_wait) (plan : Plan) (old : World) (a
             events = x.events;
             client = l.client;
           }
-  by_turn now stays (Renewing request reply front lifetime at) under is =
-      subst (λ (n : ℕ). StandsAt plan old address (Renewing request reply front lifetime n) v) under (answered (subst (λ (n : ℕ). IsAnswered plan old address request reply front lifetime n w) (sym under) is))
+  by_turn now stays (Renewing request reply head lifetime at) under is =
+      subst (λ (n : ℕ). IsAtStep plan old address (Renewing request reply head lifetime n) v) under (answered (subst (λ (n : ℕ). IsAnswered plan old address request reply head lifetime n w) (sym under) is))
     where
-      answered : IsAnswered plan old address request reply front lifetime now w → IsAnswered plan old address request reply front lifetime now v
+      answered : IsAnswered plan old address request reply head lifetime now w → IsAnswered plan old address request reply head lifetime now v
       answered a =
           let x = a.awaits in
-          let l = stays x.choice (term_of x.first a.from a.before) x.number x.many x.events front x.lasts x.in_time x.in_range x.client in
+          let l = stays x.choice (term_of x.first a.from a.before) x.number x.many x.events head x.lasts x.in_time x.in_range x.client in
           record {
             from = a.from;
             before = a.before;
@@ -98,42 +98,42 @@ module _ (c : goal.After-refreshing_clients_wait) (plan : Plan) (old : World) (a
 
   -- ---- draws
 
-  drawn_still : (now : ℕ) (choice : Choice) (t : Term) (number many : ℕ) (events : List TurnEvent) (p core : Protocol) → IsRefreshing plan.client choice address t number now many now events p → (sent : Option Sent) → IsDrawn p now sent core
+  transmitted_still : (now : ℕ) (choice : Choice) (t : Term) (number many : ℕ) (events : List TurnEvent) (p core : Protocol) → IsRefreshing plan.client choice address t number now many now events p → (sent : Option Sent) → IsTransmitted p now sent core
       → (more : ℕ) × IsRefreshing plan.client choice address t number now more now events core
-  drawn_still now choice t number many events p core is sent drawn = elim (c.refreshing_clients_wait.ensures.cases plan.client (refresh_asked plan.client choice number now) many now) [
-    | inl due ↦ (many + 1, (c.refreshing_clients_wait.ensures.again plan.client choice address t number now many now events p core now sent is due drawn).1)
+  transmitted_still now choice t number many events p core is sent transmitted = elim (c.refreshing_clients_wait.ensures.cases plan.client (refresh_requested plan.client choice number now) many now) [
+    | inl due ↦ (many + 1, (c.refreshing_clients_wait.ensures.again plan.client choice address t number now many now events p core now sent is due transmitted).1)
     | inr quiet ↦ (
       many,
       subst (λ (q : Protocol). IsRefreshing plan.client choice address t number now many now events q)
-          (sym (c.refreshing_clients_wait.ensures.still plan.client choice address t number now many now events p core now sent is quiet drawn).1) is,
+          (sym (c.refreshing_clients_wait.ensures.still plan.client choice address t number now many now events p core now sent is quiet transmitted).1) is,
     )
   ]
 
-  drawn_as : (now : ℕ) (p core : Protocol) → (a : Answer) → IsDrawnAs a p now core → (sent : Option Sent) × IsDrawn p now sent core
-  unfolding IsDrawnAs
-  drawn_as now p core (answer.Transmit transmit) drawn = (Some (sent_of transmit), drawn)
-  drawn_as now p core answer.Nothing drawn = (None, drawn)
-  drawn_as now p core _ drawn = absurd drawn
+  transmitted_as : (now : ℕ) (p core : Protocol) → (a : Answer) → IsTransmittedAs a p now core → (sent : Option Sent) × IsTransmitted p now sent core
+  unfolding IsTransmittedAs
+  transmitted_as now p core (answer.Transmit transmit) transmitted = (Some (sent_of transmit), transmitted)
+  transmitted_as now p core answer.Nothing transmitted = (None, transmitted)
+  transmitted_as now p core _ transmitted = absurd transmitted
 
-  pub draws_on : (now : ℕ) (at : Turn) → IsUnderWay at now → IsStep (Draw now) w ret v → StandsAt plan old address at w → StandsAt plan old address at v
-  draws_on now at under step is = by_turn now (λ choice t number many events front lasts in_time in_range h.
-      let d = draws (control_at plan.client.transport front) w v h.core now ret h.there in_range step in
-      let drawn = drawn_as now h.core d.core ret d.drawn in
-      let more = drawn_still now choice t number many events h.core d.core h.is drawn.0 drawn.1 in
+  pub draws_on : (now : ℕ) (at : Turn) → IsUnderWay at now → IsStep (Draw now) w ret v → IsAtStep plan old address at w → IsAtStep plan old address at v
+  draws_on now at under step is = by_turn now (λ choice t number many events head lasts in_time in_range h.
+      let d = draws (control_at plan.client.transport head) w v h.core now ret h.there in_range step in
+      let transmitted = transmitted_as now h.core d.core ret d.transmitted in
+      let more = transmitted_still now choice t number many events h.core d.core h.is transmitted.0 transmitted.1 in
       record { many = more.0; client = record { core = d.core; there = d.there; is = more.1 }; desk = d.desk }) at under is
 
   -- ---- polls
 
   polled_as : (now : ℕ) (p core : Protocol) (a : Answer) → ((r : TurnPollRet) → IsPolled p now r core → core ≡ p) → IsPolledAs a p now core → core ≡ p
-  polled_as now p core (answer.Wait moment) same polled = same (poll.WaitUntil moment) polled
+  polled_as now p core (answer.Wait time) same polled = same (poll.WaitUntil time) polled
   polled_as now p core (answer.Socket id socket peer) same polled = same (poll.AllocateTcpSocket id socket peer) polled
   polled_as now p core (answer.Close local remote) same polled = same (poll.TcpClose local remote) polled
   polled_as now p core answer.Closed same polled = same poll.Closed polled
   polled_as now p core _ same polled = absurd polled
 
-  pub polls_on : (now : ℕ) (at : Turn) → IsUnderWay at now → now < end_at now plan.client.config.waits → IsStep (Call call.Poll now) w ret v → StandsAt plan old address at w → StandsAt plan old address at v
-  polls_on now at under before step is = by_turn now (λ choice t number many events front lasts in_time in_range h.
-      let d = polls (control_at plan.client.transport front) w v h.core now ret h.there in_range step in
+  pub polls_on : (now : ℕ) (at : Turn) → IsUnderWay at now → now < end_at now plan.client.config.waits → IsStep (Call call.Poll now) w ret v → IsAtStep plan old address at w → IsAtStep plan old address at v
+  polls_on now at under before step is = by_turn now (λ choice t number many events head lasts in_time in_range h.
+      let d = polls (control_at plan.client.transport head) w v h.core now ret h.there in_range step in
       let enough = lasts.enough in
       let same = polled_as now h.core d.core ret (λ r polled.
       (c.refreshing_clients_wait.ensures.polled plan.client choice address t number now many now events h.core d.core now r h.is lasts in_range before (omega (arith, in_time, enough)) polled).unchanged) d.polled in

@@ -13,26 +13,26 @@ none_of [] other is = refl
 none_of (byte ∷ one) other is = absurd (Prim.cc is)
 
 module _ (plan : Plan) (tcp : plan.client.transport ≡ Tcp) (request : Sent) (reply : List ℕ) (lifetime now : ℕ) where
-  on : (front piece rest : List ℕ) → piece ≢ [] → reply ≡ (front ++ piece) ++ rest → BringsOn plan.client.transport reply front piece rest
-  on front piece rest some all = subst (λ (t : TransportType). BringsOn t reply front piece rest) (sym tcp) (some, all)
+  on : (head chunk rest : List ℕ) → chunk ≢ [] → reply ≡ (head ++ chunk) ++ rest → BringsOn plan.client.transport reply head chunk rest
+  on head chunk rest some all = subst (λ (t : TransportType). BringsOn t reply head chunk rest) (sym tcp) (some, all)
 
-  -- what is left grows less by a piece
-  pieces_on : (front left : List ℕ) (pieces : List (Vec ℕ Global × Answer)) → reply ≡ front ++ left → IsCut left pieces → IsDriven plan (brought request reply front left lifetime now) (given request now pieces) (renewed lifetime now)
+  -- What is left gets shorter by a chunk.
+  chunks_on : (head left : List ℕ) (chunks : List (Vec ℕ Global × Answer)) → reply ≡ head ++ left → IsCut left chunks → IsDriven plan (brought request reply head left lifetime now) (given request now chunks) (renewed lifetime now)
   unfolding IsCut IsDriven
-  pieces_on front [] [] all cut = refl
-  pieces_on front [] (piece ∷ pieces) all cut = absurd (cut.0 (none_of piece.0.items cut.1 cut.2))
-  pieces_on front (byte ∷ left) [] all cut = absurd (Prim.cc cut)
-  pieces_on front (byte ∷ left) (piece ∷ pieces) all cut =
-      let so : reply ≡ (front ++ piece.0.items) ++ cut.1 = all ∙ ap (λ (l : List ℕ). front ++ l) cut.2 ∙ sym (append_assoc front piece.0.items cut.1) in (
-        brought request reply (front ++ piece.0.items) cut.1 lifetime now,
-        Gives request reply front cut.1 lifetime now piece.0 refl (on front piece.0.items cut.1 cut.0 so) refl refl,
-        pieces_on (front ++ piece.0.items) cut.1 pieces so cut.3,
+  chunks_on head [] [] all cut = refl
+  chunks_on head [] (chunk ∷ chunks) all cut = absurd (cut.0 (none_of chunk.0.items cut.1 cut.2))
+  chunks_on head (byte ∷ left) [] all cut = absurd (Prim.cc cut)
+  chunks_on head (byte ∷ left) (chunk ∷ chunks) all cut =
+      let so : reply ≡ (head ++ chunk.0.items) ++ cut.1 = all ∙ ap (λ (l : List ℕ). head ++ l) cut.2 ∙ sym (append_assoc head chunk.0.items cut.1) in (
+        brought request reply (head ++ chunk.0.items) cut.1 lifetime now,
+        Gives request reply head cut.1 lifetime now chunk.0 refl (on head chunk.0.items cut.1 cut.0 so) refl refl,
+        chunks_on (head ++ chunk.0.items) cut.1 chunks so cut.3,
       )
 
 pub returns : goal.returns
-returns c = λ plan request reply lifetime now pieces tcp some cut. by plan request reply lifetime now pieces tcp some cut
+returns c = λ plan request reply lifetime now chunks tcp some cut. by plan request reply lifetime now chunks tcp some cut
   where
-    by : (plan : Plan) (request : Sent) (reply : List ℕ) (lifetime now : ℕ) (pieces : List (Vec ℕ Global × Answer)) → plan.client.transport ≡ Tcp → reply ≢ [] → IsCut reply pieces
-        → IsDriven plan (Renewing request reply [] lifetime now) (given request now pieces) (renewed lifetime now)
-    by plan request [] lifetime now pieces tcp some cut = absurd (some refl)
-    by plan request (byte ∷ reply) lifetime now pieces tcp some cut = pieces_on plan tcp request (byte ∷ reply) lifetime now [] (byte ∷ reply) pieces refl cut
+    by : (plan : Plan) (request : Sent) (reply : List ℕ) (lifetime now : ℕ) (chunks : List (Vec ℕ Global × Answer)) → plan.client.transport ≡ Tcp → reply ≢ [] → IsCut reply chunks
+        → IsDriven plan (Renewing request reply [] lifetime now) (given request now chunks) (renewed lifetime now)
+    by plan request [] lifetime now chunks tcp some cut = absurd (some refl)
+    by plan request (byte ∷ reply) lifetime now chunks tcp some cut = chunks_on plan tcp request (byte ∷ reply) lifetime now [] (byte ∷ reply) chunks refl cut

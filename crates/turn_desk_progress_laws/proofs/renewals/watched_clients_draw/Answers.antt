@@ -4,11 +4,11 @@ use Rattle.std.proofs.lemmas.Bool.{le-ltb, lt-ltb}
 use Rattle.std.specs.declared.net.socket_addr.SocketAddr.{SocketAddr}
 use Rattle.turn_desk_core.specs.StunTypesWire.Attributes.{kind_at}
 use Rattle.turn_desk_core.specs.StunTypesWire.Types.{method_of}
-use Rattle.turn_desk_core.specs.StunTypesBase.Moments.{moment_after}
+use Rattle.turn_desk_core.specs.StunTypesBase.Times.{time_after}
 use Rattle.turn_desk_core.specs.TurnTypesAttributes.TurnRegistry.{refresh_method}
 use Rattle.turn_client_proto_api.specs.declared.event.TurnEvent.{TurnEvent}
 use Rattle.turn_client_proto_handshake_laws.specs.Choosing.{Choice, allocate_of, signed_request, signed_sent, signer_by}
-use Rattle.turn_client_proto_step_laws.specs.Timers.Drawing.{IsDrawn}
+use Rattle.turn_client_proto_step_laws.specs.Timers.Drawing.{IsTransmitted}
 use Rattle.turn_client_proto_api.specs.Sent.{Sent, sent_of}
 use Rattle.turn_client_proto_handshake_laws.specs.Driving.{client_end}
 use Rattle.turn_client_proto_step_laws.specs.Timers.Polling.{cadence}
@@ -16,8 +16,8 @@ use Rattle.turn_client_proto_messages.specs.Waiting.{Queued, is_answer}
 use Rattle.turn_client_proto_handshake_laws.specs.Stages.{signed_queued}
 use Rattle.turn_client_proto_progress_laws.specs.Keeping.{IsKeeping, IsRefreshing, IsTerm, Term, due_of, next_of}
 use Rattle.turn_client_proto_progress_laws.specs.Refreshed.{refresh_sent}
-use Rattle.turn_desk_world_laws.specs.World.Calls.{IsDrawnAs}
-use Rattle.turn_client_proto_step_laws.specs.Recv.Kept.{Protocol}
+use Rattle.turn_desk_world_laws.specs.World.Calls.{IsTransmittedAs}
+use Rattle.turn_client_proto_step_laws.specs.Recv.ClientState.{Protocol}
 use Rattle.turn_desk_event.specs.declared.answer.Answer.{Answer}
 use Rattle.turn_desk_event.specs.declared.answer.Answer.TheVariants as answer
 use Rattle.turn_desk_event.specs.declared.event.Event.TheVariants.{Draw}
@@ -26,11 +26,11 @@ use Rattle.turn_desk_world_laws.specs.World.Runs.{IsStep}
 use Rattle.turn_desk_progress_laws.specs.Promises.{IsFresh, control_at, over}
 use Rattle.turn_desk_progress_laws.specs.Scripts.{Plan}
 use Rattle.turn_desk_progress_laws.proofs.Clients.{draws}
-use Rattle.turn_desk_progress_laws.proofs.Places.{same_sent}
+use Rattle.turn_desk_progress_laws.proofs.Indexes.{same_sent}
 use Rattle.turn_desk_progress_laws.specs.Renewals.{AreEarly}
-use Rattle.turn_desk_progress_laws.specs.Turns.{Turn, Watch, Watching, Refreshing, drawn_at, due}
-use Rattle.turn_desk_progress_laws.specs.Watched.{IsAgreed, IsAwaiting, IsLeftOf, IsServing, IsWatched, StandsAt, room_of, term_of}
-use Rattle.turn_desk_progress_laws.proofs.Moments.{not_later, order, strictly}
+use Rattle.turn_desk_progress_laws.specs.Turns.{Turn, Watch, Watching, Refreshing, transmitted_at, due}
+use Rattle.turn_desk_progress_laws.specs.Watched.{IsAgreed, IsAwaiting, IsLeftOf, IsServing, IsWatched, IsAtStep, room_of, term_of}
+use Rattle.turn_desk_progress_laws.proofs.Times.{not_later, order, strictly}
 use Rattle.turn_desk_progress_laws.proofs.RenewalServing.{same_serving}
 use Rattle.turn_desk_progress_laws.proofs.renewals.watched_clients_draw.Goals as goal
 
@@ -39,13 +39,13 @@ module _ (c : goal.After-keeping_clients_refresh) (plan : Plan) (old : World) (f
   abbrev t : Term
   t = term_of first s.from s.lifetime
 
-  -- nothing is drawn, and nothing changes
+  -- Nothing is transmitted, and nothing changes.
   pub record Rests (queue : List Queued) (sent : Option Sent) (core : Protocol) : Type 0 where
     pub sent_is : sent ≡ None
     pub same : core ≡ p
     pub soon : now < next_of t last queue
 
-  -- the signed ALLOCATE is, before a minute before the end
+  -- The signed ALLOCATE is transmitted, earlier than a minute before the end.
   pub record Goes (sent : Option Sent) (core : Protocol) : Type 0 where
     pub sent_is : sent ≡ Some (signed_sent plan.client choice)
     pub other : method_of (kind_at (signed_sent plan.client choice).bytes) ≢ refresh_method
@@ -55,7 +55,7 @@ module _ (c : goal.After-keeping_clients_refresh) (plan : Plan) (old : World) (f
     pub until : s.until ≤ due_of t
     pub keeps : IsKeeping plan.client choice address t now [] events core
 
-  -- a REFRESH is, at that moment
+  -- A REFRESH is transmitted, a minute before the end.
   pub record Asks (sent : Option Sent) (core : Protocol) : Type 0 where
     pub number : ℕ
     pub fits : number < 2 ^ 96
@@ -68,19 +68,19 @@ module _ (c : goal.After-keeping_clients_refresh) (plan : Plan) (old : World) (f
 
   no_refresh : method_of (kind_at (signed_request plan.client choice)) ≢ refresh_method
   no_refresh is =
-      let read = c.requests_are_read.ensures.read (signer_by plan.client choice) (allocate_of plan.client) choice.number (c.signed_allocates_answer.ensures.short plan.client choice fresh.room agreed.chosen) fresh.room.1 agreed.chosen.fits in
+      let read = c.proof_requests_are_read.ensures.read (signer_by plan.client choice) (allocate_of plan.client) choice.number (c.signed_allocates_answer.ensures.short plan.client choice fresh.room agreed.chosen) fresh.room.1 agreed.chosen.fits in
       Prim.cc (sym (ap method_of read.kind) ∙ is)
 
   outcome : (queue : List Queued) → last + room_of queue ≤ due_of t → IsLeftOf plan choice queue s.early → s.until ≤ next_of t last queue → now ≤ s.until → IsKeeping plan.client choice address t last queue events p
-      → (sent : Option Sent) (core : Protocol) → IsDrawn p now sent core → Outcome queue sent core
-  outcome [] rested left until reached keeps sent core drawn = elim (order now (due_of t)) [
-    | inl soon ↦ (let x = c.keeping_clients_refresh.ensures.still plan.client choice address t last events p core now sent keeps lasts soon drawn in
+      → (sent : Option Sent) (core : Protocol) → IsTransmitted p now sent core → Outcome queue sent core
+  outcome [] rested left until reached keeps sent core transmitted = elim (order now (due_of t)) [
+    | inl soon ↦ (let x = c.keeping_clients_refresh.ensures.still plan.client choice address t last events p core now sent keeps lasts soon transmitted in
         inl (record { sent_is = x.0; same = x.1; soon = omega (arith, soon) }))
     | inr late ↦ (
         let fits = lasts.fits in
         let early = lasts.early in
         let exact : now ≡ due_of t = omega (arith, late, reached, until, rested, fits, early) in
-        let x = c.keeping_clients_refresh.ensures.refreshes plan.client choice address t last events p core now sent fresh.room agreed.chosen keeps lasts (omega (arith, rested, exact)) late (omega (arith, exact)) drawn in
+        let x = c.keeping_clients_refresh.ensures.refreshes plan.client choice address t last events p core now sent fresh.room agreed.chosen keeps lasts (omega (arith, rested, exact)) late (omega (arith, exact)) transmitted in
         inr (inr (record {
           number = x.0;
           fits = x.1;
@@ -89,15 +89,15 @@ module _ (c : goal.After-keeping_clients_refresh) (plan : Plan) (old : World) (f
           refreshing = x.3;
         })))
   ]
-  outcome (one ∷ rest) rested left until reached keeps sent core drawn = elim (order now (moment_after last cadence)) [
+  outcome (one ∷ rest) rested left until reached keeps sent core transmitted = elim (order now (time_after last cadence)) [
     | inl soon ↦ (
         let none : find is_answer (one ∷ rest) ≡ None = ap (λ (q : Queued). find is_answer (q ∷ rest)) left.0 ∙ ap (λ (l : List Queued). find is_answer (signed_queued plan.client choice ∷ l)) left.1 in
-        let x = c.keeping_clients_refresh.ensures.rests plan.client choice address t last (one ∷ rest) events p core now sent keeps none soon drawn in
+        let x = c.keeping_clients_refresh.ensures.rests plan.client choice address t last (one ∷ rest) events p core now sent keeps none soon transmitted in
         inl (record { sent_is = x.0; same = x.1; soon = soon }))
     | inr late ↦ (
         let fits = lasts.fits in
         let early = lasts.early in
-        let x = c.keeping_clients_refresh.ensures.lets_go plan.client choice address t last one rest events p core now sent keeps late drawn in
+        let x = c.keeping_clients_refresh.ensures.releases plan.client choice address t last one rest events p core now sent keeps late transmitted in
         let room : room_of rest ≡ cadence = ap room_of left.1 in
         inr (inl (record {
           sent_is = x.0 ∙ ap (λ (q : Queued). Some (record { bytes = q.bytes; transport = plan.client.transport; from = q.from; to = plan.client.server })) left.0;
@@ -123,11 +123,11 @@ module _ (c : goal.After-keeping_clients_refresh) (plan : Plan) (old : World) (f
   abbrev Result : Option Sent → Type 0
   Result sent = Outcome c plan old fresh address s k.choice k.agreed k.first k.lasts k.last k.events k.client.core now k.queue sent core
 
-  found : (sent : Option Sent) → IsDrawn k.client.core now sent core → Result sent
-  found sent drawn =
-      outcome c plan old fresh address s k.choice k.agreed k.first k.lasts k.last k.events k.client.core now k.queue k.rested k.left (not_later s.drawn s.until (next_of own k.last k.queue) k.until) reached k.client.is sent core drawn
+  found : (sent : Option Sent) → IsTransmitted k.client.core now sent core → Result sent
+  found sent transmitted =
+      outcome c plan old fresh address s k.choice k.agreed k.first k.lasts k.last k.events k.client.core now k.queue k.rested k.left (not_later s.transmitted s.until (next_of own k.last k.queue) k.until) reached k.client.is sent core transmitted
 
-  rests_so : core ≡ k.client.core → now < next_of own k.last k.queue → IsWatched plan old address (record s { drawn = s.drawn || not (nat_lt now s.until) }) v
+  rests_so : core ≡ k.client.core → now < next_of own k.last k.queue → IsWatched plan old address (record s { transmitted = s.transmitted || not (nat_lt now s.until) }) v
   rests_so same soon = record {
     choice = k.choice;
     agreed = k.agreed;
@@ -138,13 +138,13 @@ module _ (c : goal.After-keeping_clients_refresh) (plan : Plan) (old : World) (f
     queue = k.queue;
     rested = k.rested;
     left = k.left;
-    until = strictly s.drawn now s.until (next_of own k.last k.queue) k.until soon;
+    until = strictly s.transmitted now s.until (next_of own k.last k.queue) k.until soon;
     events = k.events;
-    told = k.told;
+    reported = k.reported;
     client = record { core = core; there = there; is = subst (λ (q : Protocol). IsKeeping plan.client k.choice address own k.last k.queue k.events q) (sym same) k.client.is };
   }
 
-  goes_so : (sent : Sent) → Goes c plan old fresh address s k.choice k.agreed k.first k.lasts k.last k.events k.client.core now (Some sent) core → IsWatched plan old address (record s { drawn = false; early = s.early ++ sent ∷ [] }) v
+  goes_so : (sent : Sent) → Goes c plan old fresh address s k.choice k.agreed k.first k.lasts k.last k.events k.client.core now (Some sent) core → IsWatched plan old address (record s { transmitted = false; early = s.early ++ sent ∷ [] }) v
   goes_so sent g =
       let fits = k.lasts.fits in
       let early = k.lasts.early in
@@ -162,7 +162,7 @@ module _ (c : goal.After-keeping_clients_refresh) (plan : Plan) (old : World) (f
         left = subst (λ (l : List Sent). AreEarly (l ++ sent ∷ [])) (sym g.none_before) (subst (λ (x : Sent). method_of (kind_at x.bytes) ≢ refresh_method) (sym same) g.other);
         until = omega (arith, until);
         events = k.events;
-        told = k.told;
+        reported = k.reported;
         client = record { core = core; there = there; is = g.keeps };
       }
 
@@ -184,32 +184,32 @@ module _ (c : goal.After-keeping_clients_refresh) (plan : Plan) (old : World) (f
   }
 
   abbrev At : Turn → Type 0
-  At turn = StandsAt plan old address turn v
+  At turn = IsAtStep plan old address turn v
 
-  sends : (sent : Sent) → Result (Some sent) → At (if nat_lt now (due s.from s.lifetime) then Watching (record s { drawn = false; early = s.early ++ sent ∷ [] }) else Refreshing sent s.from s.lifetime now)
+  sends : (sent : Sent) → Result (Some sent) → At (if nat_lt now (due s.from s.lifetime) then Watching (record s { transmitted = false; early = s.early ++ sent ∷ [] }) else Refreshing sent s.from s.lifetime now)
   sends sent (inl r) = absurd (Prim.cc r.sent_is)
   sends sent (inr (inl g)) =
-      subst (λ (x : Bool). At (if x then Watching (record s { drawn = false; early = s.early ++ sent ∷ [] }) else Refreshing sent s.from s.lifetime now)) (sym (lt-ltb now (due s.from s.lifetime) g.soon)) (goes_so sent g)
+      subst (λ (x : Bool). At (if x then Watching (record s { transmitted = false; early = s.early ++ sent ∷ [] }) else Refreshing sent s.from s.lifetime now)) (sym (lt-ltb now (due s.from s.lifetime) g.soon)) (goes_so sent g)
   sends sent (inr (inr a)) =
       let exact = a.in_time in
-      subst (λ (x : Bool). At (if x then Watching (record s { drawn = false; early = s.early ++ sent ∷ [] }) else Refreshing sent s.from s.lifetime now)) (sym (le-ltb now (due s.from s.lifetime) (omega (arith, exact)))) (asks_so sent a)
+      subst (λ (x : Bool). At (if x then Watching (record s { transmitted = false; early = s.early ++ sent ∷ [] }) else Refreshing sent s.from s.lifetime now)) (sym (le-ltb now (due s.from s.lifetime) (omega (arith, exact)))) (asks_so sent a)
 
-  sends_nothing : Result None → At (Watching (record s { drawn = s.drawn || not (nat_lt now s.until) }))
+  sends_nothing : Result None → At (Watching (record s { transmitted = s.transmitted || not (nat_lt now s.until) }))
   sends_nothing (inl r) = rests_so r.same r.soon
   sends_nothing (inr (inl g)) = absurd (Prim.cc g.sent_is)
   sends_nothing (inr (inr a)) = absurd (Prim.cc a.sent_is)
 
-  by_answer : (ret : Answer) → IsDrawnAs ret k.client.core now core → At (drawn_at s now ret)
-  unfolding IsDrawnAs
-  by_answer (answer.Transmit transmit) drawn = sends (sent_of transmit) (found (Some (sent_of transmit)) drawn)
-  by_answer answer.Nothing drawn = sends_nothing (found None drawn)
-  by_answer _ drawn = absurd drawn
+  by_answer : (ret : Answer) → IsTransmittedAs ret k.client.core now core → At (transmitted_at s now ret)
+  unfolding IsTransmittedAs
+  by_answer (answer.Transmit transmit) transmitted = sends (sent_of transmit) (found (Some (sent_of transmit)) transmitted)
+  by_answer answer.Nothing transmitted = sends_nothing (found None transmitted)
+  by_answer _ transmitted = absurd transmitted
 
-pub drawn_so : (c : goal.After-keeping_clients_refresh) (plan : Plan) (old : World) → IsFresh plan old → (address : SocketAddr) (s : Watch) (w v : World) → IsWatched plan old address s w → (now : ℕ) → now ≤ s.until → now ≤ client_end → (ret : Answer)
-    → IsStep (Draw now) w ret v → StandsAt plan old address (drawn_at s now ret) v
-drawn_so c plan old fresh address s w v k now reached in_range ret step =
+pub generated_so : (c : goal.After-keeping_clients_refresh) (plan : Plan) (old : World) → IsFresh plan old → (address : SocketAddr) (s : Watch) (w v : World) → IsWatched plan old address s w → (now : ℕ) → now ≤ s.until → now ≤ client_end → (ret : Answer)
+    → IsStep (Draw now) w ret v → IsAtStep plan old address (transmitted_at s now ret) v
+generated_so c plan old fresh address s w v k now reached in_range ret step =
     let d = draws (control_at plan.client.transport []) w v k.client.core now ret k.client.there in_range step in
-    by_answer c plan old fresh address s w v k now reached in_range d.core d.there d.desk ret d.drawn
+    by_answer c plan old fresh address s w v k now reached in_range d.core d.there d.desk ret d.transmitted
 
 pub returns : goal.returns
-returns c = λ plan old w v address s now ret fresh k reached in_range step. drawn_so c plan old fresh address s w v k now reached in_range ret step
+returns c = λ plan old w v address s now ret fresh k reached in_range step. generated_so c plan old fresh address s w v k now reached in_range ret step

@@ -1,4 +1,4 @@
-use Rattle.turn_desk_step_laws.proofs.Told.{challenge_read, takes_own}
+use Rattle.turn_desk_step_laws.proofs.Reported.{challenge_read, takes_own}
 use Rattle.turn_desk_step_laws.proofs.challenged.challenges_are_read.Goals as goal
 
 pub returns-clause-read : goal.returns-clause-read

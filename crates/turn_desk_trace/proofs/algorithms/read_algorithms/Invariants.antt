@@ -7,7 +7,8 @@ use Rattle.stun_proto_auth.specs.SupportedAlgorithms.{is_same_algorithm}
 use Rattle.turn_desk_trace.specs.Algorithms.{algorithm_word, listed}
 use Rattle.turn_desk_trace.proofs.algorithms.read_algorithms.Given as goal
 
--- the pieces are the names of those that were read, which are distinct, and then the pieces of what is left
+-- The words are the names of the algorithms read so far, which are distinct, followed by the words that are
+-- left.
 abbrev pub invariant-loop-name : goal.invariant-loop-name
 invariant-loop-name l =
     shadow (Utf8 l.left)

@@ -1,7 +1,7 @@
 use Rattle.std.proofs.Common.{◌≡◌, ◌++◌, length}
 use Rattle.turn_desk_world.proofs.setting.offer.Given as goal
 
--- what is supported, and behind it what is left, are the algorithms; nothing else changes
+-- The supported algorithms followed by those that are left are all algorithms; nothing else changes.
 abbrev pub invariant-loop-algorithm : goal.invariant-loop-algorithm
 invariant-loop-algorithm l = (l.config ≡ record l.fn.config { algorithms = l.config.algorithms }) × (l.config.algorithms ++ l.left ≡ l.fn.algorithms)
 

@@ -1,7 +1,7 @@
 use Rattle.turn_desk_event.specs.declared.answer.Answer.TheVariants as answer
 use Rattle.turn_desk_event.specs.declared.event.ClientCall.TheVariants as call
 use Rattle.turn_desk_event.specs.declared.event.Event.TheVariants.{Call, ToClient}
-use Rattle.turn_desk_world_laws.proofs.Answered.{IsBroughtTo, came_last, data_brought, data_hands, data_kept, datagram_last, report_given, report_hands, waited_last}
+use Rattle.turn_desk_world_laws.proofs.Answered.{IsBroughtTo, came_last, data_brought, data_hands, data_stored, datagram_last, report_given, report_hands, waited_last}
 use Rattle.turn_desk_world_laws.proofs.laws.answers_give_what_was_delivered.Goals as goal
 
 pub returns-clause-came : goal.returns-clause-came
@@ -10,7 +10,7 @@ returns-clause-came c = λ first last run now bytes from to given is.
 
 pub returns-clause-waited : goal.returns-clause-waited
 returns-clause-waited c = λ first last run now given is.
-    data_kept (Call call.PollRecv now) first last run given is (waited_last (answer.Peer given) (data_hands given) first last run now is)
+    data_stored (Call call.PollRecv now) first last run given is (waited_last (answer.Peer given) (data_hands given) first last run now is)
 
 pub returns-clause-reports : goal.returns-clause-reports
 returns-clause-reports c = λ first last run now bytes from to transport peer kind code details is.

@@ -3,7 +3,7 @@ use Rattle.std.specs.List.{zip}
 use Rattle.turn_desk_world.specs.Runs.{IsRun}
 use Rattle.turn_desk_world_laws.proofs.running.run_each.Given as goal
 
--- the events so far were answered
+-- The events so far have their results.
 abbrev pub invariant-loop-event : goal.invariant-loop-event
 invariant-loop-event l =
     (length l.answers.items ≡ length (take l.event-index l.events))

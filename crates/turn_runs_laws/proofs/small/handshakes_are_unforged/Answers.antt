@@ -13,5 +13,5 @@ returns c = record {
   };
   safe = λ a n le. (rounds_promised a n).safe (unforged a n le).authentic (unforged a n le).distinct;
   once = λ a n le. (rounds_promised a n).once (unforged a n le).authentic (unforged a n le).distinct;
-  shown = λ a n le. (rounds_promised a n).shown (unforged a n le).authentic (unforged a n le).distinct;
+  visible = λ a n le. (rounds_promised a n).visible (unforged a n le).authentic (unforged a n le).distinct;
 }

@@ -8,11 +8,11 @@ use Rattle.turn_runs_laws.proofs.small.handshakes_meet_an_account.Goals as goal
 pub returns : goal.returns
 returns c a n = record {
   run = rounds a n;
-  told = refl;
+  reported = refl;
   last = idle n;
   leads = leads a n;
   counted = counted (small a) fresh (rounds a n) (idle n) (leads a n) (lawful a n);
   safe = (rounds_promised a n).safe;
   once = (rounds_promised a n).once;
-  shown = (rounds_promised a n).shown;
+  visible = (rounds_promised a n).visible;
 }

@@ -1,7 +1,7 @@
 use Rattle.std.proofs.Common.{ℕ, List, sym, ap, ◌∙◌, subst}
 use Rattle.std.specs.FinMap as map
 use Rattle.std.specs.String.{string_bytes}
-use Rattle.stun_proto_server.specs.KeptKeys.{HasKeys}
+use Rattle.stun_proto_server.specs.StoredKeys.{HasKeys}
 use Rattle.stun_proto_server.specs.Server.{Server}
 use Rattle.stun_proto_server.proofs.Maps.{insert-users, keys_inserted}
 use Rattle.stun_proto_server.proofs.long_term.LongTermServerAuth.add_user.Goals as goal

@@ -4,7 +4,7 @@ use Rattle.stun_types_base.specs.GeneratorWords.{words_of}
 use Rattle.stun_proto_auth.specs.declared.nonce.TheConstants.{NONCE_WORDS}
 use Rattle.stun_proto_auth.specs.Nonce.{nonce_text, features_offered}
 use Rattle.stun_proto_server.specs.Server.{Server}
-use Rattle.stun_proto_server.proofs.Apart.{drawn_others}
+use Rattle.stun_proto_server.proofs.Apart.{generated_others}
 use Rattle.stun_proto_server.proofs.Maps.{insert-clients}
 use Rattle.stun_proto_server.proofs.long_term.LongTermServerAuth.draw_nonce.Goals as goal
 
@@ -14,8 +14,8 @@ returns-clause-ok g c =
     let text : c.in_ok-nonce.nonce ≡ nonce_text (features_offered c.args.self.now.algorithms c.args.self.now.anonymous_username) (words_of NONCE_WORDS (g.R.Rng.stream c.args.rng.now)) =
     c.in_ok-nonce.ensures ∙ (λ i. nonce_text (features i) (c.draw_words-words.ensures.words i)) in
     insert-clients c.self.inside c.insert.new.self c.args.self.now c.args.from _ c.self.view_is c.in_ok-insert.ensures.updates
-    ∙ ap {A = List ℕ} {B = Server} (λ nonce. record c.args.self.now { clients = map.insert c.args.self.now.clients c.args.from (record { nonce = nonce; drawn = c.args.now; outcome = None }) }) text
+    ∙ ap {A = List ℕ} {B = Server} (λ nonce. record c.args.self.now { clients = map.insert c.args.self.now.clients c.args.from (record { nonce = nonce; generated = c.args.now; outcome = None }) }) text
 
 pub returns-clause-others : goal.returns-clause-others
 returns-clause-others g c other =
-    drawn_others c.args.self.now _ c.args.from other c.args.now (g.R.Rng.stream c.args.rng.now) (returns-clause-ok g c)
+    generated_others c.args.self.now _ c.args.from other c.args.now (g.R.Rng.stream c.args.rng.now) (returns-clause-ok g c)

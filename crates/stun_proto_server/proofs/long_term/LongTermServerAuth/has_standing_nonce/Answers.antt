@@ -1,5 +1,5 @@
 use Rattle.std.proofs.Common.{sym, ap, ◌∙◌, nat_lt}
-use Rattle.stun_types_base.specs.Moments.{moment_after}
+use Rattle.stun_types_base.specs.Times.{time_after}
 use Rattle.stun_proto_server.specs.Server.{is_standing}
 use Rattle.stun_proto_server.proofs.Maps.{get-clients}
 use Rattle.stun_proto_server.proofs.long_term.LongTermServerAuth.has_standing_nonce.Goals as goal
@@ -10,5 +10,5 @@ returns-in-None c =
 
 pub returns-in-Some : goal.returns-in-Some
 returns-in-Some c =
-    c.stands.ensures ∙ ap (λ v. nat_lt c.args.now (moment_after c.in-Some.kept.now.drawn v.nonce_expiry)) c.self.view_is
+    c.occurs.ensures ∙ ap (λ v. nat_lt c.args.now (time_after c.in-Some.stored.now.generated v.nonce_expiry)) c.self.view_is
     ∙ sym (ap (is_standing c.args.self.now.nonce_expiry c.args.now) (get-clients c.self.inside _ c.args.client _ c.self.view_is c.in-Some.ensures))

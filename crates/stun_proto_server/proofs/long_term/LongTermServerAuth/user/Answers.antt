@@ -1,6 +1,6 @@
 use Rattle.std.proofs.Common.{sym, ◌∙◌}
 use Rattle.std.specs.Option.{option_copied}
-use Rattle.stun_proto_server.specs.KeptKeys.{HasKeys}
+use Rattle.stun_proto_server.specs.StoredKeys.{HasKeys}
 use Rattle.stun_proto_server.proofs.Maps.{found_has, found_password, get-users, keys_found}
 use Rattle.stun_proto_server.proofs.long_term.LongTermServerAuth.user.Goals as goal
 

@@ -3,11 +3,11 @@ use Rattle.byteorder.specs.Endian.{big_bytes}
 use Rattle.stun_types_digest.specs.Crc.{crc32}
 use Rattle.stun_types_wire.specs.Fingerprints.{fingerprint_value}
 use Rattle.stun_types_wire.specs.Registry.{fingerprint_mask}
-use Rattle.stun_types_add.proofs.FingerprintPieces.{told_in_pieces}
+use Rattle.stun_types_add.proofs.FingerprintChunks.{decoded_in_chunks}
 use Rattle.stun_types_add.proofs.attribute.Fingerprint.of_message.Goals as goal
 
 pub returns : goal.returns
 unfolding fingerprint_value
 returns c =
-    let text = told_in_pieces c.args.bytes.now _ _ c.args.len c.requires c.front_told.ensures c.split_at.ensures.back in
-    ap (λ crc. big_bytes 4 (bit_xor crc fingerprint_mask)) (c.of_pieces.ensures ∙ ap crc32 text)
+    let text = decoded_in_chunks c.args.bytes.now _ _ c.args.len c.requires c.head_decoded.ensures c.split_at.ensures.back in
+    ap (λ crc. big_bytes 4 (bit_xor crc fingerprint_mask)) (c.of_chunks.ensures ∙ ap crc32 text)

@@ -5,6 +5,6 @@ use Rattle.stun_types_attributes.proofs.type_index.TypeIndex.has.Goals as goal
 
 pub returns : goal.returns
 returns c =
-    let place : c.from-place.result ≡ c.args.atype.0 = c.from-place.ensures ∙ c.value.ensures in
-    let within : c.from-place.result / 64 < length c.self.inside.words.items = omega (arith, c.self.invariant) in
-    mark_test c.self.inside.words.items c.from-place.result c.index.result.now within c.index.ensures ∙ ap (λ (k : ℕ). is_marked c.self.inside.words.items k) place ∙ ap (λ (l : List ℕ). is_marked l c.args.atype.0) c.self.view_is
+    let bit_index : c.from-bit_index.result ≡ c.args.atype.0 = c.from-bit_index.ensures ∙ c.value.ensures in
+    let within : c.from-bit_index.result / 64 < length c.self.inside.words.items = omega (arith, c.self.invariant) in
+    mark_test c.self.inside.words.items c.from-bit_index.result c.index.result.now within c.index.ensures ∙ ap (λ (k : ℕ). is_marked c.self.inside.words.items k) bit_index ∙ ap (λ (l : List ℕ). is_marked l c.args.atype.0) c.self.view_is

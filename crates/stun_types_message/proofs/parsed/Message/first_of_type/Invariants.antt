@@ -4,7 +4,8 @@ use Rattle.stun_types_wire.specs.Attributes.{attr_size, attributes, numbered}
 use Rattle.stun_types_message.specs.MessageValidation.{first_of_kind}
 use Rattle.stun_types_message.proofs.parsed.Message.first_of_type.Given as goal
 
--- the first of what is left is the first of what is shown, and what is left is whole and stands at the offset
+-- The first match among the remaining attributes is the first among the visible ones. What remains is
+-- complete attributes and starts at the offset.
 abbrev pub invariant-loop-left : goal.invariant-loop-left
 invariant-loop-left l =
     (find (λ x. eqb x.1.kind l.atype.0) (numbered l.offset (attributes l.left)) ≡ first_of_kind l.atype.0 l.fn.self) ×

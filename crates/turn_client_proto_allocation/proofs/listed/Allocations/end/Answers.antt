@@ -12,6 +12,6 @@ pub returns : goal.returns
 returns c =
     let all = c.deref_mut-allocation-items.result.now in
     let left = c.loop-allocation.allocation-items in
-    let shown = c.self.inside.items.items in
-    walked (ended c.args.now) all left (drop (length left) shown) c.loop-allocation.allocation-index c.self.inside.items.len c.loop-allocation.invariant c.loop-allocation-test.false (omega arith)
+    let visible = c.self.inside.items.items in
+    walked (ended c.args.now) all left (drop (length left) visible) c.loop-allocation.allocation-index c.self.inside.items.len c.loop-allocation.invariant c.loop-allocation-test.false (omega arith)
     ∙ ap (map (ended c.args.now)) (c.deref_mut-allocation-items.ensures.value ∙ c.self.view_is)

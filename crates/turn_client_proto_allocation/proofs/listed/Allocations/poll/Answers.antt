@@ -1,7 +1,7 @@
 use Rattle.std.proofs.Common.{◌≡◌, ap, arith, drop, length, map, ◌∙◌, rules, List, subst}
 use Rattle.std.proofs.lemmas.List.Edits.{map_over_more}
 use Rattle.std.proofs.lemmas.Fn.{filter_same}
-use Rattle.turn_client_proto_allocation.specs.Polling.{kept, nexts, polled}
+use Rattle.turn_client_proto_allocation.specs.Polling.{stored, nexts, polled}
 use Rattle.stun_proto_transaction.specs.Least.{IsLeastOf}
 use Rattle.turn_client_proto_allocation.specs.declared.allocation.Allocation.{Allocation}
 use Rattle.turn_client_proto_allocation.proofs.Walks.{walked}
@@ -15,13 +15,13 @@ pub returns-clause-left : goal.returns-clause-left
 returns-clause-left c =
     let all = c.deref_mut-allocation-items.result.now in
     let left = c.loop-allocation.allocation-items in
-    let shown = c.retain.new.self.items in
-    let kept_ones : c.retain.new.self.items ≡ kept c.args.ended.now c.args.now c.self.inside.items.items = filter_same _ _ _ (λ x b f' k. search rules) _ _ c.retain.ensures.filtered in
-    walked (polled c.args.ended.now) all left (drop (length left) shown) c.loop-allocation.allocation-index c.retain.new.self.len c.loop-allocation.invariant c.loop-allocation-test.false (omega arith)
-    ∙ ap (map (polled c.args.ended.now)) (c.deref_mut-allocation-items.ensures.value ∙ kept_ones ∙ ap (kept c.args.ended.now c.args.now) c.self.view_is)
+    let visible = c.retain.new.self.items in
+    let stored_ones : c.retain.new.self.items ≡ stored c.args.ended.now c.args.now c.self.inside.items.items = filter_same _ _ _ (λ x b f' k. search rules) _ _ c.retain.ensures.filtered in
+    walked (polled c.args.ended.now) all left (drop (length left) visible) c.loop-allocation.allocation-index c.retain.new.self.len c.loop-allocation.invariant c.loop-allocation-test.false (omega arith)
+    ∙ ap (map (polled c.args.ended.now)) (c.deref_mut-allocation-items.ensures.value ∙ stored_ones ∙ ap (stored c.args.ended.now c.args.now) c.self.view_is)
 
 pub returns-clause-wait : goal.returns-clause-wait
 returns-clause-wait c =
-    let kept_ones : c.retain.new.self.items ≡ kept c.args.ended.now c.args.now c.self.inside.items.items = filter_same _ _ _ (λ x b f' k. search rules) _ _ c.retain.ensures.filtered in
-    let same = c.as_slice.ensures.value ∙ kept_ones ∙ ap (kept c.args.ended.now c.args.now) c.self.view_is in
+    let stored_ones : c.retain.new.self.items ≡ stored c.args.ended.now c.args.now c.self.inside.items.items = filter_same _ _ _ (λ x b f' k. search rules) _ _ c.retain.ensures.filtered in
+    let same = c.as_slice.ensures.value ∙ stored_ones ∙ ap (stored c.args.ended.now c.args.now) c.self.view_is in
     subst (λ (l : List Allocation). IsLeastOf c.args.wait (nexts c.args.ended.now c.args.ready c.args.now l) c.earliest-next.result) same c.earliest-next.ensures

@@ -8,5 +8,5 @@ unreachable-requires-in_default-e c =
     let refused = c.in-Err.ensures.cause.named c.in_default-e.not-NoMemory in
     let same : c.bytes.result.now ≡ c.in_ok-bytes.bytes.items = search rules in
     let is = c.in_ok-bytes.ensures.message in
-    let fine = sendable c.args.self.now.agent c.in_ok-bytes.bytes.items c.args.number is.0 is.1 is.2 c.requires.unused in
+    let fine = sendable c.args.self.now.agent c.in_ok-bytes.bytes.items c.args.transaction_id is.0 is.1 is.2 c.requires.unused in
     absurd (Prim.cc (sym (ap (λ (l : List ℕ). request_refusal c.args.self.now.agent l) same ∙ fine) ∙ refused))

@@ -2,4 +2,4 @@ use Rattle.turn_client_proto_core.proofs.UnderWay.{failed_from}
 use Rattle.turn_client_proto_core.proofs.protocol.Protocol.handle_message.Goals as goal
 
 pub returns-in-Err-clause-err : goal.returns-in-Err-clause-err
-returns-in-Err-clause-err c = failed_from c.args.self.now c.hear.new.self c.fail.new.self c.len-events.result c.len-events.ensures c.in-Err.ensures.err c.fail.ensures
+returns-in-Err-clause-err c = failed_from c.args.self.now c.process.new.self c.fail.new.self c.len-events.result c.len-events.ensures c.in-Err.ensures.err c.fail.ensures

@@ -1,9 +1,9 @@
 use Rattle.std.proofs.Common.{◌≡◌, refl, rules}
 use Rattle.std.proofs.lemmas.Fn.{filter_same}
-use Rattle.turn_client_proto_allocation.specs.Channels.{not_asked_by}
+use Rattle.turn_client_proto_allocation.specs.Channels.{not_pending_request}
 use Rattle.turn_client_proto_peers.proofs.channel.granted.bind_in.Goals as goal
 
 pub returns-clause-ok : goal.returns-clause-ok
 returns-clause-ok c =
-    let pending : c.retain.new.self ≡ not_asked_by c.args.request c.args.a.now.pending_channels = filter_same _ _ _ (λ x b f' k. search rules) _ _ c.retain.ensures in
+    let pending : c.retain.new.self ≡ not_pending_request c.args.request c.args.a.now.pending_channels = filter_same _ _ _ (λ x b f' k. search rules) _ _ c.retain.ensures in
     rw (c.in_ok-push.ensures.ok, pending, c.channel_end.ensures, c.new.ensures) refl

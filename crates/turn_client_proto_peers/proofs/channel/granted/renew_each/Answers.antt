@@ -4,4 +4,4 @@ use Rattle.turn_client_proto_peers.proofs.channel.granted.renew_each.Goals as go
 
 pub loop-channel-preserved : goal.loop-channel-preserved
 loop-channel-preserved c =
-    rw (c.renew.ensures, ← c.channel-item.is) (map_over_more (renewed_channel c.args.number c.args.expiry) c.args.channels.now c.loop-channel.channels c.loop-channel.channel-index c.channel-item.result c.loop-channel-test.true c.loop-channel.invariant c.channel-item.is)
+    rw (c.renew.ensures, ← c.channel-item.is) (map_over_more (renewed_channel c.args.transaction_id c.args.expiry) c.args.channels.now c.loop-channel.channels c.loop-channel.channel-index c.channel-item.result c.loop-channel-test.true c.loop-channel.invariant c.channel-item.is)

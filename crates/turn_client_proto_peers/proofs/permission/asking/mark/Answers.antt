@@ -6,6 +6,6 @@ use Rattle.turn_client_proto_peers.proofs.permission.asking.mark.Goals as goal
 
 pub returns : goal.returns
 returns c =
-    let x : Allocation = get_or c.as_mut_slice-items.result.now c.args.place c.index-items-place.result in
-    let is_there = ap (λ y. get_or c.as_mut_slice-items.result.now c.args.place y) c.index-items-place.is in
-    changed_in marked c.args.allocations.now c.as_mut_slice-items.result.now c.args.place x (marked x) c.as_mut_slice-items.ensures.value c.requires is_there refl
+    let x : Allocation = get_or c.as_mut_slice-items.result.now c.args.index c.index-items-index.result in
+    let is_there = ap (λ y. get_or c.as_mut_slice-items.result.now c.args.index y) c.index-items-index.is in
+    changed_in marked c.args.allocations.now c.as_mut_slice-items.result.now c.args.index x (marked x) c.as_mut_slice-items.ensures.value c.requires is_there refl

@@ -2,6 +2,6 @@ use Rattle.std.proofs.Common.{◌≡◌, ◌++◌, map, take, drop}
 use Rattle.turn_client_proto_peers.specs.Permission.Granted.{renewed}
 use Rattle.turn_client_proto_peers.proofs.permission.granted.renew.Given as goal
 
--- those so far are changed, and the others are as they were
+-- The elements so far are changed, and the others are as they were.
 abbrev pub invariant-loop-allocation : goal.invariant-loop-allocation
-invariant-loop-allocation l = l.allocations ≡ map (renewed l.number l.now) (take l.allocation-index l.fn.allocations) ++ drop l.allocation-index l.fn.allocations
+invariant-loop-allocation l = l.allocations ≡ map (renewed l.transaction_id l.now) (take l.allocation-index l.fn.allocations) ++ drop l.allocation-index l.fn.allocations

@@ -2,7 +2,7 @@ use Rattle.std.proofs.Common.{◌≡◌, ap, map, refl, rules, ◌∙◌}
 use Rattle.std.proofs.lemmas.Fn.{filter_same}
 use Rattle.turn_client_proto_allocation.specs.Permissions.{not_over, polled_permission, standing}
 use Rattle.turn_client_proto_allocation.proofs.Lent.{each_back}
-use Rattle.turn_client_proto_peers.specs.Permission.Telling.{polled}
+use Rattle.turn_client_proto_peers.specs.Permission.Reporting.{polled}
 use Rattle.turn_client_proto_peers.proofs.permission.one.poll.Goals as goal
 
 pub returns : goal.returns

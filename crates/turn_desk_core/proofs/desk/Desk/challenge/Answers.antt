@@ -12,15 +12,15 @@ sign_outgoing_message_unchecked-requires-clause-accepted c =
     let has : IsSome (nonce_at c.self.inside.auth c.args.from) = search rules in
     let none : outcome_at c.self.inside.auth c.args.from ≡ None = search rules in
     let k = keeps_nonce c.self.inside.auth c.args.from has in
-    let fits = subst (λ (s : State). (n : List ℕ) → nonce_at s.auth c.args.from ≡ Some n → FitsChallenge (unvalidated_party s.auth n)) (sym c.self.view_is) c.has_room.ensures k.nonce k.kept in
-    challenge_accepted c.self.inside.auth c.args.from c.args.request.now k.nonce c.args.code (own_draft c.in_ok-reply.reply) c.requires.request k.kept none fits c.in_ok-reply.ensures
+    let fits = subst (λ (s : State). (n : List ℕ) → nonce_at s.auth c.args.from ≡ Some n → FitsChallenge (unvalidated_party s.auth n)) (sym c.self.view_is) c.has_room.ensures k.nonce k.stored in
+    challenge_accepted c.self.inside.auth c.args.from c.args.request.now k.nonce c.args.code (own_draft c.in_ok-reply.reply) c.requires.request k.stored none fits c.in_ok-reply.ensures
 
 pub returns : goal.returns
 returns c =
     let has : IsSome (nonce_at c.self.inside.auth c.args.from) = search rules in
     let none : outcome_at c.self.inside.auth c.args.from ≡ None = search rules in
     let k = keeps_nonce c.self.inside.auth c.args.from has in
-    let fits = subst (λ (s : State). (n : List ℕ) → nonce_at s.auth c.args.from ≡ Some n → FitsChallenge (unvalidated_party s.auth n)) (sym c.self.view_is) c.has_room.ensures k.nonce k.kept in
+    let fits = subst (λ (s : State). (n : List ℕ) → nonce_at s.auth c.args.from ≡ Some n → FitsChallenge (unvalidated_party s.auth n)) (sym c.self.view_is) c.has_room.ensures k.nonce k.stored in
     subst (λ (s : State). IsTurnedReply s.auth c.args.from c.args.request.now (challenge_attributes c.args.code) c.finish.result.items) c.self.view_is
-    (challenge_reply c.self.inside.auth c.args.from c.args.request.now k.nonce c.args.code (own_draft c.in_ok-reply.reply) (own_draft c.in_ok-challenge.challenge) c.finish.result.items c.requires.request k.kept none fits c.in_ok-reply.ensures
+    (challenge_reply c.self.inside.auth c.args.from c.args.request.now k.nonce c.args.code (own_draft c.in_ok-reply.reply) (own_draft c.in_ok-challenge.challenge) c.finish.result.items c.requires.request k.stored none fits c.in_ok-reply.ensures
     c.in_ok-challenge.ensures.ok c.finish.ensures)

@@ -6,14 +6,14 @@ use Rattle.stun_proto_verify.specs.declared.error.LongTermServerAuthError.TheVar
 use Rattle.stun_proto_server.specs.Server.{SameFor}
 use Rattle.turn_desk_core.specs.Requests.{IsServed}
 use Rattle.turn_desk_core.specs.State.{State}
-use Rattle.turn_desk_core.specs.Steps.{IsAnswer, IsAuthAfter, IsTurnedAway}
+use Rattle.turn_desk_core.specs.Steps.{IsAnswer, IsAuthAfter, IsUnauthenticated}
 use Rattle.turn_desk_core.specs.Verdicts.{verdict_on}
 use Rattle.turn_desk_core.proofs.Challenges.{challenged, refused_outcome}
 use Rattle.turn_desk_core.proofs.Grants.{exactly_granted}
 use Rattle.turn_desk_core.proofs.Keys.{answered, refusal_after, refused_nonce, takes, takes_key}
 use Rattle.turn_desk_core.proofs.desk.Desk.handle.Goals as goal
 
--- what a call leaves where memory is refused
+-- The state that a call leaves when an allocation fails.
 abbrev OutOfMemory : State → SocketAddr → List ℕ → ℕ → Stream → State → Type 0
 OutOfMemory old from bytes now stream new =
     IsServed bytes × (new.grants ≡ old.grants) × IsAuthAfter old.auth from bytes now stream new.auth
@@ -28,8 +28,8 @@ answer-requires-clause-validated g c =
     takes_key c.self.inside.auth c.args.from c.in-Ok.request c.args.now stream c.validate_incoming_message.new.self
     (takes c.self.inside.auth c.args.from c.in-Ok.request c.args.now stream c.in-Ok-validate_incoming_message.field-0 c.validate_incoming_message.new.self c.in-Ok-validate_incoming_message.ensures.valid)
 
-pub turn_away-requires : goal.turn_away-requires
-turn_away-requires g c =
+pub refuse_unauthenticated-requires : goal.refuse_unauthenticated-requires
+refuse_unauthenticated-requires g c =
     let stream = g.R.Rng.stream c.args.rng.now in
     let served : IsServed c.in-Ok.request = search rules in
     let ample : c.in-Err.error ≢ NoMemory = search rules in
@@ -69,7 +69,7 @@ returns-in_ok-reply-in-Err g c =
     let served : IsServed c.in-Ok.request = search rules in
     let ample : c.in-Err.error ≢ NoMemory = search rules in
     let are : (i : ℕ) → slice_index c.in-Ok.request i < 256 = subst (λ (b : List ℕ). (i : ℕ) → slice_index b i < 256) (sym c.in-Ok.ensures.0) (λ i. omega (arith, c.type_inv.bytes i)) in
-    let away : IsTurnedAway old.auth c.args.from c.in-Ok.request c.args.now stream c.in-Err.error new.auth = record {
+    let away : IsUnauthenticated old.auth c.args.from c.in-Ok.request c.args.now stream c.in-Err.error new.auth = record {
       ample = ample;
       refused = (c.in-Err.ensures.refused ample).0;
       after = refusal_after c.self.inside.auth c.args.from c.in-Ok.request c.args.now stream c.validate_incoming_message.new.self served (c.in-Err.ensures.refused ample).1;
@@ -96,7 +96,7 @@ returns-in_err-reply-in-Err g c =
     let new : State = record { auth = after; grants = c.self.inside.grants } in
     let served : IsServed c.in-Ok.request = search rules in
     let ample : c.in-Err.error ≢ NoMemory = search rules in
-    let away : IsTurnedAway c.self.inside.auth c.args.from c.in-Ok.request c.args.now stream c.in-Err.error after = record {
+    let away : IsUnauthenticated c.self.inside.auth c.args.from c.in-Ok.request c.args.now stream c.in-Err.error after = record {
       ample = ample;
       refused = (c.in-Err.ensures.refused ample).0;
       after = refusal_after c.self.inside.auth c.args.from c.in-Ok.request c.args.now stream after served (c.in-Err.ensures.refused ample).1;
@@ -124,10 +124,10 @@ returns-in_err-reply-in-Ok-validate_incoming_message-clause-memory g c =
     let t = takes c.self.inside.auth c.args.from c.in-Ok.request c.args.now stream c.in-Ok-validate_incoming_message.field-0 after c.in-Ok-validate_incoming_message.ensures.valid in
     let auth : IsAuthAfter c.self.inside.auth c.args.from c.in-Ok.request c.args.now stream after = inr (inr (t.name, t.algorithm, t.taken)) in
     let here : OutOfMemory old c.args.from c.in-Ok.request c.args.now stream (record { auth = after; grants = c.self.inside.grants }) = (served, refl, auth) in
-    let kept = subst (λ (new : State). OutOfMemory old c.args.from c.in-Ok.request c.args.now stream new) (sym c.in_err-reply-in-Ok-validate_incoming_message.ensures.err) here in
+    let stored = subst (λ (new : State). OutOfMemory old c.args.from c.in-Ok.request c.args.now stream new) (sym c.in_err-reply-in-Ok-validate_incoming_message.ensures.err) here in
     let named : IsServed c.args.bytes.now × (c.answer.new.self.grants ≡ c.args.self.now.grants) × IsAuthAfter c.args.self.now.auth c.args.from c.args.bytes.now c.args.now stream c.answer.new.self.auth =
     subst (λ (s : State). OutOfMemory s c.args.from c.args.bytes.now c.args.now stream c.answer.new.self) c.self.view_is
-    (subst (λ (b : List ℕ). OutOfMemory old c.args.from b c.args.now stream c.answer.new.self) c.in-Ok.ensures.0 kept) in
+    (subst (λ (b : List ℕ). OutOfMemory old c.args.from b c.args.now stream c.answer.new.self) c.in-Ok.ensures.0 stored) in
     on_err c.from_residual.result named
 
 pub returns-in_err-reply-in-Ok-validate_incoming_message-clause-others :

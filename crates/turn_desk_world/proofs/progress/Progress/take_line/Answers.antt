@@ -13,11 +13,11 @@ returns-in-Ok-clause-done c =
     let spelled = subst (λ (line : Line). IsLine c.args.self.now.named.items c.args.line.now line) c.in-Ok-Setup.field-0-is read in
     SetUp c.in-Ok-Setup.setup spelled c.in-Ok.ensures.ok.0 c.in-Ok.ensures.ok.1 refl
 
-pub returns-in-Ok-tell-clause-done : goal.returns-in-Ok-tell-clause-done
-returns-in-Ok-tell-clause-done c =
+pub returns-in-Ok-report-clause-done : goal.returns-in-Ok-report-clause-done
+returns-in-Ok-report-clause-done c =
     let read = subst (λ (answers : List (List ℕ)). IsLine answers c.args.line.now c.in-Ok-Event.field-0) c.as_slice.ensures.value c.in-Ok-Event.ensures.ok in
     let spelled = subst (λ (line : Line). IsLine c.args.self.now.named.items c.args.line.now line) c.in-Ok-Event.field-0-is read in
-    Answered c.in-Ok-Event.event spelled c.in-Ok-tell.ensures.ok
+    Answered c.in-Ok-Event.event spelled c.in-Ok-report.ensures.ok
 
 pub returns-in-Err-clause-bad : goal.returns-in-Err-clause-bad
 returns-in-Err-clause-bad c = λ e.
@@ -26,10 +26,10 @@ returns-in-Err-clause-bad c = λ e.
     c.in-Err.ensures.bad (ap Err bad) line
     (subst (λ (answers : List (List ℕ)). IsLine answers c.args.line.now line) (sym c.as_slice.ensures.value) spelled))
 
-pub returns-in-Err-tell-clause-bad : goal.returns-in-Err-tell-clause-bad
-returns-in-Err-tell-clause-bad c = λ e.
-    let bad : c.in-Err-tell.error ≡ error.Bad = cc in
+pub returns-in-Err-report-clause-bad : goal.returns-in-Err-report-clause-bad
+returns-in-Err-report-clause-bad c = λ e.
+    let bad : c.in-Err-report.error ≡ error.Bad = cc in
     let read = subst (λ (answers : List (List ℕ)). IsLine answers c.args.line.now c.in-Ok-Event.field-0) c.as_slice.ensures.value c.in-Ok-Event.ensures.ok in
     let spelled = subst (λ (line : Line). IsLine c.args.self.now.named.items c.args.line.now line) c.in-Ok-Event.field-0-is read in
     spelled_in_vain _ c.args.line.now c.in-Ok-Event.event (sym c.is_skipped.ensures ∙ c.if-is_skipped.false) spelled
-    (c.in-Err-tell.ensures.bad (ap Err bad))
+    (c.in-Err-report.ensures.bad (ap Err bad))

@@ -1,9 +1,0 @@
-use Rattle.stun_proto_server.proofs.Alone.{answers_are_fixed, stands_alone}
-use Rattle.stun_proto_server.proofs.laws.addresses_stand_alone.Goals as goal
-
-pub returns-clause-alone : goal.returns-clause-alone
-returns-clause-alone c = λ address old other new pairs same run. stands_alone address pairs old other new same run
-
-pub returns-clause-fixed : goal.returns-clause-fixed
-returns-clause-fixed c = λ address old other new left pairs others same run again calls each.
-    answers_are_fixed address old other new left pairs others same run again calls each

@@ -1,5 +1,0 @@
-use Rattle.stun_types_add.proofs.Adds.{told_again}
-use Rattle.stun_types_add.proofs.signing.length_told.Goals as goal
-
-pub returns : goal.returns
-returns c n = told_again c.args.bytes.now c.from_be_bytes.result n c.requires c.type_inv.bytes c.from_be_bytes.ensures

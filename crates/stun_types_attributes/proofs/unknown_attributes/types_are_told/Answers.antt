@@ -1,5 +1,0 @@
-use Rattle.stun_types_attributes.proofs.TypeLists.{bytes_again}
-use Rattle.stun_types_attributes.proofs.unknown_attributes.types_are_told.Goals as goal
-
-pub returns : goal.returns
-returns c = bytes_again c.args.bytes.now c.requires (λ k. (c.type_inv.bytes k).fits)

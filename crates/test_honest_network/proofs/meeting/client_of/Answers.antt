@@ -1,8 +1,0 @@
-use Rattle.test_honest_network.proofs.Beginning.{over_datagrams, over_stream}
-use Rattle.test_honest_network.proofs.meeting.client_of.Goals as goal
-
-pub returns-in-Ok : goal.returns-in-Ok
-returns-in-Ok c = over_datagrams c.args.setting.now.here c.args.setting.now.server c.args.config _ c.args.setting.now.transport c.in-Udp.is c.in-Ok.client c.in-Ok.ensures
-
-pub returns-in-Ok-allocate : goal.returns-in-Ok-allocate
-returns-in-Ok-allocate c = over_stream c.args.setting.now.here c.args.setting.now.server c.args.config _ c.args.setting.now.transport c.in-Tcp.is c.in-Ok-allocate.client c.in-Ok-allocate.ensures.0 c.in-Ok-allocate.ensures.1

@@ -1,0 +1,12 @@
+use Rattle.std.proofs.Common.{ap, get_or, sym, ◌∙◌}
+use Rattle.turn_client_proto_allocation.proofs.Changes.{on_ok, put_there}
+use Rattle.turn_client_proto_allocation.specs.declared.channel.PendingChannel.{PendingChannel}
+use Rattle.turn_client_proto_allocation.specs.Awaited.{asks_for_channel}
+use Rattle.turn_client_proto_allocation.specs.Channels.{with_number}
+use Rattle.turn_client_proto_allocation.proofs.pending.ask_again.Goals as goal
+
+pub returns : goal.returns
+returns c =
+    let x : PendingChannel = get_or c.args.pending.now c.in-Some.index c.index-pending-index.result in
+    let is_there = ap (λ y. get_or c.args.pending.now c.in-Some.index y) c.index-pending-index.is in
+    on_ok c.push.result (λ is. put_there (asks_for_channel c.args.old) (with_number c.args.transaction_id) c.args.pending.now c.in-Some.index x (record x { numbers = c.push.new.self }) (sym c.index_requested.ensures ∙ c.in-Some.is) is_there (ap (λ l. record x { numbers = l }) is)) c.push.ensures.ok

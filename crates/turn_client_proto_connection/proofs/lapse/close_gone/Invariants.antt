@@ -1,7 +1,0 @@
-use Rattle.std.proofs.Common.{◌≡◌, ◌++◌, take}
-use Rattle.turn_client_proto_connection.specs.Lapsing.{sockets_gone}
-use Rattle.turn_client_proto_connection.proofs.lapse.close_gone.Given as goal
-
--- those so far are to be closed
-abbrev pub invariant-loop-connection : goal.invariant-loop-connection
-invariant-loop-connection l = l.closing ≡ l.fn.closing ++ sockets_gone l.ended l.now (take l.connection-index l.connections)

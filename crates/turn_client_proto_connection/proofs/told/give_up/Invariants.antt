@@ -1,7 +1,0 @@
-use Rattle.std.proofs.Common.{◌≡◌, ◌++◌, map, take, drop}
-use Rattle.turn_client_proto_connection.specs.Told.{given_up}
-use Rattle.turn_client_proto_connection.proofs.told.give_up.Given as goal
-
--- those so far are changed, and the others are as they were
-abbrev pub invariant-loop-allocation : goal.invariant-loop-allocation
-invariant-loop-allocation l = l.allocations ≡ map (given_up l.ended) (take l.allocation-index l.fn.allocations) ++ drop l.allocation-index l.fn.allocations

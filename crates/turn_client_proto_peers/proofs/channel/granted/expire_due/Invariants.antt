@@ -1,0 +1,7 @@
+use Rattle.std.proofs.Common.{◌≡◌, ◌++◌, map, take, drop}
+use Rattle.turn_client_proto_peers.specs.Channel.Granted.{expire_due}
+use Rattle.turn_client_proto_peers.proofs.channel.granted.expire_due.Given as goal
+
+-- The elements so far are changed, and the others are as they were.
+abbrev pub invariant-loop-allocation : goal.invariant-loop-allocation
+invariant-loop-allocation l = l.allocations ≡ map (expire_due l.transaction_id) (take l.allocation-index l.fn.allocations) ++ drop l.allocation-index l.fn.allocations

@@ -1,7 +1,0 @@
-use Rattle.std.proofs.Common.{◌≡◌, take}
-use Rattle.turn_client_proto_peers.proofs.EarliestChannel.{earliest}
-use Rattle.turn_client_proto_peers.proofs.channel.lapse.earliest.Given as goal
-
--- the earliest of those so far
-abbrev pub invariant-loop-allocation : goal.invariant-loop-allocation
-invariant-loop-allocation l = l.next ≡ earliest l.ended l.ready l.now l.fn.wait (take l.allocation-index l.allocations)

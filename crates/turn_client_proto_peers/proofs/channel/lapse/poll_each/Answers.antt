@@ -1,7 +1,0 @@
-use Rattle.std.proofs.lemmas.List.Edits.{map_over_more}
-use Rattle.turn_client_proto_allocation.specs.Channels.{polled_channel}
-use Rattle.turn_client_proto_peers.proofs.channel.lapse.poll_each.Goals as goal
-
-pub loop-channel-preserved : goal.loop-channel-preserved
-loop-channel-preserved c =
-    rw (c.poll.ensures, ← c.channel-item.is) (map_over_more (polled_channel c.args.ended.now) c.args.channels.now c.loop-channel.channels c.loop-channel.channel-index c.channel-item.result c.loop-channel-test.true c.loop-channel.invariant c.channel-item.is)

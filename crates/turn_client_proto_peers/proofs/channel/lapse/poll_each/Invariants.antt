@@ -1,7 +1,0 @@
-use Rattle.std.proofs.Common.{◌≡◌, ◌++◌, map, take, drop}
-use Rattle.turn_client_proto_allocation.specs.Channels.{polled_channel}
-use Rattle.turn_client_proto_peers.proofs.channel.lapse.poll_each.Given as goal
-
--- those so far are changed, and the others are as they were
-abbrev pub invariant-loop-channel : goal.invariant-loop-channel
-invariant-loop-channel l = l.channels ≡ map (polled_channel l.ended) (take l.channel-index l.fn.channels) ++ drop l.channel-index l.fn.channels

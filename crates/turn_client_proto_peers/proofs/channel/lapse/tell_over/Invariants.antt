@@ -1,9 +1,0 @@
-use Rattle.std.proofs.Common.{◌≡◌, ◌++◌, map, take}
-use Rattle.turn_client_proto_api.specs.declared.event.TurnEvent.TheVariants.{ChannelCreateFailed}
-use Rattle.turn_client_proto_peers.specs.Channel.Lapsing.{peers_over}
-use Rattle.turn_client_proto_peers.proofs.channel.lapse.tell_over.Given as goal
-
--- those so far are told
-abbrev pub invariant-loop-channel : goal.invariant-loop-channel
-invariant-loop-channel l =
-    l.events ≡ l.fn.events ++ map (ChannelCreateFailed l.transport) (peers_over l.ended (take l.channel-index l.pending))

@@ -1,0 +1,10 @@
+use Rattle.std.proofs.Common.{ap, ◌∙◌}
+use Rattle.std.proofs.lemmas.List.{take_all}
+use Rattle.turn_client_proto_peers.proofs.EarliestPermission.{earliest, earliest_is}
+use Rattle.turn_client_proto_peers.proofs.permission.reporting.earliest.Goals as goal
+
+pub returns : goal.returns
+returns c =
+    let all = take_all c.loop-allocation.allocation-index c.args.allocations.now c.loop-allocation-test.false in
+    earliest_is c.args.ended.now c.args.ready c.args.now c.args.wait c.args.allocations.now c.loop-allocation.next
+    (c.loop-allocation.invariant ∙ ap (earliest c.args.ended.now c.args.ready c.args.now c.args.wait) all)
