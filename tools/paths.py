@@ -7,6 +7,7 @@ import functools
 import sys
 from pathlib import Path
 
+TOP = Path(__file__).resolve().parent.parent
 MOST = 1_400_000
 PRINTED = 10
 
@@ -18,17 +19,23 @@ def lists(text):
     return {name: [it for it in of if it in listed] for name, of in listed.items()}
 
 
-def main():
-    listed = lists((Path(__file__).resolve().parent.parent / "crates.txt").read_text(encoding="utf-8"))
+def counted(top=TOP):
+    """Of each crate how many paths there are."""
+    listed = lists((top / "crates.txt").read_text(encoding="utf-8"))
 
     @functools.cache
     def paths(name):
         return sum(1 + paths(it) for it in listed[name])
 
-    for name in sorted(listed, key=paths, reverse=True)[:PRINTED]:
-        print(f"{paths(name):8,} {name}")
-    whole = sum(map(paths, listed))
-    print(f"{whole:8,} in all, of {len(listed)} crates")
+    return {name: paths(name) for name in listed}
+
+
+def main():
+    found = counted()
+    for name in sorted(found, key=found.get, reverse=True)[:PRINTED]:
+        print(f"{found[name]:8,} {name}")
+    whole = sum(found.values())
+    print(f"{whole:8,} in all, of {len(found)} crates")
     return 0 if whole < MOST else 1
 
 

@@ -24,7 +24,7 @@ LIBRARIES = {
 }
 COPIES = {
     "turn_client.h": ("bindings/c/include/turn_client.h",),
-    "turn_client.pc": ("bindings/c/build",),
+    "turn_client.pc": ("bindings/c/build", "VERSION"),
 }
 FILES = (*LIBRARIES, *COPIES, *PROGRAMS)
 

@@ -14,9 +14,10 @@ import zipfile
 from pathlib import Path
 from typing import Any
 
-NAME, VERSION, TAG = "turn_client", "0.1.0", "py3-none-linux_x86_64"
-SHARED = "libturn_client.so"
 HERE = Path(__file__).resolve().parent
+NAME, TAG = "turn_client", "py3-none-linux_x86_64"
+VERSION = (HERE.parents[1] / "VERSION").read_text(encoding="utf-8").strip()
+SHARED = "libturn_client.so"
 LICENSES = "LICENSE-MIT", "LICENSE-APACHE"
 METADATA = f"""\
 Metadata-Version: 2.1
