@@ -1,3 +1,4 @@
 pub mod Truncating
 pub mod TruncatedHmacs
 pub mod Keys
+pub mod Differences

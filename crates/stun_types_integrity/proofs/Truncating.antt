@@ -1,16 +1,19 @@
 -- Prefixes of byte lists.
-use Rattle.std.proofs.Common.{◌≡◌, ℕ, Bool, true, eqb, List, length, drop}
-use Rattle.std.specs.Prelude.{◌↔◌, IsTrue}
-use Rattle.std.specs.List.{starts_with}
-use Rattle.std.proofs.lemmas.Bool.Decides.{Decides-eqb}
-use Rattle.std.proofs.lemmas.Slice.Eq.{starts_is}
+use Rattle.std.proofs.Common.{◌≡◌, ◌↔◌, IsTrue, ℕ, Bool, List, ◌++◌, length, take, drop, ap, sym, ◌∙◌}
+use Rattle.std.proofs.Math.Seq.{take-append_seam}
+use Rattle.std.proofs.lemmas.List.{take-append-drop}
 use Rattle.stun_types_integrity.specs.Integrity.{IsPrefix}
 
-truncated_to : (r : Bool) (truncated whole : List ℕ) → r ≡ starts_with eqb whole truncated → r ≡ true → IsPrefix truncated whole
-truncated_to r truncated whole is decoded = record { rest = drop (length truncated) whole; parts = (starts_is Decides-eqb whole truncated r is).0 decoded }
+of_head : (truncated whole : List ℕ) → truncated ≡ take (length truncated) whole → IsPrefix truncated whole
+of_head truncated whole is = record {
+  rest = drop (length truncated) whole;
+  parts = sym (take-append-drop (length truncated) whole) ∙ ap (λ head. head ++ drop (length truncated) whole) (sym is);
+}
 
-of_head : (r : Bool) (truncated whole : List ℕ) → r ≡ starts_with eqb whole truncated → IsPrefix truncated whole → r ≡ true
-of_head r truncated whole is h = (starts_is Decides-eqb whole truncated r is).1 h.rest h.parts
+to_head : (truncated whole : List ℕ) → IsPrefix truncated whole → truncated ≡ take (length truncated) whole
+to_head truncated whole h = sym (ap (take (length truncated)) h.parts ∙ take-append_seam truncated h.rest)
 
-pub head_decoded : (r : Bool) (truncated whole : List ℕ) → r ≡ starts_with eqb whole truncated → IsTrue r ↔ IsPrefix truncated whole
-head_decoded r truncated whole is = (truncated_to r truncated whole is, of_head r truncated whole is)
+-- A prefix is equal to as many of the first bytes as it has.
+pub head_compared : (r : Bool) (truncated head whole : List ℕ) → head ≡ take (length truncated) whole → IsTrue r ↔ (truncated ≡ head) → IsTrue r ↔ IsPrefix truncated whole
+head_compared r truncated head whole is h =
+    (λ yes. of_head truncated whole (h.0 yes ∙ is), λ prefix. h.1 (to_head truncated whole prefix ∙ sym is))

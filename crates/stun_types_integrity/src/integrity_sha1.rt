@@ -6,6 +6,7 @@ ghost use Rattle.stun_types_wire.specs.declared.algorithm.IntegrityAlgorithm.The
 ghost use Rattle.stun_types_integrity.specs.Integrity.{integrity_hmac};
 ghost use Rattle.stun_types_wire.specs.Registry.{integrity_kind, sha1_length};
 
+use crate::constant_time::is_same;
 use crate::hmac::IntegrityHmac;
 use crate::key::IntegrityKey;
 use std::alloc::Global;
@@ -101,7 +102,8 @@ impl MessageIntegrity {
         MessageIntegrity::verify_in_chunks(text, &[], &[], key, expected)
     }
 
-    /// Does what `verify` does, for a text in three chunks as in `compute_in_chunks`.
+    /// Does what `verify` does, for a text in three chunks as in `compute_in_chunks`. It compares
+    /// all bytes, as `IntegrityKey::signs` does.
     pub fn verify_in_chunks(
         head: &[u8],
         middle: &[u8],
@@ -115,7 +117,7 @@ impl MessageIntegrity {
         ensures refused { IfErr result (λ error. error ≡ ValidateError.IntegrityFailed) }
     {
         match MessageIntegrity::compute_in_chunks(head, middle, tail, key) {
-            Ok(hmac) if hmac == *expected => Ok(()),
+            Ok(hmac) if is_same(&hmac, expected) => Ok(()),
             _ => Err(ValidateError::IntegrityFailed),
         }
     }

@@ -11,6 +11,7 @@ ghost use Rattle.stun_types_integrity.specs.KeyBytes.{bytes_of};
 ghost use Rattle.stun_types_integrity.specs.Integrity.{IsPrefix, integrity_hmac};
 ghost use Rattle.stun_types_integrity.specs.Signing.{hmac_length};
 
+use crate::constant_time::is_same;
 use crate::hmac::IntegrityHmac;
 use crate::hmac_state::HmacState;
 use md5::{Digest, Md5};
@@ -188,6 +189,10 @@ impl<'a> IntegrityKey<'a> {
 
     /// Returns whether `value` is the HMAC of a text under this key, or the first bytes of it. The
     /// text comes in three chunks, as for `hmac`.
+    ///
+    /// It compares all bytes of a `value` that is no longer than the HMAC, even after one that
+    /// differs: as far as the source goes, the time of the comparison depends on the lengths alone.
+    /// A compiler is not proved to keep it so.
     pub fn signs(&self, head: &[u8], middle: &[u8], tail: &[u8], value: &[u8]) -> bool
         ensures { IsTrue result ↔ IsPrefix value.now
             (integrity_hmac self.now.algorithm self.now.bytes
@@ -197,11 +202,15 @@ impl<'a> IntegrityKey<'a> {
     }
 }
 
-/// Returns whether `truncated` is a prefix of `whole`.
+/// Returns whether `truncated` is a prefix of `whole`. It reads all bytes of `truncated`, and as
+/// many of `whole`, whatever they are.
 fn is_truncated(truncated: &[u8], whole: &[u8]) -> bool
     ensures { IsTrue result ↔ IsPrefix truncated.now whole.now }
 {
-    whole.starts_with(truncated)
+    match whole.get(..truncated.len()) {
+        Some(head) => is_same(truncated, head),
+        None => false,
+    }
 }
 
 impl<'a> Clone for IntegrityKey<'a> {

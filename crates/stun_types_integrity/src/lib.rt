@@ -3,6 +3,7 @@
 #![tactic(auto)]
 
 pub mod algorithm;
+mod constant_time;
 pub mod credentials;
 pub mod hmac;
 mod hmac_state;
