@@ -6,5 +6,7 @@ pub mod Isolated
 pub mod Maps
 pub mod Named
 pub mod Naming
+pub mod Registered
 pub mod Signed
+pub mod Texts
 pub mod Validated

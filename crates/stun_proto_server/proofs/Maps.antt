@@ -1,8 +1,6 @@
 -- The maps of a server, as its fields store them and as contracts see them.
 use Rattle.std.proofs.Common.{◌≡◌, ℕ, Bool, true, false, List, Option, Some, None, MatchOption, refl, sym, ap, ◌∙◌, cond, subst, Bor}
 use Rattle.std.specs.Prelude.{IfSome}
-use Rattle.std.specs.declared.cmp.Ordering.{Ordering}
-use Rattle.std.specs.declared.cmp.Ordering.TheVariants.{Less, Equal, Greater}
 use Rattle.std.specs.Prelude as list
 use Rattle.std.specs.BTreeMap as tree
 use Rattle.std.specs.Cmp.Lexicographic.{slice_cmp, nat_list_cmp_total}
@@ -10,13 +8,11 @@ use Rattle.std.specs.FinMap as map
 use Rattle.std.specs.FinMap.{slice_cmp-IsAntisymmetric, nat_cmp-IsAntisymmetric}
 use Rattle.std.specs.Option.{option_copied, option_map}
 use Rattle.std.specs.Ordering.{is_eq, nat_cmp}
-use Rattle.std.specs.String.{string_bytes, string_cmp}
-use Rattle.std.specs.declared.alloc.Global.{Global}
+use Rattle.std.specs.String.{string_bytes}
 use Rattle.std.specs.declared.net.socket_addr.SocketAddr.{SocketAddr}
-use Rattle.std.specs.declared.string.String.{String}
-use Rattle.std.proofs.lemmas.Map.Text.{btree_map_updates_text, is_eq-slice_cmp}
+use Rattle.std.specs.Map.{lookup}
 use Rattle.stun_proto_verify.specs.Knowledge.{Outcome}
-use Rattle.stun_proto_server.specs.StoredKeys.{AllHaveKeys, HasKeys}
+use Rattle.stun_proto_server.specs.StoredKeys.{AllHaveKeys, HasKeys, IsKeyed, UpdatesUser, UserMap}
 use Rattle.stun_proto_server.specs.Server.{Client, Server, set_outcome, with_outcome}
 use Rattle.stun_proto_server.specs.View.{client_of, server_of}
 use Rattle.stun_proto_server.specs.declared.long_term.ClientRecord.{ClientRecord}
@@ -24,6 +20,8 @@ use Rattle.stun_proto_server.specs.declared.long_term.LongTermServerAuth.TheInsi
 use Rattle.stun_types_base.proofs.MapView.{get-finite_map, insert-finite_map, remove-finite_map}
 use Rattle.stun_types_base.specs.SocketAddrs.{socket_addr_cmp, socket_addr_cmp_total, socket_addr_cmp-IsAntisymmetric}
 use Rattle.stun_proto_server.specs.declared.users.KeyedUser.{KeyedUser}
+use Rattle.stun_proto_server.specs.declared.users.Users.{Users}
+use Rattle.stun_proto_server.proofs.Texts.{same_name, users_updates}
 
 -- Looking up an address gives the same result in both maps.
 pub get-clients : (s : Inside) (server : Server) (client : SocketAddr) (found : Option ClientRecord)
@@ -87,80 +85,71 @@ abbrev pub password_of : KeyedUser → List ℕ
 password_of user = user.credentials.password
 
 -- Looking up a name gives the same password in both maps.
-pub get-users : (s : Inside) (server : Server) (name : List ℕ) (found : Option KeyedUser) → server_of s ≡ server → found ≡ tree.get_by_text s.users name → map.get server.users name ≡ option_map password_of found
+pub get-users : (s : Inside) (server : Server) (name : List ℕ) (found : Option KeyedUser) → server_of s ≡ server → found ≡ tree.get_by_text s.users.by_name name → map.get server.users name ≡ option_map password_of found
 get-users s server name found view_is is =
-    ap (λ v. map.get v.users name) (sym view_is) ∙ get-finite_map string_bytes nat_list_cmp_total password_of s.users name
+    ap (λ v. map.get v.users name) (sym view_is) ∙ get-finite_map string_bytes nat_list_cmp_total password_of s.users.by_name name
     ∙ ap (option_map password_of) (sym is)
 
--- The credentials found for each name after the users were updated.
-users_updates : (s : Inside) (new : tree.BTreeMap (String Global) KeyedUser) (name : List ℕ) (user : Option KeyedUser)
-    → tree.UpdatesBy string_cmp (λ key. slice_cmp nat_cmp name (string_bytes key)) s.users new user
-    → (q : List ℕ) → tree.get_by_text new q ≡ cond (is_eq (slice_cmp nat_cmp name q)) user (tree.get_by_text s.users q)
-users_updates s new name user updates q =
-    btree_map_updates_text name s.users new user updates q ∙ ap (λ b. cond b user (tree.get_by_text s.users q)) (sym (is_eq-slice_cmp name q))
-
 -- Adding a user with its own keys to users with theirs: each name has its own keys.
-with_keys : (realm name q : List ℕ) (user : KeyedUser) (b : Bool) (old : Option KeyedUser) → (b ≡ true → name ≡ q) → HasKeys realm name user → IfSome old (HasKeys realm q) → IfSome (cond b (Some user) old) (HasKeys realm q)
-with_keys realm name q user true old same keys have = subst (λ (n : List ℕ). HasKeys realm n user) (same refl) keys
+with_keys : (realm name q : List ℕ) (user : KeyedUser) (b : Bool) (old : Option KeyedUser) → (b ≡ true → name ≡ q) → IsKeyed realm name user → IfSome old (IsKeyed realm q) → IfSome (cond b (Some user) old) (IsKeyed realm q)
+with_keys realm name q user true old same keys have = subst (λ (n : List ℕ). IsKeyed realm n user) (same refl) keys
 with_keys realm name q user false old same keys have = have
 
--- A comparison that tests as equal is `Equal`.
-tie : (answer : Ordering) → is_eq answer ≡ true → answer ≡ Equal
-tie Less is = absurd (Prim.cc is)
-tie Equal is = refl
-tie Greater is = absurd (Prim.cc is)
-
--- Texts that compare as equal are equal.
-pub same_name : (a b : List ℕ) → is_eq (slice_cmp nat_cmp a b) ≡ true → a ≡ b
-same_name a b is = slice_cmp-IsAntisymmetric nat_cmp-IsAntisymmetric a b (tie (slice_cmp nat_cmp a b) is)
-
 -- Each user has its own keys after one was added.
-pub keys_inserted : (s : Inside) (new : tree.BTreeMap (String Global) KeyedUser) (realm name : List ℕ) (user : KeyedUser) → AllHaveKeys realm s.users → HasKeys realm name user
-    → tree.UpdatesBy string_cmp (λ key. slice_cmp nat_cmp name (string_bytes key)) s.users new (Some user) → AllHaveKeys realm new
-keys_inserted s new realm name user have keys updates q =
-    subst (λ (o : Option KeyedUser). IfSome o (HasKeys realm q)) (sym (users_updates s new name (Some user) updates q))
-    (with_keys realm name q user (is_eq (slice_cmp nat_cmp name q)) (tree.get_by_text s.users q) (same_name name q) keys (have q))
+pub keys_inserted : (old new : UserMap) (realm name : List ℕ) (user : KeyedUser) → AllHaveKeys realm old → IsKeyed realm name user → UpdatesUser name old new (Some user) → AllHaveKeys realm new
+keys_inserted old new realm name user have keys updates q =
+    subst (λ (o : Option KeyedUser). IfSome o (IsKeyed realm q)) (sym (users_updates old new name (Some user) updates q))
+    (with_keys realm name q user (is_eq (slice_cmp nat_cmp name q)) (tree.get_by_text old q) (same_name name q) keys (have q))
 
 -- Each remaining user has its own keys after one was removed.
-left : (realm q : List ℕ) (b : Bool) (old : Option KeyedUser) → IfSome old (HasKeys realm q) → IfSome (cond b None old) (HasKeys realm q)
+left : (realm q : List ℕ) (b : Bool) (old : Option KeyedUser) → IfSome old (IsKeyed realm q) → IfSome (cond b None old) (IsKeyed realm q)
 left realm q true old have = tt
 left realm q false old have = have
 
-pub keys_removed : (s : Inside) (new : tree.BTreeMap (String Global) KeyedUser) (realm name : List ℕ) → AllHaveKeys realm s.users
-    → tree.UpdatesBy string_cmp (λ key. slice_cmp nat_cmp name (string_bytes key)) s.users new None → AllHaveKeys realm new
-keys_removed s new realm name have updates q =
-    subst (λ (o : Option KeyedUser). IfSome o (HasKeys realm q)) (sym (users_updates s new name None updates q))
-    (left realm q (is_eq (slice_cmp nat_cmp name q)) (tree.get_by_text s.users q) (have q))
+pub keys_removed : (old new : UserMap) (realm name : List ℕ) → AllHaveKeys realm old → UpdatesUser name old new None → AllHaveKeys realm new
+keys_removed old new realm name have updates q =
+    subst (λ (o : Option KeyedUser). IfSome o (IsKeyed realm q)) (sym (users_updates old new name None updates q))
+    (left realm q (is_eq (slice_cmp nat_cmp name q)) (tree.get_by_text old q) (have q))
+
+-- Unchanged users have their own keys still.
+pub keys_unchanged : (old new : UserMap) (realm : List ℕ) → AllHaveKeys realm old → tree.IsUnchanged old new → AllHaveKeys realm new
+keys_unchanged old new realm have same q =
+    subst (λ es. IfSome (lookup (λ k. is_eq (slice_cmp nat_cmp q (string_bytes k))) es) (IsKeyed realm q)) (sym same) (have q)
 
 -- The password of a user that is found through a reference.
 pub found_password : (found : Option (Bor KeyedUser)) → option_map (λ user. user.now.credentials.password) found ≡ option_map password_of (option_copied found)
 found_password None = refl
 found_password (Some user) = refl
 
-pub found_has : (P : KeyedUser → Type 0) (found : Option (Bor KeyedUser)) → IfSome (option_copied found) P → IfSome found (λ user. P user.now)
-found_has P None has = tt
-found_has P (Some user) has = has
+pub found_has : (realm name : List ℕ) (found : Option (Bor KeyedUser)) → IfSome (option_copied found) (IsKeyed realm name) → IfSome found (λ user. HasKeys realm name user.now)
+found_has realm name None has = tt
+found_has realm name (Some user) has = has.keys
 
 -- A user that is found has its own keys.
-pub keys_found : (s : Inside) (server : Server) (name : List ℕ) (found : Option KeyedUser) → server_of s ≡ server → AllHaveKeys (string_bytes s.realm) s.users → found ≡ tree.get_by_text s.users name → IfSome found (HasKeys server.realm name)
+pub keys_found : (s : Inside) (server : Server) (name : List ℕ) (found : Option KeyedUser) → server_of s ≡ server → AllHaveKeys (string_bytes s.realm) s.users.by_name → found ≡ tree.get_by_text s.users.by_name name → IfSome found (IsKeyed server.realm name)
 keys_found s server name found view_is have is =
-    subst (λ (realm : List ℕ). IfSome found (HasKeys realm name)) (ap (λ v. v.realm) view_is)
-    (subst (λ (o : Option KeyedUser). IfSome o (HasKeys (string_bytes s.realm) name)) (sym is) (have name))
+    subst (λ (realm : List ℕ). IfSome found (IsKeyed realm name)) (ap (λ v. v.realm) view_is)
+    (subst (λ (o : Option KeyedUser). IfSome o (IsKeyed (string_bytes s.realm) name)) (sym is) (have name))
 
 -- Storing a user by name in the fields stores it at the server.
-pub insert-users : (s : Inside) (new : tree.BTreeMap (String Global) KeyedUser) (server : Server) (name : List ℕ) (user : KeyedUser)
-    → server_of s ≡ server → tree.UpdatesBy string_cmp (λ key. slice_cmp nat_cmp name (string_bytes key)) s.users new (Some user)
+pub insert-users : (s : Inside) (new : Users) (server : Server) (name : List ℕ) (user : KeyedUser)
+    → server_of s ≡ server → UpdatesUser name s.users.by_name new.by_name (Some user)
     → server_of (record s { users = new }) ≡ record server { users = map.insert server.users name user.credentials.password }
 insert-users s new server name user view_is updates =
     ap {A = map.FinMap (slice_cmp nat_cmp) (List ℕ)} {B = Server} (λ m. record (server_of s) { users = m })
-    (insert-finite_map string_bytes nat_list_cmp_total password_of (slice_cmp-IsAntisymmetric nat_cmp-IsAntisymmetric) s.users new name user (users_updates s new name (Some user) updates))
+    (insert-finite_map string_bytes nat_list_cmp_total password_of (slice_cmp-IsAntisymmetric nat_cmp-IsAntisymmetric) s.users.by_name new.by_name name user (users_updates s.users.by_name new.by_name name (Some user) updates))
     ∙ ap {A = Server} {B = Server} (λ v. record v { users = map.insert v.users name user.credentials.password }) view_is
 
 -- Removing a user from the fields removes it from the server.
-pub remove-users : (s : Inside) (new : tree.BTreeMap (String Global) KeyedUser) (server : Server) (name : List ℕ)
-    → server_of s ≡ server → tree.UpdatesBy string_cmp (λ key. slice_cmp nat_cmp name (string_bytes key)) s.users new None
+pub remove-users : (s : Inside) (new : Users) (server : Server) (name : List ℕ)
+    → server_of s ≡ server → UpdatesUser name s.users.by_name new.by_name None
     → server_of (record s { users = new }) ≡ record server { users = map.remove server.users name }
 remove-users s new server name view_is updates =
     ap {A = map.FinMap (slice_cmp nat_cmp) (List ℕ)} {B = Server} (λ m. record (server_of s) { users = m })
-    (remove-finite_map string_bytes nat_list_cmp_total password_of (slice_cmp-IsAntisymmetric nat_cmp-IsAntisymmetric) s.users new name (users_updates s new name None updates))
+    (remove-finite_map string_bytes nat_list_cmp_total password_of (slice_cmp-IsAntisymmetric nat_cmp-IsAntisymmetric) s.users.by_name new.by_name name (users_updates s.users.by_name new.by_name name None updates))
     ∙ ap {A = Server} {B = Server} (λ v. record v { users = map.remove v.users name }) view_is
+
+-- Unchanged users represent the same server.
+pub same-users : (s : Inside) (new : Users) (server : Server) → server_of s ≡ server → tree.IsUnchanged s.users.by_name new.by_name → server_of (record s { users = new }) ≡ server
+same-users s new server view_is same =
+    ap {B = Server} (λ es. record (server_of s) { users = map.from_entries (list.map (λ e. (string_bytes e.0, e.1.credentials.password)) es) }) same ∙ view_is

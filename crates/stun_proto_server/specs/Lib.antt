@@ -2,6 +2,7 @@ pub mod AuthCalls
 pub mod AuthRuns
 pub mod Isolation
 pub mod StoredKeys
+pub mod StoredUsers
 pub mod Server
 pub mod ServerSigning
 pub mod ServerValidation

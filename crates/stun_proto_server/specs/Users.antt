@@ -1,6 +1,5 @@
 -- How a message names a user of a server (RFC 8489, sections 9.2.4 and 14.4).
-use Rattle.std.specs.Prelude.{◌≡◌, ℕ, nat_eq, Bool, List, Option, Some, None, IsSome, MatchOption}
-use Rattle.std.specs.Cmp.Lexicographic.{pointwise}
+use Rattle.std.specs.Prelude.{◌≡◌, ℕ, List, Option, Some, None, IsSome, MatchOption}
 use Rattle.std.specs.FinMap as map
 use Rattle.stun_types_auth_attributes.specs.Userhashes.{userhash_of}
 use Rattle.stun_proto_auth.specs.Claims.{Claimed}
@@ -38,7 +37,3 @@ HashesDiffer server = (a b : List ℕ) → IsSome (map.get server.users a) → I
 -- A claim does not name two users. A name never does; a hash does not if no two users have the same hash.
 abbrev pub NamesOne : Server → Claimed → Type 0
 NamesOne server claim = claim.username ≡ None → HashesDiffer server
-
--- Whether a hash is that of a name in a realm.
-abbrev pub is_hash_of : List ℕ → List ℕ → List ℕ → Bool
-is_hash_of hash realm name = pointwise nat_eq hash (userhash_of name realm)

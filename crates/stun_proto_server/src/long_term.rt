@@ -16,11 +16,11 @@ ghost use Rattle.stun_types_wire.specs.Registry.{longest_text};
 ghost use Rattle.stun_types_wire.specs.declared.algorithm.IntegrityAlgorithm.TheVariants.{Sha1};
 ghost use Rattle.stun_proto_auth.specs.declared.feature.Feature.TheVariants.{Auto};
 ghost use Rattle.stun_proto_server.specs.Server.{nonce_at, has_standing_nonce, outcome_at, words_generated, with_new_nonce, with_outcome, refreshed, SameFor};
-ghost use Rattle.stun_proto_server.specs.StoredKeys.{HasKeys};
+ghost use Rattle.stun_proto_server.specs.StoredKeys.{HasKeys, IsKeyed};
 ghost use Rattle.stun_proto_server.specs.Users.{IsFound, IsFoundBy};
 ghost use Rattle.stun_types_auth_attributes.specs.Userhashes.{userhash_of};
 
-use crate::users::{KeyedUser, user_hashed};
+use crate::users::{KeyedUser, Users};
 use rand_core::Rng;
 use std::alloc::Global;
 use std::collections::BTreeMap;
@@ -34,6 +34,7 @@ use stun_proto_auth::supported::SupportedIntegrity;
 use stun_proto_verify::keys::UserKeys;
 use stun_proto_verify::known::NamedUser;
 use stun_proto_verify::user::ValidatedUser;
+use stun_types_auth_attributes::userhash::Userhash;
 use stun_types_base::instant::Instant;
 use stun_types_base::memory::NoMemory;
 use stun_types_base::words::draw_words;
@@ -53,13 +54,14 @@ struct ClientRecord {
 
 /// The server's side of long-term authentication: a realm, its users, and a record for each client
 /// address, which calls for other addresses do not touch. With each user it stores the user's keys
-/// in the realm, one for each algorithm. The realm is at most 763 bytes long, and so is a nonce
-/// (RFC 8489, sections 14.9 and 14.10). Contracts see the record `Server` of `specs/Server.antt`.
+/// in the realm, one for each algorithm, and the hash of the user's name. The realm is at most 763
+/// bytes long, and so is a nonce (RFC 8489, sections 14.9 and 14.10). Contracts see the record
+/// `Server` of `specs/Server.antt`.
 #[derive(Debug, Drop)]
 pub struct LongTermServerAuth {
     alloc: Global,
     realm: String,
-    users: BTreeMap<String, KeyedUser>,
+    users: Users,
     clients: BTreeMap<SocketAddr, ClientRecord>,
     nonce_expiry: Duration,
     supported: SupportedIntegrity,
@@ -81,9 +83,11 @@ impl Model for LongTermServerAuth {
     ghost use Rattle.std.specs.String.{string_bytes};
     ghost use Rattle.stun_types_wire.specs.Registry.{longest_text};
     ghost use Rattle.stun_proto_server.specs.StoredKeys.{AllHaveKeys};
+    ghost use Rattle.stun_proto_server.specs.StoredUsers.{IsSound};
 
     ghost invariant = { λ server. (length (string_bytes server.realm) ≤ longest_text)
-        × AllHaveKeys (string_bytes server.realm) server.users };
+        × AllHaveKeys (string_bytes server.realm) server.users.by_name
+        × IsSound server.users };
 }
 
 impl LongTermServerAuth {
@@ -104,7 +108,7 @@ impl LongTermServerAuth {
         LongTermServerAuth {
             alloc,
             realm,
-            users: BTreeMap::new(alloc),
+            users: Users::new(alloc),
             clients: BTreeMap::new(alloc),
             nonce_expiry: Duration::from_secs(3600),
             supported: SupportedIntegrity::only(IntegrityAlgorithm::Sha1),
@@ -120,7 +124,7 @@ impl LongTermServerAuth {
         self.realm.as_str()
     }
 
-    /// Adds a user with its keys, replacing any user of that name.
+    /// Adds a user with its keys and the hash of its name, replacing any user of that name.
     ///
     /// # Errors
     ///
@@ -134,19 +138,21 @@ impl LongTermServerAuth {
     {
         let name = String::from_str(self.alloc, user.username())?;
         let keyed = self.keyed(user)?;
-        self.users.insert(name, keyed)?;
+        self.users.insert(self.alloc, name, keyed)?;
         Ok(())
     }
 
-    /// Derives a user's keys in the realm. Fails with `NoMemory` if an allocation fails.
+    /// Derives a user's keys and hash in the realm. Fails with `NoMemory` if an allocation fails.
     fn keyed(&self, user: LongTermCredentials) -> Result<KeyedUser, NoMemory>
         ensures { IfOk result (λ keyed. (keyed.credentials ≡ user)
-            × HasKeys self.now.realm user.username keyed) }
+            × IsKeyed self.now.realm user.username keyed) }
     {
         let keys = UserKeys::new(user.username(), self.realm(), user.password());
+        let hash = Userhash::new(Userhash::compute(user.username(), self.realm()));
         Ok(KeyedUser {
             credentials: user,
             keys: Box::new(self.alloc, keys)?,
+            hash,
         })
     }
 
@@ -344,7 +350,7 @@ impl LongTermServerAuth {
         ensures { IsFoundBy self.now
             (λ other. Some hash.now ≡ Some (userhash_of other self.now.realm)) result }
     {
-        match user_hashed(&self.users, self.realm.as_str(), hash) {
+        match self.users.with_hash(hash) {
             Some((name, user)) => Some(self.named(name, user)),
             None => None,
         }

@@ -37,8 +37,8 @@ impl LongTermServerAuth {
     /// - Of several visible attributes of one type the last one counts, and a malformed one counts
     ///   as absent.
     /// - USERNAME names the user. Without it, USERHASH does, by the hash of name and realm; if
-    ///   several users have that hash, the first by name counts. The users are then searched in
-    ///   order up to that one, which costs one digest for each.
+    ///   several users have that hash, the first by name counts. Either costs a search among the
+    ///   users, and no digest.
     ///
     /// # Errors
     ///
