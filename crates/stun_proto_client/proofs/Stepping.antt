@@ -42,6 +42,7 @@ resent old bytes choice new r = record {
   account = ap (λ (c : Client). c.account) r.stored;
   algorithms = ap (λ (c : Client). c.algorithms) r.stored;
   anonymous_username = ap (λ (c : Client). c.anonymous_username) r.stored;
+  hardened = ap (λ (c : Client). c.hardened) r.stored;
   from_server = tt;
 }
 
@@ -50,6 +51,7 @@ going old bytes by new stored = record {
   account = ap (λ (c : Client). c.account) stored;
   algorithms = ap (λ (c : Client). c.algorithms) stored;
   anonymous_username = ap (λ (c : Client). c.anonymous_username) stored;
+  hardened = ap (λ (c : Client). c.hardened) stored;
   from_server = tt;
 }
 
@@ -58,6 +60,7 @@ same old bytes new stored = record {
   account = ap (λ (c : Client). c.account) stored;
   algorithms = ap (λ (c : Client). c.algorithms) stored;
   anonymous_username = ap (λ (c : Client). c.anonymous_username) stored;
+  hardened = ap (λ (c : Client). c.hardened) stored;
   from_server = tt;
 }
 
@@ -66,6 +69,7 @@ validated old bytes algorithm new v = record {
   account = ap (λ (c : Client). c.account) v.stored;
   algorithms = ap (λ (c : Client). c.algorithms) v.stored;
   anonymous_username = ap (λ (c : Client). c.anonymous_username) v.stored;
+  hardened = ap (λ (c : Client). c.hardened) v.stored;
   from_server = record {
     key = standing_key v.standing;
     own = own_key old v.standing v.occurs;

@@ -1,5 +1,5 @@
 -- What a client reads from a server's challenge (RFC 8489, sections 9.2.4 and 9.2.5).
-use Rattle.std.specs.Prelude.{ℕ, ◌==◌, Bool, ◌&&◌, ◌||◌, true, false, if◌then◌else◌, List, Option, Some, None}
+use Rattle.std.specs.Prelude.{ℕ, ◌==◌, Bool, not, ◌&&◌, ◌||◌, true, false, if◌then◌else◌, List, Option, Some, None, is_none}
 use Rattle.stun_types_wire.specs.Attributes.{kind_at}
 use Rattle.stun_types_wire.specs.Types.{class_of}
 use Rattle.stun_types_wire.specs.declared.class.MessageClass.{MessageClass}
@@ -57,3 +57,13 @@ abbrev pub is_anonymous_enough : Feature → List ℕ → Bool
 is_anonymous_enough Auto nonce = true
 is_anonymous_enough Required nonce = (features_in nonce).anonymous_username
 is_anonymous_enough Disabled nonce = true
+
+-- Whether the nonce announces password algorithms and there is no well-formed list of them, as where somebody on
+-- the way has taken the list out (RFC 8489, section 9.2.1).
+abbrev pub lacks_list : ChallengeFields → Bool
+lacks_list reported = (features_in reported.nonce).password_algorithms && is_none reported.offered
+
+-- Whether a challenge has the list that it announces. Only a hardened client wants it (RFC 8489, section 9.2.5).
+abbrev pub is_listed_enough : Bool → ChallengeFields → Bool
+is_listed_enough false reported = true
+is_listed_enough true reported = not (lacks_list reported)

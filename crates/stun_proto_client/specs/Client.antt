@@ -1,5 +1,5 @@
 -- What contracts see of a client's side of long-term authentication (RFC 8489, section 9.2).
-use Rattle.std.specs.Prelude.{ℕ, List, Option, Some, None}
+use Rattle.std.specs.Prelude.{ℕ, Bool, List, Option, Some, None}
 use Rattle.std.specs.Option.{option_map}
 use Rattle.stun_types_wire.specs.declared.algorithm.IntegrityAlgorithm.{IntegrityAlgorithm}
 use Rattle.stun_types_integrity.specs.Credentials.{Key, NameAndPassword, long_term_key}
@@ -13,12 +13,13 @@ pub record Challenge : Type 0 where
   pub offered : Option (List ℕ)
   pub choice : IntegrityAlgorithm
 
--- A client: its credentials, the algorithms that it supports, its setting for anonymity, its stored
--- challenge, and the algorithm of its last validation.
+-- A client: its credentials, the algorithms that it supports, its setting for anonymity, whether it is hardened,
+-- its stored challenge, and the algorithm of its last validation.
 pub record Client : Type 0 where
   pub account : Option NameAndPassword
   pub algorithms : List IntegrityAlgorithm
   pub anonymous_username : Feature
+  pub hardened : Bool
   pub challenge : Option Challenge
   pub integrity : Option IntegrityAlgorithm
 

@@ -35,4 +35,5 @@ pub record AuthStep (old : Client) (bytes : List ℕ) (accepted : Option Integri
   pub account : new.account ≡ old.account
   pub algorithms : new.algorithms ≡ old.algorithms
   pub anonymous_username : new.anonymous_username ≡ old.anonymous_username
+  pub hardened : new.hardened ≡ old.hardened
   pub from_server : IfSome accepted (λ algorithm. IsFromServer old bytes algorithm)

@@ -3,7 +3,7 @@
 use Rattle.std.specs.Prelude.{◌≡◌, ◌⊎◌, ℕ, true, false, List, Option, Some, None}
 use Rattle.stun_types_wire.specs.declared.algorithm.IntegrityAlgorithm.{IntegrityAlgorithm}
 use Rattle.stun_proto_auth.specs.Claims.{claimed}
-use Rattle.stun_proto_client.specs.Challenges.{ChallengeFields, challenge_visible, is_anonymous_enough}
+use Rattle.stun_proto_client.specs.Challenges.{ChallengeFields, challenge_visible, is_anonymous_enough, is_listed_enough}
 use Rattle.stun_proto_client.specs.Choice.{HasNoneCommon, IsStrongest}
 use Rattle.stun_proto_client.specs.Client.{Client, Standing, standing_key, standing_of}
 use Rattle.stun_proto_client.specs.Digests.{IsRight, IsWrong}
@@ -12,11 +12,12 @@ use Rattle.stun_proto_client.specs.declared.error.LongTermClientAuthError.TheVar
 use Rattle.stun_proto_client.specs.declared.validation.LongTermClientValidation.{LongTermClientValidation}
 use Rattle.stun_proto_client.specs.declared.validation.LongTermClientValidation.TheVariants.{ResendRequest, Validated}
 
--- The client can answer a challenge with this algorithm: it is the strongest common one, and if anonymity is
--- required, the nonce announces it.
+-- The client can answer a challenge with this algorithm: it is the strongest common one; if anonymity is required,
+-- the nonce announces it; and if the client is hardened, a list that the nonce announces is there.
 pub record IsAnswerable (client : Client) (reported : ChallengeFields) (choice : IntegrityAlgorithm) : Type 0 where
   pub strongest : IsStrongest client.algorithms reported.offered choice
   pub anonymous : is_anonymous_enough client.anonymous_username reported.nonce ≡ true
+  pub listed : is_listed_enough client.hardened reported ≡ true
 
 -- The client with a challenge and the chosen algorithm stored.
 abbrev pub keeping : Client → ChallengeFields → IntegrityAlgorithm → Client
@@ -39,11 +40,13 @@ pub record IsResent (old : Client) (bytes : List ℕ) (choice : IntegrityAlgorit
   pub answerable : IsAnswerable old reported choice
   pub stored : new ≡ keeping old reported choice
 
--- Why a challenge can't be answered: there is no common algorithm, or anonymity is required and not
--- announced.
+-- Why a challenge can't be answered: there is no common algorithm; or anonymity is required and not announced; or
+-- the client is hardened, and a list is announced and not there.
 abbrev pub IsUnanswerable : Client → ChallengeFields → Type 0
 IsUnanswerable client reported =
-    HasNoneCommon client.algorithms reported.offered ⊎ (is_anonymous_enough client.anonymous_username reported.nonce ≡ false)
+    HasNoneCommon client.algorithms reported.offered
+    ⊎ ((is_anonymous_enough client.anonymous_username reported.nonce ≡ false)
+    ⊎ (is_listed_enough client.hardened reported ≡ false))
 
 -- The challenge can't be answered, and nothing changes.
 pub record IsUnsupported (old : Client) (bytes : List ℕ) (new : Client) : Type 0 where

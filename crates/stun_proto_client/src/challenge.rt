@@ -3,7 +3,7 @@
 ghost use Rattle.std.specs.Prelude.{◌≡◌, ◌↔◌};
 ghost use Rattle.std.specs.Option.{option_copied};
 ghost use Rattle.stun_proto_auth.specs.Claims.{claimed};
-ghost use Rattle.stun_proto_client.specs.Challenges.{asks_again, challenge_visible, is_anonymous_enough, list_by, reported_of};
+ghost use Rattle.stun_proto_client.specs.Challenges.{asks_again, challenge_visible, is_anonymous_enough, is_listed_enough, list_by, reported_of};
 
 use std::marker::Model;
 use stun_proto_auth::claim::{Claim, error_code_of};
@@ -117,4 +117,14 @@ pub(crate) fn is_anonymous_enough(requested: Feature, nonce: &str) -> bool
     ensures { result ≡ is_anonymous_enough requested nonce.now }
 {
     requested != Feature::Required || NonceFeatures::decoded_by(nonce).anonymous_username
+}
+
+/// Returns whether a challenge has the list of password algorithms that its nonce announces. Only a
+/// hardened client wants it.
+pub(crate) fn is_listed_enough(hardened: bool, decoded: &ChallengeFields<'_>) -> bool
+    ensures { result ≡ is_listed_enough hardened decoded.now }
+{
+    !hardened
+        || decoded.offered().is_some()
+        || !NonceFeatures::decoded_by(decoded.nonce()).password_algorithms
 }

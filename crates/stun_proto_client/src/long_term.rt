@@ -1,6 +1,6 @@
 //! The client's side of long-term credentials (RFC 8489, section 9.2): its state and its settings.
 
-ghost use Rattle.std.specs.Prelude.{◌≡◌, ◌≢◌, [], ◌∷◌, Some, None};
+ghost use Rattle.std.specs.Prelude.{◌≡◌, ◌≢◌, [], ◌∷◌, Some, None, false};
 ghost use Rattle.std.specs.List.{IsDistinct};
 ghost use Rattle.std.specs.Option.{option_copied, option_map};
 ghost use Rattle.stun_types_wire.specs.declared.algorithm.IntegrityAlgorithm.TheVariants.{Sha1};
@@ -27,6 +27,7 @@ pub struct LongTermClientAuth {
     pub(crate) account: Option<LongTermCredentials>,
     pub(crate) supported: SupportedIntegrity,
     pub(crate) anonymous_username: Feature,
+    pub(crate) hardened: bool,
     pub(crate) challenge: Option<StoredChallenge>,
     pub(crate) integrity: Option<IntegrityAlgorithm>,
     pub(crate) key: Option<IntegrityKey<'static>>,
@@ -42,6 +43,7 @@ impl Model for LongTermClientAuth {
       account = c.account;
       algorithms = c.supported;
       anonymous_username = c.anonymous_username;
+      hardened = c.hardened;
       challenge = c.challenge;
       integrity = c.integrity;
     } };
@@ -51,13 +53,14 @@ impl Model for LongTermClientAuth {
 
 impl LongTermClientAuth {
     /// Creates a client without credentials and without a challenge. It supports only `Sha1`, and
-    /// hides its name if the server supports that. It stores the allocator, and has allocated
-    /// nothing yet.
+    /// hides its name if the server supports that, and is not hardened. It stores the allocator, and
+    /// has allocated nothing yet.
     pub fn new(alloc: Global) -> Self
         ensures { result ≡ record {
           account = None;
           algorithms = Sha1 ∷ [];
           anonymous_username = Auto;
+          hardened = false;
           challenge = None;
           integrity = None;
         } }
@@ -67,6 +70,7 @@ impl LongTermClientAuth {
             account: None,
             supported: SupportedIntegrity::only(IntegrityAlgorithm::Sha1),
             anonymous_username: Feature::Auto,
+            hardened: false,
             challenge: None,
             integrity: None,
             key: None,
@@ -156,6 +160,24 @@ impl LongTermClientAuth {
         ensures { self.new ≡ record self.old { anonymous_username = anonymous_username } }
     {
         self.anonymous_username = anonymous_username;
+    }
+
+    /// Returns whether the client is hardened (`set_hardened`).
+    pub fn is_hardened(&self) -> bool
+        ensures { result ≡ self.now.hardened }
+    {
+        self.hardened
+    }
+
+    /// Sets whether the client is hardened, that is, protects itself against bidding down (RFC 8489,
+    /// sections 9.2.1 and 9.2.5). A hardened client refuses a challenge whose nonce announces
+    /// password algorithms and that has no well-formed list of them: somebody on the way may have
+    /// taken it out. Any other client then takes `Sha1` as what the server supports. A challenge
+    /// that is stored already stays valid.
+    pub fn set_hardened(&mut self, hardened: bool)
+        ensures { self.new ≡ record self.old { hardened = hardened } }
+    {
+        self.hardened = hardened;
     }
 
     /// Returns the algorithm chosen for the stored challenge, as the last validation left it. It is

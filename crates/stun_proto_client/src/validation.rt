@@ -7,7 +7,7 @@ ghost use Rattle.stun_proto_client.specs.Challenges.{challenge_visible};
 ghost use Rattle.stun_proto_client.specs.ClientValidation.{IsAnswerable, IsTaken, IsRejected, IsUnanswerable};
 ghost use Rattle.stun_proto_client.specs.Digests.{IsRight, IsWrong};
 
-use crate::challenge::{ChallengeFields, is_anonymous_enough};
+use crate::challenge::{ChallengeFields, is_anonymous_enough, is_listed_enough};
 use crate::error::LongTermClientAuthError;
 use crate::long_term::LongTermClientAuth;
 use crate::stored::{StoredChallenge, key_of_both};
@@ -33,7 +33,7 @@ impl LongTermClientAuth {
     /// - An error response with 401 or 438, a realm and a nonce is a challenge, whatever else it
     ///   has. It is stored with the strongest algorithm that both sides support, and the result is
     ///   `ResendRequest`. If the nonce announces no list of algorithms, or the list is absent, the
-    ///   server supports `Sha1`.
+    ///   server supports `Sha1`; but a hardened client refuses a list that is announced and absent.
     /// - Any other message is `Validated` if its last integrity attribute is of the chosen
     ///   algorithm and validates under the client's key.
     ///
@@ -44,8 +44,9 @@ impl LongTermClientAuth {
     ///
     /// For a challenge, a refusal changes nothing:
     ///
-    /// 1. `UnsupportedFeature`: anonymity is required and the nonce does not announce it, or there
-    ///    is no common algorithm.
+    /// 1. `UnsupportedFeature`: anonymity is required and the nonce does not announce it; or the
+    ///    client is hardened, and the list that the nonce announces is absent; or there is no common
+    ///    algorithm.
     /// 2. `NoMemory`: an allocation failed.
     ///
     /// For any other message, a refusal changes at most the result of `integrity`:
@@ -96,6 +97,9 @@ impl LongTermClientAuth {
             (λ choice. IsAnswerable self.now decoded.now choice) }
     {
         if !is_anonymous_enough(self.anonymous_username, decoded.nonce()) {
+            return None;
+        }
+        if !is_listed_enough(self.hardened, decoded) {
             return None;
         }
         strongest(self.supported, decoded.offered())

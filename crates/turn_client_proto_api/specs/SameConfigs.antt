@@ -1,5 +1,5 @@
 -- Equality of settings.
-use Rattle.std.specs.Prelude.{Bool, nat_eq}
+use Rattle.std.specs.Prelude.{◌≡◌, refl, Bool, true, false, not, nat_eq}
 use Rattle.std.specs.Ordering.{on, eq_of_both}
 use Rattle.std.specs.Cmp.{IsEquivalence, on_equiv, and_equiv}
 use Rattle.std.specs.Cmp.Lexicographic.{pointwise, nat_list_eq_equiv}
@@ -24,6 +24,30 @@ same_account_equiv : IsEquivalence same_account
 same_account_equiv = and_equiv (on_equiv (λ (c : NameAndPassword). c.username) nat_list_eq_equiv)
     (on_equiv (λ (c : NameAndPassword). c.password) nat_list_eq_equiv)
 
+-- Both are true, or neither is.
+abbrev pub same_bool : Bool → Bool → Bool
+same_bool true other = other
+same_bool false other = not other
+
+bool_refl : (x : Bool) → same_bool x x ≡ true
+bool_refl true = refl
+bool_refl false = refl
+
+bool_symm : (x y : Bool) → same_bool x y ≡ same_bool y x
+bool_symm true true = refl
+bool_symm true false = refl
+bool_symm false true = refl
+bool_symm false false = refl
+
+bool_congr : (x y z : Bool) → same_bool x y ≡ true → same_bool x z ≡ same_bool y z
+bool_congr true true z same = refl
+bool_congr false false z same = refl
+bool_congr true false z same = absurd (Prim.cc same)
+bool_congr false true z same = absurd (Prim.cc same)
+
+same_bool_equiv : IsEquivalence same_bool
+same_bool_equiv = record { refl = bool_refl; symm = bool_symm; congr = bool_congr }
+
 -- All fields are equal, each by its own `==`.
 abbrev pub same_config : Config → Config → Bool
 same_config = eq_of_both (on (λ (c : Config). c.credentials) same_account)
@@ -31,7 +55,8 @@ same_config = eq_of_both (on (λ (c : Config). c.credentials) same_account)
     (eq_of_both (on (λ (c : Config). c.families) (families.eq-value).it)
     (eq_of_both (on (λ (c : Config). c.algorithms) (supported.eq-value).it)
     (eq_of_both (on (λ (c : Config). c.anonymous_username) (feature.eq-value).it)
-    (on (λ (c : Config). c.waits) same_waits)))))
+    (eq_of_both (on (λ (c : Config). c.hardened) same_bool)
+    (on (λ (c : Config). c.waits) same_waits))))))
 
 pub same_config_equiv : IsEquivalence same_config
 same_config_equiv = and_equiv (on_equiv (λ (c : Config). c.credentials) same_account_equiv)
@@ -39,4 +64,5 @@ same_config_equiv = and_equiv (on_equiv (λ (c : Config). c.credentials) same_ac
     (and_equiv (on_equiv (λ (c : Config). c.families) families_laws.laws-law)
     (and_equiv (on_equiv (λ (c : Config). c.algorithms) supported_laws.laws-law)
     (and_equiv (on_equiv (λ (c : Config). c.anonymous_username) feature_laws.laws-law)
-    (on_equiv (λ (c : Config). c.waits) same_waits_equiv)))))
+    (and_equiv (on_equiv (λ (c : Config). c.hardened) same_bool_equiv)
+    (on_equiv (λ (c : Config). c.waits) same_waits_equiv))))))

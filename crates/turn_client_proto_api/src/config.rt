@@ -41,6 +41,7 @@ pub struct TurnConfig {
     families: RequestedFamilies,
     supported: SupportedIntegrity,
     anonymous_username: Feature,
+    hardened: bool,
     waits: Option<SetWaits>,
 }
 
@@ -56,6 +57,7 @@ impl Model for TurnConfig {
       families = c.families;
       algorithms = c.supported;
       anonymous_username = c.anonymous_username;
+      hardened = c.hardened;
       waits = waits_of c.waits;
     } };
 }
@@ -63,7 +65,8 @@ impl Model for TurnConfig {
 impl TurnConfig {
     /// Creates the settings of a client with these credentials, which it takes. They request an
     /// allocation over UDP of one IPv4 address, with `Sha1` as the only algorithm. The name is
-    /// hidden if the server supports it. The waits are those of a new agent.
+    /// hidden if the server supports it. The client is not hardened. The waits are those of a new
+    /// agent.
     pub fn new(credentials: TurnCredentials) -> TurnConfig
         ensures { result ≡ default_config credentials }
     {
@@ -73,6 +76,7 @@ impl TurnConfig {
             families: RequestedFamilies::only(AddressFamily::IPV4),
             supported: SupportedIntegrity::only(IntegrityAlgorithm::Sha1),
             anonymous_username: Feature::Auto,
+            hardened: false,
             waits: None,
         }
     }
@@ -93,6 +97,7 @@ impl TurnConfig {
             families: self.families,
             supported: self.supported,
             anonymous_username: self.anonymous_username,
+            hardened: self.hardened,
             waits: self.waits,
         })
     }
@@ -200,6 +205,32 @@ impl TurnConfig {
         self.anonymous_username = anonymous_username;
     }
 
+    /// Returns whether the client is hardened (`set_hardened`).
+    pub fn is_hardened(&self) -> bool
+        ensures { result ≡ self.now.hardened }
+    {
+        self.hardened
+    }
+
+    /// Sets whether the client is hardened against forged messages. A hardened client
+    ///
+    /// - ignores a response whose transaction ID is not outstanding, before anything else of it is
+    ///   read: so whoever cannot see the client's requests cannot change its realm, nonce or key;
+    /// - refuses a challenge whose nonce announces password algorithms and that has no well-formed
+    ///   list of them (RFC 8489, section 9.2.5), so nobody can bid it down to `Sha1`;
+    /// - while it allocates, treats a response that does not validate as if it had never come; of
+    ///   the responses to its first request, which no key protects, only errors with a code from
+    ///   300 to 499 other than 400 end it. The request goes on by its schedule.
+    ///
+    /// A client that is not hardened stores any challenge from the server's address, takes `Sha1`
+    /// where an announced list is missing, and ends on a response that does not validate while it
+    /// allocates.
+    pub fn set_hardened(&mut self, hardened: bool)
+        ensures { self.new ≡ record self.old { hardened = hardened } }
+    {
+        self.hardened = hardened;
+    }
+
     /// Sets how long each request waits for its response (RFC 8489, section 6.2.1).
     ///
     /// - `initial`: the wait after the first transmission. Each further wait is twice as long.
@@ -285,6 +316,7 @@ impl PartialEq for TurnConfig {
             && self.families == other.families
             && self.supported == other.supported
             && self.anonymous_username == other.anonymous_username
+            && self.hardened == other.hardened
             && is_same(self.waits, other.waits)
     }
 }

@@ -1,4 +1,5 @@
 pub mod RequestedChannels
+pub mod Awaiting
 pub mod Bound
 pub mod Deleting
 pub mod Granting

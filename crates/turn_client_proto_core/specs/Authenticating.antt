@@ -1,16 +1,17 @@
 -- Handling of messages before the server has allocated (RFC 8656, sections 7.3 and 7.4; RFC 8489, section
 -- 9.2.5).
-use Rattle.std.specs.Prelude.{ℕ, Bool, List, [], ◌∷◌, ◌++◌, Option, Some, None, Result, Ok, Err, if◌then◌else◌}
+use Rattle.std.specs.Prelude.{ℕ, Bool, true, false, not, ◌&&◌, ◌||◌, ◌==◌, nat_le, nat_lt, List, [], ◌∷◌, ◌++◌, Option, Some, None, Result, Ok, Err, if◌then◌else◌}
 use Rattle.std.specs.Bool.{MatchBool}
 use Rattle.stun_proto_client.specs.declared.error.LongTermClientAuthError.{LongTermClientAuthError}
 use Rattle.stun_proto_client.specs.declared.error.LongTermClientAuthError.TheVariants.{IntegrityFailed, NoMemory}
 use Rattle.stun_proto_client.specs.declared.validation.LongTermClientValidation.{LongTermClientValidation}
 use Rattle.stun_proto_client.specs.declared.validation.LongTermClientValidation.TheVariants.{ResendRequest, Validated}
 use Rattle.stun_proto_agent.specs.Handling.{is_awaited}
+use Rattle.stun_proto_auth.specs.Claims.{code_visible}
 use Rattle.stun_types_wire.specs.Attributes.{kind_at}
 use Rattle.stun_types_wire.specs.declared.class.MessageClass.{MessageClass}
 use Rattle.stun_types_wire.specs.declared.class.MessageClass.TheVariants.{Success, Error}
-use Rattle.stun_types_wire.specs.Registry.{family_not_supported_code}
+use Rattle.stun_types_wire.specs.Registry.{bad_request_code, family_not_supported_code}
 use Rattle.stun_types_wire.specs.Types.{class_of}
 use Rattle.stun_types_base.specs.declared.family.AddressFamily.{AddressFamily}
 use Rattle.stun_types_base.specs.declared.family.AddressFamily.TheVariants.{IPV4, IPV6}
@@ -58,10 +59,25 @@ IsChallenged p bytes now handled new = MatchBool (is_awaited p.agent bytes)
 
 -- ---- the first ALLOCATE, unsigned
 
+-- Whether an error response with this code ends a request that was sent without credentials: the codes from 300 to
+-- 499 do, but 400 without an integrity attribute is to be discarded (RFC 8489, sections 6.3.4 and 9.2.5). The
+-- transaction goes on after the others, which say that the request may be sent again.
+abbrev pub is_final_code : Option ℕ → Bool
+is_final_code None = false
+is_final_code (Some code) = (nat_le 300 code && nat_lt code 500) && not (code == bad_request_code)
+
+abbrev pub is_final_error : MessageClass → Option ℕ → Bool
+is_final_error Error code = is_final_code code
+is_final_error _ code = false
+
+-- Whether a response that nothing authenticates may end the client. For a hardened one only a final error does.
+abbrev pub ends_unsigned : Protocol → List ℕ → Bool
+ends_unsigned p bytes = not p.auth.hardened || is_final_error (class_of (kind_at bytes)) (code_visible bytes)
+
 -- The outcome of a response that is no challenge, or a challenge that can't be answered. It ends the client
--- if its transaction is outstanding.
+-- if its transaction is outstanding; a hardened one only if it is a final error.
 abbrev pub IsUnauthenticated : Protocol → List ℕ → Bool → Protocol → Type 0
-IsUnauthenticated p bytes handled new = MatchBool (is_awaited p.agent bytes)
+IsUnauthenticated p bytes handled new = MatchBool (is_awaited p.agent bytes && ends_unsigned p bytes)
     (IsHandled (ended (answered bytes p)) handled new)
     (IsIgnored p handled new)
 
@@ -122,6 +138,8 @@ abbrev pub IsSignedJudged : Result LongTermClientValidation LongTermClientAuthEr
     → Protocol → List ℕ → ℕ → Bool → Protocol → Type 0
 IsSignedJudged (Ok (ResendRequest choice)) p bytes now handled new = IsChallenged p bytes now handled new
 IsSignedJudged (Ok (Validated algorithm)) p bytes now handled new = IsAccepted p bytes now handled new
-IsSignedJudged (Err (IntegrityFailed algorithm)) p bytes now handled new = IsHandled (ended p) handled new
+IsSignedJudged (Err (IntegrityFailed algorithm)) p bytes now handled new = MatchBool p.auth.hardened
+    (IsIgnored p handled new)
+    (IsHandled (ended p) handled new)
 IsSignedJudged (Err NoMemory) p bytes now handled new = ⊥
 IsSignedJudged (Err error) p bytes now handled new = IsIgnored p handled new

@@ -1,5 +1,5 @@
 -- Handling of messages from the server (RFC 8489, section 6.3; RFC 8656).
-use Rattle.std.specs.Prelude.{◌≡◌, ◌≢◌, ℕ, Bool, true, ◌&&◌, List, [], Result, Ok, Err}
+use Rattle.std.specs.Prelude.{◌≡◌, ◌≢◌, ℕ, Bool, true, false, not, ◌&&◌, List, [], Result, Ok, Err}
 use Rattle.std.specs.Bool.{MatchBool}
 use Rattle.stun_proto_client.specs.Client as auth
 use Rattle.stun_proto_client.specs.declared.error.LongTermClientAuthError.{LongTermClientAuthError}
@@ -54,9 +54,17 @@ IsProcessedIn Authenticated old bytes now handled new = MatchBool (is_indication
     (IsFollowed IsJudgedStanding old bytes now handled new)
 IsProcessedIn Ended old bytes now handled new = IsIgnored old handled new
 
--- The outcome of a message: whether it was for the client, and the client's state afterwards.
+-- A response that a hardened client ignores before it reads anything else of it: no request with its transaction
+-- ID is outstanding (RFC 8489, section 6.3).
+unfoldable pub is_unawaited : Protocol → List ℕ → Bool
+is_unawaited old bytes = old.auth.hardened && (is_response bytes && not (is_awaited old.agent bytes))
+
+-- The outcome of a message: whether it was for the client, and the client's state afterwards. A response that is
+-- ignored leaves the client as it was, its authenticator included.
 abbrev pub IsProcessed : Protocol → List ℕ → ℕ → Bool → Protocol → Type 0
-IsProcessed old bytes now handled new = IsProcessedIn old.phase old bytes now handled new
+IsProcessed old bytes now handled new = MatchBool (is_unawaited old bytes)
+    (IsIgnored old handled new)
+    (IsProcessedIn old.phase old bytes now handled new)
 
 -- ---- when an allocation of memory may fail
 
@@ -81,11 +89,11 @@ GrowsFirst (Err NoMemory) p bytes = Unit {0}
 GrowsFirst (Err error) p bytes = is_awaited p.agent bytes ≡ true
 
 -- The condition once an ALLOCATE was signed. A response that validates is accepted if its transaction is
--- outstanding; one whose integrity check fails ends the client.
+-- outstanding; one whose integrity check fails ends the client, unless it is hardened.
 abbrev pub GrowsSigned : Growing
 GrowsSigned (Ok (ResendRequest choice)) p bytes = Unit {0}
 GrowsSigned (Ok (Validated algorithm)) p bytes = is_awaited p.agent bytes ≡ true
-GrowsSigned (Err (IntegrityFailed algorithm)) p bytes = p.families ≢ []
+GrowsSigned (Err (IntegrityFailed algorithm)) p bytes = (p.auth.hardened ≡ false) × (p.families ≢ [])
 GrowsSigned (Err NoMemory) p bytes = Unit {0}
 GrowsSigned (Err error) p bytes = ⊥
 
@@ -109,4 +117,4 @@ MayGrowIn Ended old bytes = ⊥
 
 -- Handling the message may need memory. For any other message no memory allocation can fail.
 abbrev pub MayGrow : Protocol → List ℕ → Type 0
-MayGrow old bytes = MayGrowIn old.phase old bytes
+MayGrow old bytes = MatchBool (is_unawaited old bytes) ⊥ (MayGrowIn old.phase old bytes)

@@ -2,12 +2,13 @@
 
 ghost use Rattle.std.specs.Prelude.{◌≡◌, ◌++◌, ◌∷◌, [], ℕ, IfOk, OnOk, OnErr, Some, None, true};
 ghost use Rattle.stun_proto_agent.specs.Handling.{is_awaited, is_response};
+ghost use Rattle.stun_proto_auth.specs.Claims.{code_visible};
 ghost use Rattle.stun_types_wire.specs.Attributes.{kind_at};
 ghost use Rattle.stun_types_wire.specs.Grammar.{number_at};
 ghost use Rattle.stun_types_wire.specs.Types.{class_of};
 ghost use Rattle.turn_client_proto_messages.specs.declared.request.TurnRequest.TheVariants.{Allocate};
 ghost use Rattle.turn_client_proto_core.specs.Asking.{requested};
-ghost use Rattle.turn_client_proto_core.specs.Authenticating.{IsAccepted, IsAllocateAnswered, IsChallenged, IsErrorAnswered, IsFirstJudged, IsSignedJudged, IsUnauthenticated, allocates_again, allocates_other, family_left, numbers_sent, other_family};
+ghost use Rattle.turn_client_proto_core.specs.Authenticating.{IsAccepted, IsAllocateAnswered, IsChallenged, IsErrorAnswered, IsFirstJudged, IsSignedJudged, IsUnauthenticated, allocates_again, allocates_other, ends_unsigned, family_left, is_final_error, numbers_sent, other_family};
 ghost use Rattle.turn_client_proto_core.specs.Ending.{IsUnderWay};
 ghost use Rattle.turn_client_proto_core.specs.Numbering.{IsNextNumber, after_number};
 ghost use Rattle.turn_client_proto_core.specs.Receiving.{GrowsBy, GrowsFirst, GrowsSigned, IsFollowed};
@@ -17,6 +18,7 @@ use crate::ending::end;
 use crate::protocol::{Phase, Protocol};
 use std::alloc::Global;
 use std::mem;
+use stun_proto_auth::claim::error_code_of;
 use stun_proto_client::error::LongTermClientAuthError;
 use stun_proto_client::validation::LongTermClientValidation;
 use stun_types_base::family::AddressFamily;
@@ -25,7 +27,7 @@ use stun_types_base::list::ListOf;
 use stun_types_base::memory::NoMemory;
 use stun_types_message::parsed::Message;
 use stun_types_wire::class::MessageClass;
-use stun_types_wire::registry::ADDRESS_FAMILY_NOT_SUPPORTED;
+use stun_types_wire::registry::{ADDRESS_FAMILY_NOT_SUPPORTED, BAD_REQUEST};
 use stun_types_wire::transaction::TransactionId;
 use turn_client_proto_api::event::TurnEvent;
 use turn_client_proto_api::families::RequestedFamilies;
@@ -51,6 +53,22 @@ fn numbers_sent(alloc: Global, phase: Phase) -> ListOf<TransactionId>
     match phase {
         Phase::InitialSent(numbers) | Phase::Authenticating(numbers) => numbers,
         Phase::Initial | Phase::Authenticated | Phase::Ended => ListOf::new(alloc),
+    }
+}
+
+/// Returns whether a response is an error that ends a request sent without credentials: one with a
+/// code from 300 to 499, but not 400, which is to be discarded where no integrity attribute
+/// protects it (RFC 8489, sections 6.3.4 and 9.2.5). After other errors the request may be sent
+/// again.
+fn is_final_error(message: &Message<'_>) -> bool
+    ensures { result ≡ is_final_error (class_of (kind_at message.now)) (code_visible message.now) }
+{
+    if message.class() != MessageClass::Error {
+        return false;
+    }
+    match error_code_of(message) {
+        Some(code) => (300..500).contains(&code) && code != BAD_REQUEST,
+        None => false,
     }
 }
 
@@ -92,19 +110,28 @@ impl Protocol {
     }
 
     /// Ends the client on a response to the first ALLOCATE that is no challenge, or a challenge
-    /// that can't be answered. Ignores it if its transaction isn't outstanding.
+    /// that can't be answered. Ignores it if its transaction isn't outstanding, or if the client is
+    /// hardened and the response is no final error.
     fn refuse_unauthenticated(&mut self, message: &Message<'_>) -> Result<bool, NoMemory>
         ensures ok { IfOk result (λ handled. IsUnauthenticated self.old message.now handled
             self.new) }
         ensures err { OnErr result (IsUnderWay self.old self.new) }
         ensures memory { OnErr result (is_awaited self.old.agent message.now ≡ true) }
     {
-        if !self.is_awaited(message) {
+        if !(self.is_awaited(message) && self.ends_unsigned(message)) {
             return Ok(false);
         }
         self.answer(message)?;
         end(self)?;
         Ok(true)
+    }
+
+    /// Returns whether a response that nothing authenticates may end the client: any may, unless
+    /// the client is hardened; then only a final error may.
+    fn ends_unsigned(&self, message: &Message<'_>) -> bool
+        ensures { result ≡ ends_unsigned self.now message.now }
+    {
+        !self.auth.is_hardened() || is_final_error(message)
     }
 
     /// Handles a response before any ALLOCATE was signed.
@@ -144,6 +171,9 @@ impl Protocol {
             Ok(LongTermClientValidation::ResendRequest(_)) => self.answer_challenge(message, now),
             Ok(LongTermClientValidation::Validated(_)) => self.take_response(message, now),
             Err(LongTermClientAuthError::IntegrityFailed(_)) => {
+                if self.auth.is_hardened() {
+                    return Ok(false);
+                }
                 end(self)?;
                 Ok(true)
             }

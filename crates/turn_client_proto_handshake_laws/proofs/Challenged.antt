@@ -1,23 +1,25 @@
 -- What a client that awaits the response to its first request does with a challenge, by the contract of
 -- `handle_message` alone.
-use Rattle.std.proofs.Common.{◌≡◌, ℕ, ◌+◌, ◌++◌, map as map_list, arith, Bool, true, false, List, [], ◌∷◌, Some, None, refl, sym, ap, ◌∙◌, subst, ◌⊎◌, inl, inr}
-use Rattle.std.specs.Prelude.{nat_lt, ◌&&◌, ◌||◌, Result, Ok, Err, is_some, if◌then◌else◌}
+use Rattle.std.proofs.Common.{◌≡◌, ℕ, ◌+◌, ◌++◌, map as map_list, arith, Bool, true, false, List, [], ◌∷◌, Option, Some, None, refl, sym, ap, ◌∙◌, subst, ◌⊎◌, inl, inr}
+use Rattle.std.specs.Prelude.{nat_lt, ◌==◌, ◌&&◌, ◌||◌, not, Result, Ok, Err, is_some, if◌then◌else◌}
 use Rattle.std.specs.Bool.{MatchBool}
 use Rattle.std.specs.Cmp.{eq_by_cmp_equiv, nat_cmp_total}
 use Rattle.std.specs.FinMap as map
 use Rattle.std.specs.Ordering.{is_eq, nat_cmp}
 use Rattle.std.specs.declared.net.socket_addr.SocketAddr.{SocketAddr}
+use Rattle.std.proofs.lemmas.Bool.{eqb-true}
 use Rattle.turn_client_proto_api.specs.StunTypesWire.Attributes.{kind_at}
 use Rattle.turn_client_proto_api.specs.StunTypesWire.Grammar.{number_at}
 use Rattle.turn_client_proto_api.specs.StunTypesWire.declared.algorithm.IntegrityAlgorithm.{IntegrityAlgorithm}
 use Rattle.turn_client_proto_api.specs.StunTypesWire.declared.algorithm.IntegrityAlgorithm.TheVariants.{Sha1, Sha256, Sha512}
 use Rattle.turn_client_proto_api.specs.StunTypesWire.declared.class.MessageClass.{MessageClass}
 use Rattle.turn_client_proto_api.specs.StunTypesWire.declared.class.MessageClass.TheVariants.{Request, Indication, Success, Error}
+use Rattle.turn_client_proto_api.specs.StunTypesWire.Registry.{stale_nonce_code, unauthorized_code}
 use Rattle.turn_client_proto_api.specs.StunTypesWire.Strength.{is_stronger}
 use Rattle.turn_client_proto_api.specs.StunTypesWire.Types.{class_of, is_response_class}
 use Rattle.stun_types_base.specs.declared.family.AddressFamily.{AddressFamily}
 use Rattle.stun_types_base.specs.declared.transport.TransportType.{TransportType}
-use Rattle.turn_client_proto_messages.specs.StunProtoClient.Challenges.{ChallengeFields, challenge_visible, is_anonymous_enough, is_challenge_code, is_error, reported_of}
+use Rattle.turn_client_proto_messages.specs.StunProtoClient.Challenges.{ChallengeFields, challenge_visible, is_anonymous_enough, is_challenge_code, is_error, is_listed_enough, reported_of}
 use Rattle.turn_client_proto_messages.specs.StunProtoClient.Choice.{is_common}
 use Rattle.turn_client_proto_api.specs.StunProtoAuth.Claims.{claimed, code_visible}
 use Rattle.turn_client_proto_messages.specs.StunProtoClient.Client as auth
@@ -35,8 +37,9 @@ use Rattle.turn_client_proto_api.specs.Config.{Config}
 use Rattle.turn_client_proto_api.specs.declared.event.TurnEvent.{TurnEvent}
 use Rattle.turn_client_proto_api.specs.declared.event.TurnEvent.TheVariants.{AllocationCreateFailed}
 use Rattle.turn_client_proto_messages.specs.Allocation.Listed.{is_any_awaited}
+use Rattle.turn_client_proto_core.proofs.Awaiting.{processed_awaited}
 use Rattle.turn_client_proto_core.specs.Asking.{requested, queued_request}
-use Rattle.turn_client_proto_core.specs.Authenticating.{IsAllocatingAgain, IsFirstJudged, allocates_again, numbers_sent}
+use Rattle.turn_client_proto_core.specs.Authenticating.{IsAllocatingAgain, IsFirstJudged, allocates_again, ends_unsigned, is_final_error, numbers_sent}
 use Rattle.turn_client_proto_core.specs.Ending.{ended}
 use Rattle.turn_client_proto_core.specs.Numbering.{IsNextNumber, awaits, is_taken}
 use Rattle.turn_client_proto_core.specs.Outcomes.{IsHandled, IsIgnored}
@@ -67,6 +70,28 @@ challenges_respond bytes reported is = by (class_of (kind_at bytes)) is
     by Success none = refl
     by Error some = refl
 
+-- A challenge ends also a hardened client that can't answer it.
+final_codes : (code : Option ℕ) → is_challenge_code code ≡ true → is_final_error Error code ≡ true
+final_codes None is = absurd (Prim.cc is)
+final_codes (Some code) is = by_code (code == unauthorized_code) (code == stale_nonce_code) refl refl is
+  where
+    by_code : (one two : Bool) → (code == unauthorized_code) ≡ one → (code == stale_nonce_code) ≡ two → (one || two) ≡ true → is_final_error Error (Some code) ≡ true
+    by_code true two first second is = ap (λ (n : ℕ). is_final_error Error (Some n)) (eqb-true code unauthorized_code first)
+    by_code false true first second is = ap (λ (n : ℕ). is_final_error Error (Some n)) (eqb-true code stale_nonce_code second)
+    by_code false false first second is = absurd (Prim.cc is)
+
+challenges_end : (hardened : Bool) (bytes : List ℕ) (reported : ChallengeFields) → challenge_visible bytes ≡ Some reported
+    → (not hardened || is_final_error (class_of (kind_at bytes)) (code_visible bytes)) ≡ true
+challenges_end false bytes reported is = refl
+challenges_end true bytes reported is = by (class_of (kind_at bytes)) (is_challenge_code (code_visible bytes)) refl is
+  where
+    by : (c : MessageClass) (known : Bool) → is_challenge_code (code_visible bytes) ≡ known → (if is_error c && known then reported_of (claimed bytes) else None) ≡ Some reported → is_final_error c (code_visible bytes) ≡ true
+    by Request known same none = absurd (Prim.cc none)
+    by Indication known same none = absurd (Prim.cc none)
+    by Success known same none = absurd (Prim.cc none)
+    by Error true same some = final_codes (code_visible bytes) same
+    by Error false same none = absurd (Prim.cc none)
+
 -- Two algorithms of which neither is stronger are equal.
 as_strong : (one other : IntegrityAlgorithm) → is_stronger one other ≡ false → is_stronger other one ≡ false → one ≡ other
 as_strong Sha1 Sha1 no_less no_more = refl
@@ -86,7 +111,8 @@ one_choice config reported one other first second = as_strong one other (second.
 -- A challenge that is answered does not end the client.
 pub none_barred : {A : Type 0} (config : Config) (reported : ChallengeFields) (choice : IntegrityAlgorithm) → IsAnsweredBy config reported choice → IsBarring config reported → A
 none_barred config reported choice is (inl none) = clash (is_common config.algorithms reported.offered choice) is.strongest.common (none choice)
-none_barred config reported choice is (inr named) = clash (is_anonymous_enough config.anonymous_username reported.nonce) is.anonymous named
+none_barred config reported choice is (inr (inl named)) = clash (is_anonymous_enough config.anonymous_username reported.nonce) is.anonymous named
+none_barred config reported choice is (inr (inr bare)) = clash (is_listed_enough config.hardened reported) is.listed bare
 
 -- Numbers that differ compare as different.
 apart : (m n : ℕ) → (m ≡ n → ⊥) → is_eq (nat_cmp m n) ≡ false
@@ -144,7 +170,8 @@ module _ (b : Beginning) (many last : ℕ) (p : Protocol) (w : IsAsking b many l
   by_verdict (Err Unauthorized) client j out = none_decoded j.no_challenge
   by_verdict (Err (IntegrityFailed algorithm)) client j out = none_decoded j.no_challenge
   by_verdict (Err UnsupportedFeature) client j out =
-      let a = where_true (IsHandled (ended (answered bytes (judged client p))) handled q) (IsIgnored (judged client p) handled q) (is_awaited p.agent bytes) awaited out in
+      let a = where_true (IsHandled (ended (answered bytes (judged client p))) handled q) (IsIgnored (judged client p) handled q) (is_awaited p.agent bytes && ends_unsigned (judged client p) bytes)
+      (ap (λ (x : Bool). x && ends_unsigned (judged client p) bytes) awaited ∙ challenges_end client.hardened bytes reported is.visible) out in
       inr (record {
         barring = subst (λ (x : auth.Client). IsUnanswerable x reported) w.auth (subst (λ (t : ChallengeFields). IsUnanswerable p.auth t) (same_decoded j.reported j.visible) j.unanswerable);
         is_handled = a.0;
@@ -154,7 +181,7 @@ module _ (b : Beginning) (many last : ℕ) (p : Protocol) (w : IsAsking b many l
 
   pub challenge_processed : IsProcessed p bytes now handled q → HasAnswered ⊎ IsOver
   challenge_processed processed =
-      let in_phase : IsProcessedIn (InitialSent (first_number b ∷ [])) p bytes now handled q = subst (λ (f : Phase). IsProcessedIn f p bytes now handled q) w.phase processed in
+      let in_phase : IsProcessedIn (InitialSent (first_number b ∷ [])) p bytes now handled q = subst (λ (f : Phase). IsProcessedIn f p bytes now handled q) w.phase (processed_awaited p bytes now handled q awaited processed) in
       let f = where_true (IsFollowed IsFirstJudged p bytes now handled q) (IsIgnored p handled q) (is_response bytes) responds in_phase in
       by_verdict f.verdict f.auth f.is_judged f.outcome
 

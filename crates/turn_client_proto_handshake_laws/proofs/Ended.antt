@@ -7,7 +7,8 @@ use Rattle.turn_client_proto_api.specs.StunProtoAgent.State as agents
 use Rattle.turn_client_proto_api.specs.declared.answer.TurnPollRet.{TurnPollRet}
 use Rattle.turn_client_proto_api.specs.declared.answer.TurnPollRet.TheVariants as answer
 use Rattle.turn_client_proto_api.specs.declared.event.TurnEvent.{TurnEvent}
-use Rattle.turn_client_proto_core.specs.Receiving.{IsProcessed, IsProcessedIn}
+use Rattle.turn_client_proto_core.specs.Outcomes.{IsIgnored}
+use Rattle.turn_client_proto_core.specs.Receiving.{IsProcessed, IsProcessedIn, is_unawaited}
 use Rattle.turn_client_proto_messages.specs.Waiting.{Queued, is_answer}
 use Rattle.turn_client_proto_core.specs.declared.protocol.Phase.{Phase}
 use Rattle.turn_client_proto_core.specs.declared.protocol.Protocol.{Protocol}
@@ -31,7 +32,9 @@ module _ (b : Beginning) (events : List TurnEvent) (p : Protocol) (w : HasEnded 
 
   -- No message is for it.
   pub ended_deaf : (bytes : List ℕ) (now : ℕ) (handled : Bool) (q : Protocol) → IsProcessed p bytes now handled q → (handled ≡ false) × (q ≡ p)
-  ended_deaf bytes now handled q is = subst (λ (f : Phase). IsProcessedIn f p bytes now handled q) w.phase is
+  ended_deaf bytes now handled q is =
+      either ((handled ≡ false) × (q ≡ p)) (is_unawaited p bytes)
+      (subst (λ (f : Phase). MatchBool (is_unawaited p bytes) (IsIgnored p handled q) (IsProcessedIn f p bytes now handled q)) w.phase is)
 
   -- Its events are taken in order.
   pub ended_reports : (event : Option TurnEvent) (q : Protocol) → IsEventTaken p event q → (left : List TurnEvent) × (events ≡ option_to_list event ++ left) × HasEnded b left q

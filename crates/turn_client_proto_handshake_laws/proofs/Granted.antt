@@ -32,6 +32,7 @@ use Rattle.turn_client_proto_messages.specs.Allocation.Refreshing.{granted}
 use Rattle.turn_client_proto_messages.specs.Allocation.declared.allocation.Allocation.{Allocation}
 use Rattle.turn_client_proto_api.specs.declared.event.TurnEvent.{TurnEvent}
 use Rattle.turn_client_proto_api.specs.declared.event.TurnEvent.TheVariants.{AllocationCreated, AllocationCreateFailed}
+use Rattle.turn_client_proto_core.proofs.Awaiting.{processed_awaited}
 use Rattle.turn_client_proto_core.specs.Allocating.{IsAllocated, IsAllocatedFor, allocated, brought, phase_by}
 use Rattle.turn_client_proto_core.specs.Authenticating.{IsAccepted, IsAllocateAnswered, IsSignedJudged}
 use Rattle.turn_client_proto_core.specs.Outcomes.{IsHandled, IsIgnored}
@@ -113,7 +114,7 @@ module _ (b : Beginning) (c : Choice) (many last : ℕ) (queue : List Queued) (p
   pub success_processed : IsProcessed p bytes now handled q → HasAllocated
   success_processed processed =
       let numbers = first_number b ∷ c.number ∷ [] in
-      let in_phase : IsProcessedIn (Authenticating (first_number b ∷ c.number ∷ [])) p bytes now handled q = subst (λ (f : Phase). IsProcessedIn f p bytes now handled q) w.phase processed in
+      let in_phase : IsProcessedIn (Authenticating (first_number b ∷ c.number ∷ [])) p bytes now handled q = subst (λ (f : Phase). IsProcessedIn f p bytes now handled q) w.phase (processed_awaited p bytes now handled q awaited processed) in
       let among : has_number (number_at bytes) numbers ≡ true =
       ap (λ (n : ℕ). has_number n numbers) is.number ∙ (ap (λ (x : Bool). (first_number b == c.number) || (x || false)) (eq-eqb c.number c.number refl) ∙ any (first_number b == c.number)) in
       let both : (is_response bytes && has_number (number_at bytes) numbers) ≡ true = ap (λ (x : Bool). x && has_number (number_at bytes) numbers) responds ∙ among in

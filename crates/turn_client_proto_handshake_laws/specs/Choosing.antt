@@ -28,12 +28,14 @@ pub record IsChallenge (b : Beginning) (reported : ChallengeFields) (bytes : Lis
   pub number : number_at bytes ≡ first_number b
 
 -- The challenge is answered by this algorithm: it is the strongest one that the challenge offers and the
--- settings allow; and the username is hidden if that is required.
+-- settings allow; the username is hidden if that is required; and for a hardened client the list is there that the
+-- challenge announces.
 abbrev pub IsAnsweredBy : Config → ChallengeFields → IntegrityAlgorithm → Type 0
 IsAnsweredBy config reported choice = IsAnswerable (signer_of config) reported choice
 
--- The challenge can't be answered: it offers no algorithm that the settings allow, or it requires a hidden
--- username, which the settings don't allow.
+-- The challenge can't be answered: it offers no algorithm that the settings allow; or the settings require a hidden
+-- username, which the challenge doesn't offer; or the client is hardened, and a list that the challenge announces is
+-- missing.
 abbrev pub IsBarring : Config → ChallengeFields → Type 0
 IsBarring config reported = IsUnanswerable (signer_of config) reported
 

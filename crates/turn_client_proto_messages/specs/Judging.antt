@@ -18,6 +18,7 @@ signer_of config = record {
   account = Some config.credentials;
   algorithms = config.algorithms;
   anonymous_username = config.anonymous_username;
+  hardened = config.hardened;
   challenge = None;
   integrity = None;
 }

@@ -62,7 +62,7 @@ fn set_algorithms(auth: &mut LongTermClientAuth, algorithms: &[IntegrityAlgorith
 
 impl Signer {
     /// Returns the authenticator of a new client with these settings. It has their credentials,
-    /// algorithms and setting for anonymous user names, and remembers no challenge.
+    /// algorithms and settings for anonymous user names and hardening, and remembers no challenge.
     pub fn new(alloc: Global, config: TurnConfig) -> Signer
         requires { length config.credentials.username ≤ longest_username }
         ensures { result ≡ signer_of config }
@@ -71,8 +71,16 @@ impl Signer {
         let mut auth = LongTermClientAuth::new(alloc);
         set_algorithms(&mut auth, config.supported_integrity());
         auth.set_anonymous_username(config.anonymous_username());
+        auth.set_hardened(config.is_hardened());
         auth.set_credentials(LongTermCredentials::from(config.into_credentials()));
         Signer { auth }
+    }
+
+    /// Returns whether the client is hardened (`TurnConfig::set_hardened`).
+    pub fn is_hardened(&self) -> bool
+        ensures { result ≡ self.now.hardened }
+    {
+        self.auth.is_hardened()
     }
 
     /// Validates a received message, as `LongTermClientAuth::validate_incoming_message` does.

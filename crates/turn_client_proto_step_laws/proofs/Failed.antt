@@ -8,7 +8,7 @@ use Rattle.turn_client_proto_recv.specs.TurnTypesFrame.ChannelFrames.{channel_re
 use Rattle.turn_client_proto_recv.specs.TurnTypesFrame.StreamAnswers.{after_look}
 use Rattle.turn_client_proto_recv.specs.TurnTypesFrame.Streams.{Stream}
 use Rattle.turn_client_proto_timers.specs.Api.Payloads.{PeerPayload}
-use Rattle.turn_client_proto_timers.specs.Core.Receiving.{IsProcessedIn}
+use Rattle.turn_client_proto_timers.specs.Core.Receiving.{IsProcessedIn, is_unawaited}
 use Rattle.turn_client_proto_timers.specs.Core.declared.protocol.Phase.{Phase}
 use Rattle.turn_client_proto_timers.specs.Core.declared.protocol.Phase.TheVariants.{Ended}
 use Rattle.turn_client_proto_timers.specs.Core.declared.protocol.Protocol.{Protocol}
@@ -19,6 +19,7 @@ use Rattle.turn_client_proto_recv.specs.Chunks.{IsFrameHandled, data_taken}
 use Rattle.turn_client_proto_recv.specs.Pulls.{Ends, Gives, Goes, IsPulled, frame_of}
 use Rattle.turn_client_proto_recv.specs.declared.handing.Taken.{Taken}
 use Rattle.turn_client_proto_recv.specs.declared.handing.Taken.TheVariants.{Given}
+use Rattle.turn_client_proto_step_laws.proofs.Polling.{by_test}
 
 -- Nothing is held, so nothing is permitted.
 holds_none : (old : Protocol) (frame : List ℕ) → old.phase ≡ Ended → old.allocations ≡ [] → payload_of old frame ≡ None
@@ -43,8 +44,12 @@ module _ (old : Protocol) (frame : List ℕ) (now : ℕ) (new : Protocol) (ended
 
   delivered : (refused : Option StunParseError) (taken : Taken) → IsDispatched refused old frame now taken new → (data_taken frame taken ≡ None) × (new ≡ old)
   delivered None taken (handled, is, processed) =
-      let ignored = subst (λ (p : Phase). IsProcessedIn p old frame now handled new) ended processed in
-      (ap (data_taken frame) is ∙ sym (as_decoded handled), ignored.1)
+      let same : new ≡ old =
+      by_test (is_unawaited old frame)
+      (λ (_ : is_unawaited old frame ≡ true) (o : (handled ≡ false) × (new ≡ old)). o.1)
+      (λ (_ : is_unawaited old frame ≡ false) (o : IsProcessedIn old.phase old frame now handled new).
+      (subst (λ (p : Phase). IsProcessedIn p old frame now handled new) ended o).1) processed in
+      (ap (data_taken frame) is ∙ sym (as_decoded handled), same)
   delivered (Some error) taken (is, same) = (ap (data_taken frame) is ∙ sym (as_unread (channel_refusal frame)), same)
 
   taken_none : (found : Option Payload) (refused : Option StunParseError) (taken : Taken) → found ≡ None → MatchOption found (IsDispatched refused old frame now taken new) (λ payload. (taken ≡ Given payload) × (new ≡ old))

@@ -1,5 +1,5 @@
 -- What a client that has not allocated does with a message is a step of a run.
-use Rattle.std.proofs.Common.{◌≡◌, ◌⊎◌, ℕ, Bool, true, false, List, [], ◌∷◌, ◌++◌, Option, Some, None, Result, Ok, Err, refl, sym, ap, ◌∙◌, subst, arith, inl, inr}
+use Rattle.std.proofs.Common.{◌≡◌, ◌⊎◌, ℕ, Bool, true, false, ◌&&◌, List, [], ◌∷◌, ◌++◌, Option, Some, None, Result, Ok, Err, refl, sym, ap, ◌∙◌, subst, arith, inl, inr}
 use Rattle.turn_client_proto_timers.specs.StunTypesWire.Attributes.{kind_at}
 use Rattle.turn_client_proto_timers.specs.StunTypesWire.Grammar.{refusal}
 use Rattle.turn_client_proto_timers.specs.StunTypesWire.Headers.{AreBytes}
@@ -31,7 +31,7 @@ use Rattle.turn_client_proto_timers.specs.Messages.declared.request.TurnRequest.
 use Rattle.turn_client_proto_timers.specs.Messages.Reported.{lifetime_reported}
 use Rattle.turn_client_proto_timers.specs.Core.Allocating.{IsAllocatedFor}
 use Rattle.turn_client_proto_timers.specs.Core.Asking.{requested}
-use Rattle.turn_client_proto_timers.specs.Core.Authenticating.{IsAccepted, IsAllocateAnswered, IsAllocatingAgain, IsChallenged, IsErrorAnswered, IsFirstJudged, IsSignedJudged, IsUnauthenticated, allocates_again, allocates_other, family_left, numbers_sent}
+use Rattle.turn_client_proto_timers.specs.Core.Authenticating.{IsAccepted, IsAllocateAnswered, IsAllocatingAgain, IsChallenged, IsErrorAnswered, IsFirstJudged, IsSignedJudged, IsUnauthenticated, allocates_again, allocates_other, ends_unsigned, family_left, numbers_sent}
 use Rattle.turn_client_proto_timers.specs.Core.Ending.{ended}
 use Rattle.turn_client_proto_timers.specs.Core.Numbering.{after_number}
 use Rattle.turn_client_proto_timers.specs.Core.Responding.{accepted, answered, challenged, is_tired, judged}
@@ -153,9 +153,10 @@ module _ (c : Client) (mid : Protocol) (bytes : List ℕ) (now : ℕ) (under_way
 
   pub unauthenticated : (handled : Bool) (new : Protocol) → IsUnauthenticated mid bytes handled new → IsRunStep c (bytes ∷ []) None [] new
   unauthenticated handled new h =
-      by_test (is_awaited mid.agent bytes)
-      (λ (_ : is_awaited mid.agent bytes ≡ true) (o : (handled ≡ true) × (new ≡ ended (answered bytes mid))). over c (bytes ∷ []) (answered bytes mid) new (once_answered c mid bytes under_way) o.1)
-      (λ (_ : is_awaited mid.agent bytes ≡ false) (o : (handled ≡ false) × (new ≡ mid)). done c (bytes ∷ []) mid new under_way o.1) h
+      by_test (is_awaited mid.agent bytes && ends_unsigned mid bytes)
+      (λ (_ : (is_awaited mid.agent bytes && ends_unsigned mid bytes) ≡ true) (o : (handled ≡ true) × (new ≡ ended (answered bytes mid))).
+      over c (bytes ∷ []) (answered bytes mid) new (once_answered c mid bytes under_way) o.1)
+      (λ (_ : (is_awaited mid.agent bytes && ends_unsigned mid bytes) ≡ false) (o : (handled ≡ false) × (new ≡ mid)). done c (bytes ∷ []) mid new under_way o.1) h
 
 -- ---- by the verdict
 
@@ -212,7 +213,11 @@ module _ (c : Client) (bytes : List ℕ) (now : ℕ) (orderly : IsOrderly (parts
     signed_judged (Ok (ResendRequest choice)) signer handled new is h =
         challenge c (judged signer c.core) bytes now (once_judged c bytes (Ok (ResendRequest choice)) signer orderly can is) allocating handled new h
     signed_judged (Ok (Validated algorithm)) signer handled new is h = accept algorithm signer handled new is h
-    signed_judged (Err (IntegrityFailed algorithm)) signer handled new is h = over c (bytes ∷ []) (judged signer c.core) new (once_judged c bytes (Err (IntegrityFailed algorithm)) signer orderly can is) h.1
+    signed_judged (Err (IntegrityFailed algorithm)) signer handled new is h =
+        let under_way = once_judged c bytes (Err (IntegrityFailed algorithm)) signer orderly can is in
+        by_test signer.hardened
+        (λ (_ : signer.hardened ≡ true) (o : (handled ≡ false) × (new ≡ judged signer c.core)). done c (bytes ∷ []) (judged signer c.core) new under_way o.1)
+        (λ (_ : signer.hardened ≡ false) (o : (handled ≡ true) × (new ≡ ended (judged signer c.core))). over c (bytes ∷ []) (judged signer c.core) new under_way o.1) h
     signed_judged (Err NoMemory) signer handled new is h = absurd h
     signed_judged (Err Unauthorized) signer handled new is h = done c (bytes ∷ []) (judged signer c.core) new (once_judged c bytes (Err Unauthorized) signer orderly can is) h.1
     signed_judged (Err UnsupportedFeature) signer handled new is h = done c (bytes ∷ []) (judged signer c.core) new (once_judged c bytes (Err UnsupportedFeature) signer orderly can is) h.1

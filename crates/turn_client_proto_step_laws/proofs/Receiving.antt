@@ -7,7 +7,7 @@ use Rattle.turn_client_proto_timers.specs.StunTypesWire.Types.{class_of}
 use Rattle.turn_client_proto_timers.specs.StunProtoAgent.Handling.{is_response}
 use Rattle.turn_client_proto_timers.specs.Allocation.Awaited.{has_number}
 use Rattle.turn_client_proto_timers.specs.Core.Authenticating.{IsFirstJudged, IsSignedJudged}
-use Rattle.turn_client_proto_timers.specs.Core.Receiving.{IsFollowed, IsProcessed, IsProcessedIn}
+use Rattle.turn_client_proto_timers.specs.Core.Receiving.{IsFollowed, IsProcessed, IsProcessedIn, is_unawaited}
 use Rattle.turn_client_proto_timers.specs.TurnRuns.Indications.{is_indication}
 use Rattle.turn_client_proto_timers.specs.Core.Standing.{IsJudgedStanding}
 use Rattle.turn_client_proto_timers.specs.Core.declared.protocol.Phase.{Phase}
@@ -56,4 +56,7 @@ module _ (c : Client) (bytes : List ℕ) (now : ℕ) (handled : Bool) (new : Pro
       standing_judged c bytes now sound.orderly (can_at Authenticated at) at are_bytes message f.verdict f.auth handled new f.is_judged f.outcome) h
 
 pub receive_step : (c : Client) (bytes : List ℕ) (now : ℕ) (handled : Bool) (new : Protocol) → IsSound c → AreBytes bytes → refusal bytes ≡ None → IsProcessed c.core bytes now handled new → IsRunStep c (bytes ∷ []) None [] new
-receive_step c bytes now handled new sound are_bytes message is = processed_in c bytes now handled new sound c.core.phase are_bytes message refl is
+receive_step c bytes now handled new sound are_bytes message is =
+    by_test (is_unawaited c.core bytes)
+    (λ (_ : is_unawaited c.core bytes ≡ true). ignored c bytes now handled new sound)
+    (λ (_ : is_unawaited c.core bytes ≡ false). processed_in c bytes now handled new sound c.core.phase are_bytes message refl) is

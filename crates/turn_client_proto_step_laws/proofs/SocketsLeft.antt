@@ -37,13 +37,13 @@ use Rattle.turn_client_proto_timers.specs.Messages.declared.answer.AttemptAnswer
 use Rattle.turn_client_proto_timers.specs.Core.Allocating.{IsAllocatedFor, allocated, brought}
 use Rattle.turn_client_proto_timers.specs.Core.Asking.{requested}
 use Rattle.turn_client_proto_timers.specs.Core.Attempting.{IsAttemptTaken, after_attempt, after_attempt_in, after_attempt_of, answering, is_attempt, may_join}
-use Rattle.turn_client_proto_timers.specs.Core.Authenticating.{IsAccepted, IsAllocateAnswered, IsAllocatingAgain, IsChallenged, IsErrorAnswered, IsFirstJudged, IsSignedJudged, IsUnauthenticated, allocates_again, allocates_other, family_left}
+use Rattle.turn_client_proto_timers.specs.Core.Authenticating.{IsAccepted, IsAllocateAnswered, IsAllocatingAgain, IsChallenged, IsErrorAnswered, IsFirstJudged, IsSignedJudged, IsUnauthenticated, allocates_again, allocates_other, ends_unsigned, family_left}
 use Rattle.turn_client_proto_timers.specs.Core.Binding.{IsBindResponded, IsBoundFor, IsUnboundFor, bound, expires_due, permission_with, permitted_with, renews_channels, rejected_with, unbound}
 use Rattle.turn_client_proto_timers.specs.Core.Ending.{ended}
 use Rattle.turn_client_proto_timers.specs.Core.Outcomes.{IsHandled, IsIgnored}
 use Rattle.turn_client_proto_timers.specs.Core.Permitting as asking
 use Rattle.turn_client_proto_timers.specs.Core.Permitting.{IsGrantedFor, IsPermissionResponded, IsRefusedFor}
-use Rattle.turn_client_proto_timers.specs.Core.Receiving.{Follows, IsFollowed, IsProcessed, IsProcessedIn}
+use Rattle.turn_client_proto_timers.specs.Core.Receiving.{Follows, IsFollowed, IsProcessed, IsProcessedIn, is_unawaited}
 use Rattle.turn_client_proto_timers.specs.Core.Responding.{accepted, answered, challenged, is_error_class, is_tired, judged}
 use Rattle.turn_client_proto_timers.specs.Core.Standing.{IsRequestedAgain, IsConnectResponded, IsJudgedStanding, IsRechallenged, IsRequestAnswered, IsTakenUp, after_connect, after_refresh, asks_again, deallocated, is_refreshed, refreshed}
 use Rattle.turn_client_proto_timers.specs.Core.declared.protocol.Phase.{Phase}
@@ -191,7 +191,7 @@ module _ (bytes : List ℕ) (now : ℕ) where
   challenged_keeps p = tested (is_awaited p.agent bytes) (tested (is_tired p) (handled_so p.allocations (ended p) (over p)) (again_keeps p)) (ignored p)
 
   turned_keeps : (p : Protocol) → Keeps p.allocations (IsUnauthenticated p bytes)
-  turned_keeps p = tested (is_awaited p.agent bytes) (handled_so p.allocations (ended (answered bytes p)) (over_answered p)) (ignored p)
+  turned_keeps p = tested (is_awaited p.agent bytes && ends_unsigned p bytes) (handled_so p.allocations (ended (answered bytes p)) (over_answered p)) (ignored p)
 
   other_requested : (p : Protocol) (family : AddressFamily) (number : ℕ) → AreOf p.allocations (allocates_other family number now p).allocations
   unfolding allocates_other requested
@@ -236,7 +236,7 @@ module _ (bytes : List ℕ) (now : ℕ) where
   signed_keeps : (verdict : Verdict) (p : Protocol) → Keeps p.allocations (IsSignedJudged verdict p bytes now)
   signed_keeps (Ok (ResendRequest choice)) p = challenged_keeps p
   signed_keeps (Ok (Validated algorithm)) p = accepted_keeps p
-  signed_keeps (Err (IntegrityFailed algorithm)) p = handled_so p.allocations (ended p) (over p)
+  signed_keeps (Err (IntegrityFailed algorithm)) p = tested p.auth.hardened (ignored p) (handled_so p.allocations (ended p) (over p))
   signed_keeps (Err NoMemory) p = never p.allocations
   signed_keeps (Err Unauthorized) p = ignored p
   signed_keeps (Err UnsupportedFeature) p = ignored p
@@ -436,7 +436,7 @@ module _ (bytes : List ℕ) (now : ℕ) where
     processed_in Ended = ignored old
 
     pub processed_keeps : Keeps old.allocations (IsProcessed old bytes now)
-    processed_keeps = processed_in old.phase
+    processed_keeps = tested (is_unawaited old bytes) (ignored old) (processed_in old.phase)
 
 -- ---- bytes that wait
 

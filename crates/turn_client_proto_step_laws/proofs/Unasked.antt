@@ -42,7 +42,7 @@ use Rattle.turn_client_proto_recv.specs.Sockets.{binding_time}
 use Rattle.turn_client_proto_timers.specs.Core.Allocating.{IsAllocatedFor, allocated, brought}
 use Rattle.turn_client_proto_timers.specs.Core.Asking.{requested}
 use Rattle.turn_client_proto_timers.specs.Core.Attempting.{IsAttemptTaken, after_attempt, after_attempt_in, after_attempt_of, answering, is_attempt, may_join}
-use Rattle.turn_client_proto_timers.specs.Core.Authenticating.{IsAccepted, IsAllocateAnswered, IsAllocatingAgain, IsChallenged, IsErrorAnswered, IsFirstJudged, IsSignedJudged, IsUnauthenticated, allocates_again, allocates_other, family_left}
+use Rattle.turn_client_proto_timers.specs.Core.Authenticating.{IsAccepted, IsAllocateAnswered, IsAllocatingAgain, IsChallenged, IsErrorAnswered, IsFirstJudged, IsSignedJudged, IsUnauthenticated, allocates_again, allocates_other, ends_unsigned, family_left}
 use Rattle.turn_client_proto_timers.specs.Core.Binding.{IsBindResponded, IsBoundFor, IsUnboundFor, bound, expires_due, permission_with, renews_channels, unbound}
 use Rattle.turn_client_proto_timers.specs.Core.Deleting.{is_authenticated}
 use Rattle.turn_client_proto_timers.specs.Core.Ending.{ended}
@@ -50,7 +50,7 @@ use Rattle.turn_client_proto_timers.specs.StunTypesBase.Times.{time_after}
 use Rattle.turn_client_proto_timers.specs.Core.Outcomes.{IsHandled, IsIgnored}
 use Rattle.turn_client_proto_timers.specs.Core.Permitting as asking
 use Rattle.turn_client_proto_timers.specs.Core.Permitting.{IsGrantedFor, IsPermissionResponded, IsRefusedFor}
-use Rattle.turn_client_proto_timers.specs.Core.Receiving.{Follows, IsFollowed, IsProcessed, IsProcessedIn}
+use Rattle.turn_client_proto_timers.specs.Core.Receiving.{Follows, IsFollowed, IsProcessed, IsProcessedIn, is_unawaited}
 use Rattle.turn_client_proto_timers.specs.Core.Responding.{accepted, answered, challenged, is_error_class, is_tired, judged}
 use Rattle.turn_client_proto_timers.specs.Core.Standing.{IsRequestedAgain, IsConnectResponded, IsJudgedStanding, IsRechallenged, IsRequestAnswered, IsTakenUp, after_connect, after_refresh, asks_again, deallocated, is_refreshed, refreshed}
 use Rattle.turn_client_proto_timers.specs.Core.declared.protocol.Phase.{Phase}
@@ -257,7 +257,7 @@ module _ (Signed : Type 0) (bytes : List ℕ) (now : ℕ) where
       (λ _. ignored bytes p)
 
   turned_keeps : (p : Protocol) → Keeps Signed bytes p (IsUnauthenticated p bytes)
-  turned_keeps p = tested bytes (is_awaited p.agent bytes) (λ _. handled_so bytes p (ended (answered bytes p)) (over_answered p)) (λ _. ignored bytes p)
+  turned_keeps p = tested bytes (is_awaited p.agent bytes && ends_unsigned p bytes) (λ _. handled_so bytes p (ended (answered bytes p)) (over_answered p)) (λ _. ignored bytes p)
 
   -- The response to an ALLOCATE.
   over_rng : (p : Protocol) → (ended p).rng ≡ p.rng
@@ -316,7 +316,7 @@ module _ (Signed : Type 0) (bytes : List ℕ) (now : ℕ) where
   signed_keeps : (verdict : Verdict) → SignedIf verdict → (p : Protocol) → Keeps Signed bytes p (IsSignedJudged verdict p bytes now)
   signed_keeps (Ok (ResendRequest choice)) own p = challenged_keeps p
   signed_keeps (Ok (Validated algorithm)) own p = accepted_keeps (own algorithm refl) p
-  signed_keeps (Err (IntegrityFailed algorithm)) own p = handled_so bytes p (ended p) (over p)
+  signed_keeps (Err (IntegrityFailed algorithm)) own p = tested bytes p.auth.hardened (λ _. ignored bytes p) (λ _. handled_so bytes p (ended p) (over p))
   signed_keeps (Err NoMemory) own p = never bytes p
   signed_keeps (Err Unauthorized) own p = ignored bytes p
   signed_keeps (Err UnsupportedFeature) own p = ignored bytes p
@@ -482,7 +482,7 @@ module _ (bytes : List ℕ) (now : ℕ) (old : Protocol) where
   processed_in Ended at = ignored bytes old
 
   pub processed_keeps : Keeps (IsAcceptedBy old bytes) bytes old (IsProcessed old bytes now)
-  processed_keeps = processed_in old.phase refl
+  processed_keeps = tested bytes (is_unawaited old bytes) (λ _. ignored bytes old) (λ _. processed_in old.phase refl)
 
 -- ---- a message that came over the socket of a connection
 

@@ -1,7 +1,7 @@
 -- A server core's challenge of a signed request has the server core's realm, and accepts what the server core
 -- accepts.
 use Rattle.std.proofs.Common.{◌≡◌, ◌≢◌, ℕ, Bool, true, false, List, [], ◌∷◌, ◌++◌, Option, Some, None, refl, sym, ap, ◌∙◌, inl, inr}
-use Rattle.std.specs.Prelude.{if◌then◌else◌, ◌&&◌}
+use Rattle.std.specs.Prelude.{if◌then◌else◌, ◌&&◌, is_none, not}
 use Rattle.std.specs.FinMap as map
 use Rattle.std.specs.Option.{option_map}
 use Rattle.std.specs.declared.net.socket_addr.SocketAddr.{SocketAddr}
@@ -16,9 +16,10 @@ use Rattle.turn_desk_core.specs.StunTypesMessage.Objections.{error_attribute}
 use Rattle.turn_client_proto_messages.specs.StunTypesIntegrity.Signing.{signature}
 use Rattle.turn_desk_core.specs.StunTypesWire.Text.{message_text}
 use Rattle.turn_desk_core.specs.StunTypesWire.Types.{class_of, method_of, type_of}
-use Rattle.turn_client_proto_messages.specs.StunProtoClient.Challenges.{ChallengeFields, asks_again, challenge_visible, is_anonymous_enough, is_challenge_code, is_error, reported_of}
+use Rattle.turn_client_proto_messages.specs.StunProtoClient.Challenges.{ChallengeFields, asks_again, challenge_visible, is_anonymous_enough, is_challenge_code, is_error, is_listed_enough, lacks_list, reported_of}
 use Rattle.turn_client_proto_messages.specs.StunProtoClient.Choice.{supports, takes}
 use Rattle.turn_client_proto_api.specs.StunProtoAuth.Claims.{claim_of, claimed, code_visible, last_of_kind, text_decoded}
+use Rattle.turn_client_proto_messages.specs.StunProtoAuth.SupportedAlgorithms.{list_of}
 use Rattle.turn_client_proto_messages.specs.StunProtoClient.Client as auth
 use Rattle.turn_client_proto_messages.specs.StunProtoClient.ClientValidation.{IsAnswerable}
 use Rattle.turn_client_proto_api.specs.StunProtoAuth.declared.feature.Feature.TheVariants.{Auto, Disabled, Required}
@@ -26,6 +27,7 @@ use Rattle.turn_client_proto_api.specs.StunProtoAuth.declared.feature.Feature.{F
 use Rattle.turn_desk_core.specs.StunProtoVerify.Judgement.{user_key}
 use Rattle.turn_client_proto_api.specs.StunProtoAuth.Nonce.{features_offered, features_in}
 use Rattle.turn_desk_core.specs.StunProtoServer.Server.{Client, Server}
+use Rattle.turn_desk_core.specs.StunProtoServer.ServerSigning.{Party}
 use Rattle.turn_desk_core.specs.StunProtoVerify.declared.error.LongTermServerAuthError.TheVariants.{BadRequest}
 use Rattle.turn_desk_core.specs.StunProtoVerify.declared.error.LongTermServerAuthError.{LongTermServerAuthError}
 use Rattle.turn_desk_core.specs.declared.decision.Decision.{Decision}
@@ -64,6 +66,20 @@ signed_failure bytes code Sha512 key text shows = untold bytes (ap (λ (l : List
 
 no_success : (bytes : List ℕ) → class_of (kind_at bytes) ≡ Success → challenge_visible bytes ≡ None
 no_success bytes is = ap (λ (c : MessageClass). if is_error c && is_challenge_code (code_visible bytes) then reported_of (claimed bytes) else None) is
+
+-- ---- the list
+
+-- A challenge has the list that it announces.
+listed_by : (announced : Bool) (list : List ℕ) → (announced && is_none (if announced then Some list else None)) ≡ false
+listed_by true list = refl
+listed_by false list = refl
+
+has_list : (party : Party) → lacks_list (challenge_of party) ≡ false
+has_list party = listed_by (features_in party.nonce).password_algorithms (list_of party.algorithms)
+
+pub has_given_list : (reported : ChallengeFields) (list : List ℕ) → reported.offered ≡ (if (features_in reported.nonce).password_algorithms then Some list else None) → lacks_list reported ≡ false
+has_given_list reported list is =
+    ap (λ (o : Option (List ℕ)). (features_in reported.nonce).password_algorithms && is_none o) is ∙ listed_by (features_in reported.nonce).password_algorithms list
 
 -- ---- what is one
 
@@ -116,6 +132,10 @@ module _ (old new : State) (from : SocketAddr) (bytes reply : List ℕ) (now : �
   pub realm_is : reported.realm ≡ old.auth.realm
   realm_is = ap (λ (t : ChallengeFields). t.realm) reported_is
 
+  -- It has the list that it announces.
+  pub list_there : lacks_list reported ≡ false
+  list_there = ap lacks_list reported_is ∙ has_list (unvalidated_party old.auth ch.nonce)
+
   -- The challenge accepts what the server core accepts, if its nonce announces that.
   module _ (algorithms : List IntegrityAlgorithm) (anonymous : Feature) (own : old.auth.algorithms ≡ algorithms) (decodes : ReportsOwn algorithms anonymous from new.auth) where
     features_by : (found : Option Client) → map.get new.auth.clients from ≡ found → option_map (λ (k : Client). k.nonce) found ≡ Some ch.nonce → features_in ch.nonce ≡ features_offered algorithms anonymous
@@ -147,6 +167,10 @@ module _ (server : Server) (client : auth.Client) (one other : ChallengeFields) 
   hides Disabled enough = refl
   hides Required enough = of_other.hides ∙ (sym of_one.hides ∙ enough)
 
+  lists : (hardened : Bool) → is_listed_enough hardened other ≡ true
+  lists false = refl
+  lists true = ap not of_other.listed
+
   pub answers_other : IsAnswerable client other choice
   answers_other = record {
     strongest = record {
@@ -154,4 +178,5 @@ module _ (server : Server) (client : auth.Client) (one other : ChallengeFields) 
       greatest = λ algorithm common. is.strongest.greatest algorithm (ap (λ (b : Bool). supports client.algorithms algorithm && b) (sym (same_takes algorithm)) ∙ common);
     };
     anonymous = hides client.anonymous_username is.anonymous;
+    listed = lists client.hardened;
   }

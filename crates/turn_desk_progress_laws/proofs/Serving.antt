@@ -29,6 +29,7 @@ use Rattle.turn_desk_step_laws.specs.Users.{knowing}
 use Rattle.turn_desk_core.specs.State.{State}
 use Rattle.turn_desk_core.specs.Steps.{key_at, key_of_party}
 use Rattle.turn_desk_progress_laws.specs.Scripts.{Plan}
+use Rattle.turn_desk_progress_laws.proofs.Challenged.{has_given_list}
 use Rattle.turn_desk_progress_laws.specs.Standing.{HasTransmitted, IsFirstReply, IsGranting, IsOfSettings, IsUnder}
 
 pub second_true : (a b : Bool) → (a && b) ≡ true → b ≡ true
@@ -45,6 +46,7 @@ module _ (plan : Plan) (old desk : State) where
     realm = f.realm;
     takes_own = f.takes_own;
     hides = ap (λ n. n.anonymous_username) f.features;
+    listed = has_given_list f.reported (list_of old.auth.algorithms) f.list;
   }
 
   pub of_settings : (reported : ChallengeFields) → IsUnder plan old reported desk → IsOfSettings old.auth reported

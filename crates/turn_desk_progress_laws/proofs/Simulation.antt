@@ -1,8 +1,8 @@
 -- Whether a client and a server core can come together.
-use Rattle.std.proofs.Common.{◌≡◌, Bool, true, false, refl, sym, ◌∙◌, inl, inr}
-use Rattle.std.specs.Prelude.{◌&&◌}
+use Rattle.std.proofs.Common.{◌≡◌, Bool, true, false, refl, sym, ap, ◌∙◌, inl, inr}
+use Rattle.std.specs.Prelude.{◌&&◌, not}
 use Rattle.turn_desk_core.specs.StunTypesWire.declared.algorithm.IntegrityAlgorithm.{IntegrityAlgorithm}
-use Rattle.turn_client_proto_messages.specs.StunProtoClient.Challenges.{ChallengeFields, is_anonymous_enough}
+use Rattle.turn_client_proto_messages.specs.StunProtoClient.Challenges.{ChallengeFields, is_anonymous_enough, is_listed_enough, lacks_list}
 use Rattle.turn_client_proto_messages.specs.StunProtoClient.Choice.{supports, takes}
 use Rattle.turn_client_proto_api.specs.StunProtoAuth.declared.feature.Feature.{Feature}
 use Rattle.turn_client_proto_api.specs.StunProtoAuth.declared.feature.Feature.TheVariants.{Auto, Required, Disabled}
@@ -58,6 +58,12 @@ module _ (config : Config) (server : Server) (reported : ChallengeFields) (of : 
       greatest = λ other mine theirs. by.strongest.greatest other (both_true (supports config.algorithms other) (takes reported.offered other) mine (of.takes_own other ∙ theirs));
     }
 
+  -- The list that the challenge announces is there.
+  lists : (hardened : Bool) → is_listed_enough hardened reported ≡ false → ⊥
+  lists false bare = Prim.cc bare
+  lists true bare = clash (not (lacks_list reported)) (ap not of.listed) bare
+
   pub are_apart : IsBarring config reported → AreApart config server
   are_apart (inl none) = inl (λ other mine theirs. clash _ (both_true (supports config.algorithms other) (takes reported.offered other) mine (of.takes_own other ∙ theirs)) (none other))
-  are_apart (inr plain) = inr (must_show config.anonymous_username server.anonymous_username of.hides plain)
+  are_apart (inr (inl plain)) = inr (must_show config.anonymous_username server.anonymous_username of.hides plain)
+  are_apart (inr (inr bare)) = absurd (lists config.hardened bare)

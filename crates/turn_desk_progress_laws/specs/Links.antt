@@ -114,9 +114,9 @@ abbrev pub permitted_by : Sent → (reply head rest : List ℕ) → Reached
 permitted_by request reply head [] = Permitted
 permitted_by request reply head (byte ∷ rest) = Permitting request reply head
 
-abbrev pub decoded_by : Sent → (reply head rest : List ℕ) → Reached
-decoded_by request reply head [] = Known
-decoded_by request reply head (byte ∷ rest) = Reported request reply head
+abbrev pub brought_reply : Sent → (reply head rest : List ℕ) → Reached
+brought_reply request reply head [] = Known
+brought_reply request reply head (byte ∷ rest) = Reported request reply head
 
 -- ---- what may come
 
@@ -189,7 +189,7 @@ pub data Links (plan : Plan) (lifetime : ℕ) (link : Link) (progress : Reached)
   GiveConnect : (request : Sent) (reply head rest : List ℕ) (bytes : Vec ℕ Global)
       → progress ≡ Reported request reply head → BringsOn Tcp reply head bytes.items rest
       → event ≡ ToClient bytes request.to request.from link.first
-      → next ≡ decoded_by request reply (head ++ bytes.items) rest → Links plan lifetime link progress event ret next
+      → next ≡ brought_reply request reply (head ++ bytes.items) rest → Links plan lifetime link progress event ret next
   -- The client's events are polled.
   Empties : (now : ℕ) → IsKnowing progress → now ≤ client_end → event ≡ Call call.PollEvent now → next ≡ emptied ret
       → Links plan lifetime link progress event ret next

@@ -52,7 +52,7 @@ ghost use Rattle.turn_desk_progress_laws.specs.Links.{IsLinkScript, IsMadeAt, Is
 ghost use Rattle.turn_desk_progress_laws.specs.Links.{IsSuccess, IsTimelyLink, IsUnbound, Link, Off};
 ghost use Rattle.turn_desk_progress_laws.specs.Links.{Opened, Permitted, Permitting, Reached, Reported};
 ghost use Rattle.turn_desk_progress_laws.specs.Links.{Unpermitted, Waiting, called, transmitted, emptied};
-ghost use Rattle.turn_desk_progress_laws.specs.Links.{permitted_by, polled, seen, decoded_by};
+ghost use Rattle.turn_desk_progress_laws.specs.Links.{permitted_by, polled, seen, brought_reply};
 
 use crate::honest::honest_runs_allocate;
 use turn_client_proto_handshake_laws::stages::{
@@ -168,7 +168,7 @@ pub fn connections_are_linked()
         → BringsOn Tcp reply head bytes.items rest
         → IsStep (ToClient bytes request.to request.from link.first) w ret v
         → IsAtStep plan old address lifetime link
-        (decoded_by request reply (head ++ bytes.items) rest) v }
+        (brought_reply request reply (head ++ bytes.items) rest) v }
 {
     proof_requests_are_read();
     messages_are_reported_alike();

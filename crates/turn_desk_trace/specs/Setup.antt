@@ -1,5 +1,5 @@
 -- The setup lines of a trace.
-use Rattle.std.specs.Prelude.{ℕ, ◌≡◌, ◌≤◌, ◌*◌, ◌==◌, List, [], ◌∷◌, length, codes, Some}
+use Rattle.std.specs.Prelude.{ℕ, ◌≡◌, ◌≤◌, ◌*◌, ◌==◌, Bool, true, false, List, [], ◌∷◌, length, codes, Some}
 use Rattle.std.specs.Duration.{as_nanos}
 use Rattle.std.specs.List.{slice_split}
 use Rattle.std.specs.Option.{option_map}
@@ -80,9 +80,15 @@ abbrev pub IsRto : List (List ℕ) → Setup → Type 0
 IsRto (initial ∷ most ∷ rest) setup = IsRtoWith initial most rest setup
 IsRto words setup = ⊥
 
+-- The words after the seed: none, or the one that hardens a client.
+abbrev pub IsHardening : List (List ℕ) → Bool → Type 0
+IsHardening [] hardened = hardened ≡ false
+IsHardening (word ∷ []) hardened = (word ≡ codes "hardened") × (hardened ≡ true)
+IsHardening words hardened = ⊥
+
 -- The words spell the settings of a client with those addresses.
 pub record IsClientOf (local remote families algorithms anonymity name password seed : List ℕ)
-    (client : ClientSetup) : Type 0 where
+    (more : List (List ℕ)) (client : ClientSetup) : Type 0 where
   pub here : IsSocketText local client.local
   pub server : IsSocketText remote client.remote
   pub requested : families ≡ families_word client.families
@@ -92,11 +98,12 @@ pub record IsClientOf (local remote families algorithms anonymity name password 
   pub bound : length name ≤ MAX_USERNAME
   pub secret : client.password.now ≡ password
   pub transmitted : seed_of seed ≡ Some client.seed
+  pub hardening : IsHardening more client.hardened
 
 -- The first five words and the words after them spell the settings of a client.
 abbrev pub IsClientWith : List ℕ → List ℕ → List ℕ → List ℕ → List ℕ → List (List ℕ) → ClientSetup → Type 0
-IsClientWith local remote families algorithms anonymity (name ∷ password ∷ seed ∷ []) client =
-    IsClientOf local remote families algorithms anonymity name password seed client
+IsClientWith local remote families algorithms anonymity (name ∷ password ∷ seed ∷ more) client =
+    IsClientOf local remote families algorithms anonymity name password seed more client
 IsClientWith local remote families algorithms anonymity words client = ⊥
 
 -- The two addresses and the words after the transport of the allocation spell the settings of a client.

@@ -1,13 +1,13 @@
 //! Setup lines: the lines before the events.
 
-ghost use Rattle.std.specs.Prelude.{◌≡◌, ◌≢◌, MatchOption, map};
+ghost use Rattle.std.specs.Prelude.{◌≡◌, ◌≢◌, Bool, MatchOption, map};
 ghost use Rattle.std.specs.declared.time.Duration.{Duration};
 ghost use Rattle.stun_proto_auth.specs.declared.feature.Feature.{Feature};
 ghost use Rattle.stun_types_base.specs.declared.transport.TransportType.{TransportType};
 ghost use Rattle.turn_desk_trace.specs.declared.setup.Client.{Client};
 ghost use Rattle.turn_desk_trace.specs.declared.setup.Families.{Families};
 ghost use Rattle.turn_desk_trace.specs.declared.setup.Setup.{Setup};
-ghost use Rattle.turn_desk_trace.specs.Setup.{anonymity_word, AreTransports, families_word, IsClient, IsClientAt, IsClientOf, IsClientWith, IsDesk, IsMillis, IsRto, IsRtoOf, IsRtoWith, IsSetup, IsUser};
+ghost use Rattle.turn_desk_trace.specs.Setup.{anonymity_word, AreTransports, families_word, IsClient, IsClientAt, IsClientOf, IsClientWith, IsDesk, IsHardening, IsMillis, IsRto, IsRtoOf, IsRtoWith, IsSetup, IsUser};
 
 use crate::address::{read_address, read_transport};
 use crate::algorithms::read_algorithms;
@@ -57,6 +57,8 @@ pub struct Client<'a> {
     pub password: &'a str,
     /// The seed of the ChaCha20 generator that supplies its random words.
     pub seed: [u8; SEED_LENGTH],
+    /// Whether it is hardened.
+    pub hardened: bool,
 }
 
 /// A line that comes before the events.
@@ -89,7 +91,8 @@ pub enum Setup<'a> {
         /// The timeout after the last transmission, in whole milliseconds.
         last: Duration,
     },
-    /// `client BY LOCAL REMOTE OVER FAMILIES ALGS ANON NAME PASSWORD SEED`: adds a client.
+    /// `client BY LOCAL REMOTE OVER FAMILIES ALGS ANON NAME PASSWORD SEED`, and `hardened` or nothing:
+    /// adds a client.
     Client {
         /// The transport between the client and the server.
         by: TransportType,
@@ -262,14 +265,14 @@ fn read_client_with<'a>(
         (map (λ x. x.now) words.entry.now)) }
 {
     match words {
-        [name, password, seed] => client_of(
-            local, remote, families, algorithms, anonymity, name, password, seed,
+        [name, password, seed, more @ ..] => client_of(
+            local, remote, families, algorithms, anonymity, name, password, seed, more,
         ),
         _ => None,
     }
 }
 
-/// Reads the settings of a client, one word for each.
+/// Reads the settings of a client, one word for each. `more` are the words after the seed.
 fn client_of<'a>(
     local: &str,
     remote: &str,
@@ -279,12 +282,13 @@ fn client_of<'a>(
     name: &'a str,
     password: &'a str,
     seed: &str,
+    more: &[&'a str],
 ) -> Option<Client<'a>>
     ensures { MatchOption result ((client : Client)
         → ¬ (IsClientOf local.now remote.now families.now algorithms.now anonymity.now
-        name.entry.now password.entry.now seed.now client))
+        name.entry.now password.entry.now seed.now (map (λ x. x.now) more.entry.now) client))
         (IsClientOf local.now remote.now families.now algorithms.now anonymity.now
-        name.entry.now password.entry.now seed.now) }
+        name.entry.now password.entry.now seed.now (map (λ x. x.now) more.entry.now)) }
 {
     if name.len() > MAX_USERNAME {
         return None;
@@ -298,7 +302,21 @@ fn client_of<'a>(
         name,
         password,
         seed: read_seed(seed)?,
+        hardened: read_hardening(more)?,
     })
+}
+
+/// Reads the words after a client's seed: none, or `hardened`. Returns `None` for any other words.
+fn read_hardening(words: &[&str]) -> Option<bool>
+    ensures { MatchOption result ((h : Bool)
+        → ¬ (IsHardening (map (λ x. x.now) words.entry.now) h))
+        (IsHardening (map (λ x. x.now) words.entry.now)) }
+{
+    match words {
+        [] => Some(false),
+        ["hardened"] => Some(true),
+        _ => None,
+    }
 }
 
 /// Reads address families: one, or both in either order. Returns `None` for any other word.

@@ -57,6 +57,7 @@ config_of over client rto =
       families = families_in_order client.families;
       algorithms = client.algorithms;
       anonymous_username = client.anonymity;
+      hardened = client.hardened;
     })
 
 -- A new client over a transport, with these settings. Over TCP its stream has received nothing.

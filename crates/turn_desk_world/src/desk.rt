@@ -3,7 +3,7 @@
 ghost use Rattle.std.specs.Prelude.{IfOk};
 ghost use Rattle.turn_desk_world.specs.Desks.{IsDeskAnswered, words_of};
 
-use crate::typed::{numbers_have_four_bytes, proof_are_bytes};
+use crate::typed::{proof_are_bytes, proof_numbers_have_four_bytes};
 use rand_chacha::ChaCha20Rng;
 use rand_core::SeedableRng;
 use std::net::SocketAddr;
@@ -26,7 +26,7 @@ pub(crate) fn ask(
         decision.now seed desk.new) }
 {
     proof_are_bytes(bytes);
-    numbers_have_four_bytes(decision);
+    proof_numbers_have_four_bytes(decision);
     let mut words = ChaCha20Rng::from_seed(seed);
     match desk.handle(bytes, from, now, decision, &mut words) {
         Ok(Some(reply)) => {

@@ -135,6 +135,7 @@ fn config_of(
     ask_for(&mut config, settings.families);
     offer(&mut config, settings.algorithms.as_slice());
     config.set_anonymous_username(settings.anonymity);
+    config.set_hardened(settings.hardened);
     wait(&mut config, rto);
     Ok(config)
 }

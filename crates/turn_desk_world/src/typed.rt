@@ -17,7 +17,7 @@ fn proof_has_four_bytes(number: u32)
 {}
 
 /// The 32-bit numbers of a decision are below 2^32.
-pub(crate) fn numbers_have_four_bytes(decision: &Decision)
+pub(crate) fn proof_numbers_have_four_bytes(decision: &Decision)
     ensures { HasFourBytes decision.now }
 {
     match decision {

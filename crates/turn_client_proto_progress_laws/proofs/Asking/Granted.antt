@@ -35,6 +35,7 @@ use Rattle.turn_client_proto_messages.specs.Allocation.declared.pending.PendingR
 use Rattle.turn_client_proto_messages.specs.Allocation.declared.pending.PendingRequest.TheVariants.{NewPermission}
 use Rattle.turn_client_proto_handshake_laws.specs.Core.Outcomes.{IsHandled, IsIgnored}
 use Rattle.turn_client_proto_handshake_laws.specs.Core.Permitting.{IsGrantedFor, IsPermissionResponded, IsRefusedFor, granted}
+use Rattle.turn_client_proto_core.proofs.Awaiting.{processed_awaited}
 use Rattle.turn_client_proto_handshake_laws.specs.Core.Receiving.{IsFollowed, IsProcessed, IsProcessedIn}
 use Rattle.turn_client_proto_handshake_laws.specs.Core.Responding.{accepted, is_error_class, judged}
 use Rattle.turn_client_proto_handshake_laws.specs.Core.Standing.{IsJudgedStanding, IsRequestAnswered, IsTakenUp}
@@ -111,7 +112,7 @@ module _ (b : Beginning) (realm : List ℕ) (address : SocketAddr) (wanted : Wan
 
     pub answers : (handled : Bool) (q : Protocol) → IsProcessed p reply now handled q → IsAnsweredOn handled q
     answers handled q processed =
-        let in_phase : IsProcessedIn Authenticated p reply now handled q = subst (λ (f : Phase). IsProcessedIn f p reply now handled q) h.phase processed in
+        let in_phase : IsProcessedIn Authenticated p reply now handled q = subst (λ (f : Phase). IsProcessedIn f p reply now handled q) h.phase (processed_awaited p reply now handled q awaited processed) in
         let no_indication : is_indication (class_of (kind_at reply)) ≡ false = ap is_indication g.success in
         let f = where_false (IsIgnored p handled q) (IsFollowed IsJudgedStanding p reply now handled q) (is_indication (class_of (kind_at reply))) no_indication in_phase in
         by_verdict f.verdict f.auth handled q f.is_judged f.outcome

@@ -37,7 +37,7 @@ use Rattle.turn_client_proto_handshake_laws.specs.Core.Ending.{ended}
 use Rattle.turn_client_proto_handshake_laws.specs.Core.Outcomes.{IsHandled, IsIgnored}
 use Rattle.turn_client_proto_handshake_laws.specs.Core.Permitting as permitting
 use Rattle.turn_client_proto_handshake_laws.specs.Core.Permitting.{IsGrantedFor, IsPermissionResponded, IsRefusedFor, refused, renews}
-use Rattle.turn_client_proto_handshake_laws.specs.Core.Receiving.{IsFollowed, IsProcessed, IsProcessedIn}
+use Rattle.turn_client_proto_handshake_laws.specs.Core.Receiving.{IsFollowed, IsProcessed, IsProcessedIn, is_unawaited}
 use Rattle.turn_client_proto_handshake_laws.specs.Core.Responding.{accepted, challenged, is_error_class, is_tired, judged}
 use Rattle.turn_client_proto_handshake_laws.specs.Core.Standing.{IsRequestedAgain, IsConnectResponded, IsJudgedStanding, IsRechallenged, IsRequestAnswered, IsSentAgain, IsTakenUp, after_connect, after_refresh, asks_again, deallocated, is_refreshed, refreshed}
 use Rattle.turn_client_proto_messages.specs.Judging.{IsJudged}
@@ -407,4 +407,5 @@ module _ (b : Beginning) (realm : List ℕ) (address : SocketAddr) where
   in_phase p is message decodes now handled q Ended served r = ignored_so p handled q is r
 
   pub processed_speaks : (p : Protocol) → Speaks b realm address p → (message : List ℕ) → ReportsRealm realm message → (now : ℕ) (handled : Bool) (q : Protocol) → IsProcessed p message now handled q → Speaking q
-  processed_speaks p is message decodes now handled q r = in_phase p is message decodes now handled q p.phase is.served r
+  processed_speaks p is message decodes now handled q r =
+      tested (is_unawaited p message) (λ _ x. ignored_so p handled q is x) (λ _ x. in_phase p is message decodes now handled q p.phase is.served x) r

@@ -29,6 +29,7 @@ use Rattle.turn_client_proto_handshake_laws.specs.Core.Attempting.{IsAttemptTake
 use Rattle.turn_client_proto_handshake_laws.specs.Core.Binding.{IsBindResponded}
 use Rattle.turn_client_proto_handshake_laws.specs.Core.Outcomes.{IsHandled, IsIgnored}
 use Rattle.turn_client_proto_handshake_laws.specs.Core.Permitting.{IsPermissionResponded}
+use Rattle.turn_client_proto_core.proofs.Awaiting.{processed_awaited}
 use Rattle.turn_client_proto_handshake_laws.specs.Core.Receiving.{IsFollowed, IsProcessed, IsProcessedIn}
 use Rattle.turn_client_proto_messages.specs.TurnRuns.Indications.{is_indication}
 use Rattle.turn_client_proto_handshake_laws.specs.Core.Responding.{accepted, is_error_class, judged}
@@ -158,7 +159,7 @@ module _ (b : Beginning) (c : Choice) (address : SocketAddr) (t : Term) (number 
 
   pub renews : IsProcessed p bytes now handled q → (handled ≡ true) × Keeps q
   renews processed =
-      let in_phase = subst (λ (f : Phase). IsProcessedIn f p bytes now handled q) w.phase processed in
+      let in_phase = subst (λ (f : Phase). IsProcessedIn f p bytes now handled q) w.phase (processed_awaited p bytes now handled q awaited processed) in
       let no_indication : is_indication (class_of (kind_at bytes)) ≡ false = ap is_indication is.success in
       let f = where_false (IsIgnored p handled q) (IsFollowed IsJudgedStanding p bytes now handled q) (is_indication (class_of (kind_at bytes))) no_indication in_phase in
       by_verdict f.verdict f.auth f.is_judged f.outcome

@@ -21,6 +21,7 @@ use Rattle.turn_client_proto_messages.specs.Allocation.declared.allocation.Alloc
 use Rattle.turn_client_proto_messages.specs.Api.declared.event.TurnEvent.{TurnEvent}
 use Rattle.turn_client_proto_handshake_laws.specs.Core.Attempting.{IsAttemptTaken}
 use Rattle.turn_client_proto_handshake_laws.specs.Core.Outcomes.{IsIgnored}
+use Rattle.turn_client_proto_core.proofs.Awaiting.{processed_awaited}
 use Rattle.turn_client_proto_handshake_laws.specs.Core.Receiving.{IsFollowed, IsProcessed, IsProcessedIn}
 use Rattle.turn_client_proto_handshake_laws.specs.Core.Responding.{accepted, judged}
 use Rattle.turn_client_proto_handshake_laws.specs.Core.Standing.{IsJudgedStanding, IsRequestAnswered}
@@ -78,7 +79,7 @@ module _ (h : Holder) (x : Requested) (older : List Requested) (a : Allocation) 
 
   pub success_processed : (now : ℕ) (handled : Bool) (q : Protocol) → IsProcessed p bytes now handled q → IsAccepted now handled q
   success_processed now handled q processed =
-      let in_phase : IsProcessedIn Authenticated p bytes now handled q = subst (λ (f : Phase). IsProcessedIn f p bytes now handled q) w.phase processed in
+      let in_phase : IsProcessedIn Authenticated p bytes now handled q = subst (λ (f : Phase). IsProcessedIn f p bytes now handled q) w.phase (processed_awaited p bytes now handled q awaited_is processed) in
       let no_indication : is_indication (class_of (kind_at bytes)) ≡ false = ap is_indication is.success in
       let f = where_false (IsIgnored p handled q) (IsFollowed IsJudgedStanding p bytes now handled q) (is_indication (class_of (kind_at bytes))) no_indication in_phase in
       by_verdict now handled q f.verdict f.auth f.is_judged f.outcome

@@ -1,5 +1,5 @@
 -- What a client that has not allocated does with a message is determined.
-use Rattle.std.proofs.Common.{ℕ, List, Option, Some, None, Ok, Err}
+use Rattle.std.proofs.Common.{ℕ, ◌&&◌, List, Option, Some, None, Ok, Err}
 use Rattle.turn_client_proto_timers.specs.StunTypesWire.Attributes.{kind_at}
 use Rattle.turn_client_proto_timers.specs.StunTypesWire.declared.class.MessageClass.{MessageClass}
 use Rattle.turn_client_proto_timers.specs.StunTypesWire.declared.class.MessageClass.TheVariants.{Request, Indication, Success, Error}
@@ -10,7 +10,7 @@ use Rattle.turn_client_proto_recv.specs.StunProtoClient.declared.validation.Long
 use Rattle.turn_client_proto_timers.specs.StunProtoAgent.Handling.{is_awaited}
 use Rattle.turn_client_proto_timers.specs.Messages.Reported.{lifetime_reported}
 use Rattle.turn_client_proto_timers.specs.Core.Allocating.{IsAllocatedFor, allocated, brought}
-use Rattle.turn_client_proto_timers.specs.Core.Authenticating.{IsAccepted, IsAllocateAnswered, IsAllocatingAgain, IsAskingForOther, IsChallenged, IsErrorAnswered, IsFirstJudged, IsSignedJudged, IsUnauthenticated, allocates_again, allocates_other, family_left}
+use Rattle.turn_client_proto_timers.specs.Core.Authenticating.{IsAccepted, IsAllocateAnswered, IsAllocatingAgain, IsAskingForOther, IsChallenged, IsErrorAnswered, IsFirstJudged, IsSignedJudged, IsUnauthenticated, allocates_again, allocates_other, ends_unsigned, family_left}
 use Rattle.turn_client_proto_timers.specs.Core.Ending.{ended}
 use Rattle.turn_client_proto_timers.specs.Core.Responding.{accepted, answered, challenged, is_tired}
 use Rattle.turn_client_proto_timers.specs.Core.declared.protocol.Protocol.{Protocol}
@@ -29,7 +29,7 @@ module _ (bytes : List ℕ) (now : ℕ) where
   challenged_definite p = tested (is_awaited p.agent bytes) (tested (is_tired p) (handled (ended p)) (again_definite p)) (ignored p)
 
   turned_definite : (p : Protocol) → IsDefinite (IsUnauthenticated p bytes)
-  turned_definite p = tested (is_awaited p.agent bytes) (handled (ended (answered bytes p))) (ignored p)
+  turned_definite p = tested (is_awaited p.agent bytes && ends_unsigned p bytes) (handled (ended (answered bytes p))) (ignored p)
 
   other_definite : (p : Protocol) (family : AddressFamily) → IsDefinite (IsAskingForOther p family now)
   other_definite p family = record {
@@ -67,7 +67,7 @@ module _ (bytes : List ℕ) (now : ℕ) where
   pub signed_definite : (verdict : Verdict) (p : Protocol) → IsDefinite (IsSignedJudged verdict p bytes now)
   signed_definite (Ok (ResendRequest choice)) p = challenged_definite p
   signed_definite (Ok (Validated algorithm)) p = accepted_definite p
-  signed_definite (Err (IntegrityFailed algorithm)) p = handled (ended p)
+  signed_definite (Err (IntegrityFailed algorithm)) p = tested p.auth.hardened (ignored p) (handled (ended p))
   signed_definite (Err NoMemory) p = never
   signed_definite (Err Unauthorized) p = ignored p
   signed_definite (Err UnsupportedFeature) p = ignored p

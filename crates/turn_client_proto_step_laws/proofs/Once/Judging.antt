@@ -48,7 +48,10 @@ strongest_same own offered Sha512 Sha512 x y = refl
 answerable_not : (client : Client) (reported : ChallengeFields) (choice : IntegrityAlgorithm) → IsAnswerable client reported choice → IsUnanswerable client reported → ⊥
 answerable_not client reported choice is cause = elim cause [
   | inl none ↦ Prim.cc (sym (none choice) ∙ is.strongest.common)
-  | inr known ↦ Prim.cc (sym known ∙ is.anonymous)
+  | inr other ↦ elim other [
+    | inl known ↦ Prim.cc (sym known ∙ is.anonymous)
+    | inr bare ↦ Prim.cc (sym bare ∙ is.listed)
+  ]
 ]
 
 module _ (old : Client) (bytes : List ℕ) (one other : Client) where

@@ -7,7 +7,7 @@ use Rattle.turn_client_proto_recv.specs.StunProtoClient.Client.{Client}
 use Rattle.turn_client_proto_timers.specs.StunProtoAgent.Handling.{is_response}
 use Rattle.turn_client_proto_timers.specs.Allocation.Awaited.{has_number}
 use Rattle.turn_client_proto_timers.specs.Core.Authenticating.{IsFirstJudged, IsSignedJudged}
-use Rattle.turn_client_proto_timers.specs.Core.Receiving.{Follows, IsFollowed, IsProcessed, IsProcessedIn}
+use Rattle.turn_client_proto_timers.specs.Core.Receiving.{Follows, IsFollowed, IsProcessed, IsProcessedIn, is_unawaited}
 use Rattle.turn_client_proto_timers.specs.TurnRuns.Indications.{is_indication}
 use Rattle.turn_client_proto_timers.specs.Core.Responding.{judged}
 use Rattle.turn_client_proto_timers.specs.Core.Standing.{IsJudgedStanding}
@@ -49,4 +49,4 @@ module _ (old : Protocol) (bytes : List ℕ) (now : ℕ) where
   processed_in Ended = ignored old
 
   pub processed_definite : IsDefinite (IsProcessed old bytes now)
-  processed_definite = processed_in old.phase
+  processed_definite = tested (is_unawaited old bytes) (ignored old) (processed_in old.phase)

@@ -44,7 +44,7 @@ use Rattle.turn_desk_progress_laws.specs.Joining.{IsBinding, IsSameDesk, KeepsOw
 use Rattle.turn_desk_progress_laws.specs.Linked.{IsOverTcp}
 use Rattle.turn_desk_progress_laws.specs.Rebinding.{IsTurned, IsAtStageAgain, Turned, turned}
 use Rattle.turn_desk_progress_laws.specs.Links.{Binding, Link}
-use Rattle.turn_desk_progress_laws.proofs.Challenged.{answers_other, hides_so, message_is, method_same, number_same, realm_is, takes_so}
+use Rattle.turn_desk_progress_laws.proofs.Challenged.{answers_other, hides_so, list_there, message_is, method_same, number_same, realm_is, takes_so}
 use Rattle.turn_desk_progress_laws.proofs.Same.{step_same}
 use Rattle.turn_desk_progress_laws.proofs.Successes.{IsMethod}
 use Rattle.turn_desk_progress_laws.proofs.Worlds.{IsFedOn, IsServedOn, desk_on, fed_on, moves, open_at, served_on}
@@ -92,6 +92,7 @@ module _ (c : goal.After-connections_are_listed) (plan : Plan) (old w v : World)
           old.desk.auth.algorithms old.desk.auth.anonymous_username s.desk.algorithms (desk.decodes own);
       hides = hides_so w.desk v.desk link.local text reply.items now (words_of seed) decision connection_bind_method is_method refl method_is served answered reported shows
           old.desk.auth.algorithms old.desk.auth.anonymous_username s.desk.algorithms (desk.decodes own);
+      listed = list_there w.desk v.desk link.local text reply.items now (words_of seed) decision connection_bind_method is_method refl method_is served answered reported shows;
     }
 
     message : refusal reply.items ≡ None
@@ -209,7 +210,7 @@ module _ (c : goal.After-connections_are_listed) (plan : Plan) (old w v : World)
               reported = a.reported;
               choice = is.0;
               of = a.of;
-              answered = record { strongest = is.1.strongest; anonymous = is.1.anonymous };
+              answered = record { strongest = is.1.strongest; anonymous = is.1.anonymous; listed = is.1.listed };
             };
             desk = desk_on plan old w v address lifetime link f.desk s.desk;
             events = s.events;

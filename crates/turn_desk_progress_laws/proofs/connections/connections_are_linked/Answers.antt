@@ -32,7 +32,7 @@ use Rattle.turn_desk_progress_laws.proofs.Clients.{draws}
 use Rattle.turn_desk_progress_laws.proofs.Indexes.{same_sent}
 use Rattle.turn_desk_progress_laws.specs.Joining.{IsTransmittedFor, IsPermitted, IsReported, OfNumber, IsAtStep, holder_in, permitted_in}
 use Rattle.turn_desk_progress_laws.specs.Linked.{IsOverTcp}
-use Rattle.turn_desk_progress_laws.specs.Links.{Called, Transmitted, IsSuccess, IsTimelyLink, Link, Off, Permitted, Reported, called, transmitted, decoded_by}
+use Rattle.turn_desk_progress_laws.specs.Links.{Called, Transmitted, IsSuccess, IsTimelyLink, Link, Off, Permitted, Reported, called, transmitted, brought_reply}
 use Rattle.turn_desk_progress_laws.proofs.Successes.{IsMethod, shows_number}
 use Rattle.turn_desk_progress_laws.proofs.Granting.{answered, message_so, part_so, stays_so, success_so}
 use Rattle.turn_desk_progress_laws.proofs.Worlds.{DoHold, connect_called, processed_on, stored_on, moves, served_on}
@@ -161,7 +161,7 @@ module _ (c : goal.After-messages_reach_holders) (plan : Plan) (old w v : World)
     own_step bytes ret step = subst (λ (r : Sent). IsStep (ToClient bytes r.to r.from link.first) w ret v) asking.transmitted.request_is step
 
     gives : (ret : Answer) (bytes : Vec ℕ Global) (rest : List ℕ) → BringsOn Tcp reply head bytes.items rest → IsStep (ToClient bytes request.to request.from link.first) w ret v
-        → IsAtStep plan old address lifetime link (decoded_by request reply (head ++ bytes.items) rest) v
+        → IsAtStep plan old address lifetime link (brought_reply request reply (head ++ bytes.items) rest) v
     gives ret bytes [] on step =
         let all : reply ≡ head ++ bytes.items = on.1 ∙ append-nil (head ++ bytes.items) in
         let processed = processed_on reach plan.client tcp.over w v s.client.core asking.transmitted.is.settings head s.client.there bytes link.first ret timely.in_range on.0 (own_step bytes ret step) reply all asking.message (ap is_indication asking.success.success) in

@@ -292,7 +292,11 @@ module _ (c : goal.After-holders_can_ask) (plan : Plan) (old : World) (fresh : I
           reported = h.choice.reported;
           choice = h.choice.algorithm;
           of = h.of;
-          answered = record { strongest = h.chosen.answered.strongest; anonymous = h.chosen.answered.anonymous };
+          answered = record {
+            strongest = h.chosen.answered.strongest;
+            anonymous = h.chosen.answered.anonymous;
+            listed = h.chosen.answered.listed;
+          };
         };
         desk = run_same link old old new pairs run (record { realm = refl; users = refl; algorithms = refl; anonymous = refl; decodes = λ own. own });
         events = h.left;
