@@ -5,6 +5,7 @@ pub use Rattle.turn_desk_core.specs.AuthLending
 pub use Rattle.turn_desk_core.specs.DeskCalls
 pub use Rattle.turn_desk_core.specs.DeskIsolation
 pub use Rattle.turn_desk_core.specs.DeskSteps
+pub use Rattle.turn_desk_core.specs.ForbiddenPeers
 pub use Rattle.turn_desk_core.specs.Granted
 pub use Rattle.turn_desk_core.specs.Grants
 pub use Rattle.turn_desk_core.specs.Replies

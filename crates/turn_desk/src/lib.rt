@@ -4,6 +4,7 @@
 //! - A [`Desk`] is a server core. It replies as a [`Decision`] of the application says.
 //! - A [`World`] is a simulation: a server core, a client, and a network that may deliver any bytes
 //!   to either of them at any time. It takes [`event`]s and returns their [`answer`]s.
+//! - [`is_forbidden_peer`] returns whether such a decision should refuse a peer by default.
 //! - [`replay`] executes a written list of events.
 //!
 //! `desk_steps`, `desks_answer_alike` and `addresses_are_isolated` are theorems on server cores.
@@ -13,6 +14,7 @@
 
 pub use turn_desk_core::decision::Decision;
 pub use turn_desk_core::desk::Desk;
+pub use turn_desk_core::forbidden_peers::is_forbidden_peer;
 pub use turn_desk_core::grant::Grant;
 pub use turn_desk_core::laws::{addresses_are_isolated, desk_steps, desks_answer_alike};
 pub use turn_desk_event::{answer, event};

@@ -1,3 +1,4 @@
+pub mod ForbiddenPeers
 pub mod Granted
 pub mod Replies
 pub mod RequestedFor

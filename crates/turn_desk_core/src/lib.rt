@@ -6,6 +6,7 @@ pub mod allocated;
 pub mod decision;
 pub mod desk;
 pub mod failure;
+pub mod forbidden_peers;
 pub mod grant;
 pub mod granted;
 pub mod laws;
