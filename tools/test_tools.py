@@ -343,6 +343,7 @@ class Version(unittest.TestCase):
     """What states another version than VERSION, in a copy of the files that state one."""
 
     HEADER, CARGO = "bindings/c/include/turn_client.h", "bindings/rust/Cargo.toml"
+    LIBRARY = "crates/turn_client_c/src/lib.rt"
     WHEEL, CHANGES = "bindings/python/make_wheel.py", "CHANGELOG.md"
     DIST = "dist/x86_64-linux-gnu"
 
@@ -351,7 +352,7 @@ class Version(unittest.TestCase):
         self.addCleanup(room.cleanup)
         self.top = Path(room.name)
         files = ("MANIFEST", "turn_client.pc", "turn_client.h")
-        copied = ("VERSION", "bindings/c/build", self.HEADER, self.CARGO, self.WHEEL, self.CHANGES)
+        copied = ("VERSION", "bindings/c/build", self.HEADER, self.CARGO, self.LIBRARY, self.WHEEL, self.CHANGES)
         for file in (*copied, *(f"{self.DIST}/{it}" for it in files)):
             self.top.joinpath(file).parent.mkdir(parents=True, exist_ok=True)
             shutil.copy(TOP / file, self.top / file)
@@ -379,11 +380,15 @@ class Version(unittest.TestCase):
         self.assertEqual(self.check()[:2], (0, []))
 
     def test_a_wrong_version_is_seen_in_each_place(self):
-        stands, parts = self.stands, dict(zip(("MAJOR", "MINOR", "PATCH"), self.stands.split(".")))
+        stands, number = self.stands, version.number_of(self.stands)
+        parts = dict(zip(("MAJOR", "MINOR", "PATCH"), stands.split(".")))
         read = '(HERE.parents[1] / "VERSION").read_text(encoding="utf-8").strip()'
         rows = (
             (self.HEADER, f'VERSION "{stands}"', 'VERSION "9.8.7"', "TURN_CLIENT_VERSION states 9.8.7"),
             *((self.HEADER, f"_{it} {parts[it]}", f"_{it} 9", f"TURN_CLIENT_VERSION_{it} states 9") for it in parts),
+            (self.HEADER, f"_NUMBER {number}", "_NUMBER 90807", "TURN_CLIENT_VERSION_NUMBER states 90807"),
+            (self.LIBRARY, f"VERSION: u32 = {number};", "VERSION: u32 = 90807;", "turn_client_c: VERSION states 90807"),
+            (self.LIBRARY, f"result ≡ {number} }}", "result ≡ 90807 }", "turn_client_version states 90807"),
             (self.CARGO, f'version = "{stands}"', 'version = "9.8.7"', f"{self.CARGO} states 9.8.7"),
             (self.WHEEL, read, '"9.8.7"', f"{self.WHEEL}: VERSION states 9.8.7"),
             (self.WHEEL, "Version: {VERSION}", "Version: 9.8.7", f"{self.WHEEL}: METADATA states 9.8.7"),

@@ -9,7 +9,7 @@
 #include <stdlib.h>
 #include <string.h>
 
-enum { SERVER_PORT = 3478 };
+enum { SERVER_PORT = 3478, PASSWORD_MAX = 1000 };
 
 /* ---- values */
 
@@ -53,14 +53,31 @@ static bool read_address(const char *text, uint32_t port, turn_address *address)
     return address->family != 0 && port != 0;
 }
 
+/* The first line of a file, without its end; NULL where there is none, or it is too long. */
+static const char *read_password(const char *file)
+{
+    static char line[PASSWORD_MAX + 2];
+    FILE *in = fopen(file, "r");
+    const bool is_read = in != NULL && fgets(line, sizeof line, in) != NULL;
+    if (in != NULL)
+        fclose(in);
+    const size_t len = is_read ? strcspn(line, "\r\n") : sizeof line;
+    if (len > PASSWORD_MAX)
+        return NULL;
+    line[len] = '\0';
+    return line;
+}
+
 /* ---- options */
 
 static const char usage[] =
     "turn_client OPTION..: asks a TURN server for an address, and sends payloads through it to a peer\n"
     "  --server ADDRESS      IP or IP:PORT, of IPv6 [IP]:PORT; without a port 3478\n"
-    "  --user NAME, --password TEXT\n"
+    "  --user NAME           whose address it is. The password is that of the variable TURN_PASSWORD, or of\n"
+    "  --password-file FILE  its first line; or of\n"
+    "  --password TEXT       which other users of the machine can see while the program runs\n"
     "  --family 4|6|both     of the address that is asked for; without it 4\n"
-    "  --algorithms sha1|sha256|sha512|both|all   that are supported, both of the first two; without it sha1\n"
+    "  --algorithms sha1|sha256|sha512|both|all   that are supported, both of the first two; without it both\n"
     "  --tcp                 a connection over TCP to the server; peers are reached over UDP\n"
     "  --peer ADDRESS        the peer, which is to send back what it gets\n"
     "  --echo                in its place one of this program's own, on loopback\n"
@@ -76,7 +93,8 @@ static const char usage[] =
 
 static const struct option names[] = {
     {"server", required_argument, NULL, 's'},   {"user", required_argument, NULL, 'u'},
-    {"password", required_argument, NULL, 'p'}, {"family", required_argument, NULL, 'f'},
+    {"password", required_argument, NULL, 'p'}, {"password-file", required_argument, NULL, 'w'},
+    {"family", required_argument, NULL, 'f'},
     {"algorithms", required_argument, NULL, 'a'}, {"tcp", no_argument, NULL, 't'},
     {"peer", required_argument, NULL, 'r'},     {"echo", no_argument, NULL, 'e'},
     {"count", required_argument, NULL, 'c'},    {"size", required_argument, NULL, 'b'},
@@ -115,6 +133,7 @@ static bool take_option(struct options *o, int option, const char *value)
     case 's': return read_address(value, SERVER_PORT, &o->server);
     case 'u': o->user = value; return true;
     case 'p': o->password = value; return true;
+    case 'w': return (o->password = read_password(value)) != NULL;
     case 'f': return read_bits(value, families, &o->families);
     case 'a': return read_bits(value, algorithms, &o->integrity);
     case 't': return o->is_over_tcp = true;
@@ -145,8 +164,8 @@ static const char *wrong_with(const struct options *o)
 int read_options(int argc, char **argv, struct options *options)
 {
     int option;
-    *options = (struct options){.families = TURN_IPV4, .integrity = TURN_SHA1,
-                                .count = 10, .size = 100, .interval = 20};
+    *options = (struct options){.password = getenv("TURN_PASSWORD"), .families = TURN_IPV4,
+                                .integrity = TURN_SHA1 | TURN_SHA256, .count = 10, .size = 100, .interval = 20};
     while ((option = getopt_long(argc, argv, "h", names, NULL)) != -1) {
         if (option == 'h') {
             fputs(usage, stdout);

@@ -11,7 +11,7 @@ enum { LEAST_SIZE = 4, MOST_SIZE = 60000, MOST_COUNT = 1000000 };
 
 struct options {
     turn_address server, peer;      /* of no peer the family is 0 */
-    const char *user, *password;
+    const char *user, *password;    /* the password: of a file, of TURN_PASSWORD, or of the command line */
     uint32_t families, integrity;   /* as those of turn_settings */
     bool is_over_tcp, has_echo, has_no_channel, is_quiet;
     uint32_t count, size;           /* of payloads */

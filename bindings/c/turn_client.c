@@ -4,7 +4,7 @@
  *
  *     export PKG_CONFIG_PATH=../../dist/x86_64-linux-gnu
  *     cc -std=c11 turn_client.c options.c sockets.c tally.c $(pkg-config --cflags --libs turn_client) -o turn_client
- *     ./turn_client --server 127.0.0.1 --user alice --password secret --echo
+ *     TURN_PASSWORD=secret ./turn_client --server 127.0.0.1 --user alice --echo
  *
  * `./coturn` at the top does that, with a server of its own. PKG_CONFIG_PATH may also be a folder that `build` made.
  * `--help` tells the options and the exit status. The client itself does no input or output: its sockets and its clock
@@ -367,8 +367,8 @@ static bool open_client(struct run *run)
         fail(run, FAILED, "no random bytes: %s", strerror(errno));
         return false;
     }
-    run->settings = (turn_settings){.local = own_address(run->line.fd), .server = o->server,
-                                    .transport = o->is_over_tcp ? TURN_TCP : TURN_UDP,
+    run->settings = (turn_settings){.size = sizeof run->settings, .local = own_address(run->line.fd),
+                                    .server = o->server, .transport = o->is_over_tcp ? TURN_TCP : TURN_UDP,
                                     .families = o->families, .integrity = o->integrity};
     const int32_t status = turn_client_open(&run->client, &run->settings, o->user, strlen(o->user), o->password,
                                             strlen(o->password), &seed);

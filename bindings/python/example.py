@@ -1,7 +1,7 @@
 #!/usr/bin/env python3
 """example.py: asks a TURN server for an address, and sends payloads through it to a peer that sends them back.
 
-    python3 bindings/python/example.py --server 127.0.0.1:3478 --user alice --password secret --echo
+    TURN_PASSWORD=secret python3 bindings/python/example.py --server 127.0.0.1:3478 --user alice --echo
 
 With --connect the address is one over TCP (RFC 6062), and the payloads go over a connection to the peer. `--help` tells
 the options and the exit status. The client itself does no input or output: its sockets and its clock are of asyncio.
@@ -13,10 +13,12 @@ import argparse
 import asyncio
 import contextlib
 import ipaddress
+import os
 import statistics
 import sys
 import time
 from collections.abc import Callable, Coroutine
+from pathlib import Path
 from typing import Any, Protocol
 
 from turn_client import (
@@ -472,7 +474,7 @@ async def send_all(session: Session, options: argparse.Namespace, peer: Address,
 async def opened(options: argparse.Namespace, peer: Address | None, tally: Tally) -> Session:
     family = Families.IPV6 if ":" in (peer or options.server)[0] else Families.IPV4
     config = TurnConfig(options.user, options.password, options.between, family,
-                        Integrity.SHA256 if options.sha256 else Integrity.SHA1)
+                        Integrity.SHA256 if options.sha256 else Integrity.SHA1 | Integrity.SHA256)
     line = await open_line(options.server, options.tcp)
     try:
         client = TurnClient(line.own, options.server, config, Transport.TCP if options.tcp else Transport.UDP)
@@ -537,12 +539,21 @@ def bounded(least: int, most: int) -> Callable[[str], int]:
     return number
 
 
+def first_line(file: str) -> str:
+    try:
+        return Path(file).read_text(encoding="utf-8").partition("\n")[0].rstrip("\r")
+    except (OSError, UnicodeError) as error:
+        raise argparse.ArgumentTypeError(f"{file}: {error}") from None
+
+
 def read_options() -> argparse.Namespace:
     parser = argparse.ArgumentParser(allow_abbrev=False, epilog=STATUSES)
     add = parser.add_argument
     add("--server", type=read_address, required=True, metavar="IP:PORT", help="of IPv6 [IP]:PORT")
     add("--user", required=True)
-    add("--password", required=True)
+    add("--password-file", dest="password", type=first_line, metavar="FILE", default=os.environ.get("TURN_PASSWORD"),
+        help="its first line is the password; without it that is the variable TURN_PASSWORD")
+    add("--password", help="the password, which other users of the machine can see while the program runs")
     add("--tcp", action="store_true", help="a connection over TCP to the server; peers are reached over UDP")
     add("--peer", type=read_address, metavar="IP:PORT", help="the peer, which is to send back what it gets")
     add("--connect", type=read_address, metavar="IP:PORT",
@@ -554,8 +565,11 @@ def read_options() -> argparse.Namespace:
     add("--seconds", type=bounded(0, MOST_COUNT), default=0, help="how long the address is kept at least, "
         "over which the payloads are spread; without it 0")
     add("--indications", action="store_true", help="no channel: each payload goes in an indication")
-    add("--sha256", action="store_true", help="requests are signed by HMAC-SHA256 alone")
+    add("--sha256", action="store_true", help="requests are signed by HMAC-SHA256 alone; without it by that "
+        "or HMAC-SHA1")
     options = parser.parse_args()
+    if options.password is None:
+        parser.error("a password is wanted: TURN_PASSWORD, --password-file or --password")
     options.is_connection = options.connect is not None
     options.between = Transport.TCP if options.is_connection else Transport.UDP
     if options.is_connection and (not options.tcp or options.peer or options.indications):

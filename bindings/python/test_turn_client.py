@@ -59,6 +59,7 @@ REFUSALS = {
     "TURN_NO_PERMISSION": turn_client.NoPermission, "TURN_NO_CHANNEL": turn_client.NoChannel,
     "TURN_EXPIRED_CHANNEL": turn_client.ExpiredChannelExists, "TURN_NO_SOCKET": turn_client.NoTcpSocket,
     "TURN_TOO_LARGE": turn_client.TooLarge, "TURN_NO_MEMORY": turn_client.NoMemory,
+    "TURN_ZERO_SEED": turn_client.ZeroSeed, "TURN_BAD_LENGTH": turn_client.BadLength,
 }
 EVENTS = {
     "AllocationCreated": "TURN_ALLOCATION_CREATED", "AllocationCreateFailed": "TURN_ALLOCATION_FAILED",
@@ -360,8 +361,8 @@ class Refusals(unittest.TestCase):
             self.assertIs(type(caught.exception), kind)
             self.assertRegex(str(caught.exception), "^[A-Za-z].* .*[.]$")
         self.assertEqual(turn_client._checked(NUMBERS["TURN_CLOSE_SOCKET"]), NUMBERS["TURN_CLOSE_SOCKET"])
-        with self.assertRaisesRegex(turn_client.TurnError, "-17"):
-            turn_client._checked(-17)
+        with self.assertRaisesRegex(turn_client.TurnError, "-99"):
+            turn_client._checked(-99)
 
     def test_opening(self) -> None:
         def opens(name: str = "alice", word: str = "secret", **more: Any) -> None:
@@ -374,10 +375,27 @@ class Refusals(unittest.TestCase):
             (turn_client.BadText, {"name": "\ud800"}), (turn_client.BadText, {"word": "\udfff"}),
             (turn_client.BadSetting, {"allocation_transport": turn_client.Transport.TCP}),
             (turn_client.BadSetting, {"address_families": 4}),
+            (turn_client.BadSetting, {"anonymous_username": 3}),
         ]
         for kind, given in cases:
             with self.subTest(kind.__name__), self.assertRaises(kind):
                 opens(**given)
+
+    def test_seeds(self) -> None:
+        config = turn_client.TurnConfig("alice", "secret")
+
+        def first(seed: bytes | None) -> bytes:
+            with turn_client.TurnClient(read(base.OWN), read(base.SERVER), config, seed=seed) as client:
+                return client.poll_transmit(0).data
+
+        with self.assertRaises(turn_client.ZeroSeed):
+            first(bytes(32))
+        self.assertEqual(first(base.SEED), first(base.SEED))
+        self.assertNotEqual(first(None), first(None))
+
+    def test_algorithms(self) -> None:
+        config = turn_client.TurnConfig("alice", "secret")
+        self.assertEqual(config.supported_integrity, turn_client.Integrity.SHA1 | turn_client.Integrity.SHA256)
 
     @unittest.skipIf(IS_UNPROVED, "all channels take minutes where nothing is optimised")
     def test_all_channels(self) -> None:
@@ -395,6 +413,9 @@ class Refusals(unittest.TestCase):
             client._open(turn_client.TurnConfig("alice", "secret"), base.SEED)
         with self.assertRaises(turn_client.BadFamily):
             client._status("permit", turn_client.Transport.UDP, turn_client._Address(), now)
+        room = ctypes.create_string_buffer(1)
+        with self.assertRaises(turn_client.BadLength):
+            client._status("feed", client._server, client._local, room, -1, now, turn_client._Payload())
         with self.assertRaises(turn_client.SmallBuffer):
             client._status("draw", now, ctypes.create_string_buffer(1), 1, turn_client._Transmit())
 
@@ -630,7 +651,7 @@ class Structs(unittest.TestCase):
         want = {
             "TURN_NAME_MAX": turn_client.NAME_MAX, "TURN_PAYLOAD_MAX": turn_client.PAYLOAD_MAX,
             "TURN_MOMENT_MAX": turn_client.MOMENT_MAX, "TURN_MESSAGE_MAX": turn_client._MESSAGE_MAX,
-            "TURN_SEND_EXTRA": turn_client._SEND_EXTRA,
+            "TURN_SEND_EXTRA": turn_client._SEND_EXTRA, "TURN_CLIENT_VERSION_NUMBER": turn_client.library_version(),
             "TURN_NOTHING": turn_client._NOTHING, "TURN_IGNORED": turn_client._IGNORED,
             "TURN_PAYLOAD": turn_client._PAYLOAD, "TURN_ICMP": turn_client._ICMP, "TURN_CLOSED": turn_client._CLOSED,
             "TURN_OPEN_SOCKET": turn_client._OPEN_SOCKET, "TURN_CLOSE_SOCKET": turn_client._CLOSE_SOCKET,

@@ -12,7 +12,8 @@ earlier than one before, and none is past MOMENT_MAX. A ValueError tells an addr
 that can't be one: then nothing has changed.
 
 Calls may come from any thread: one waits for the other. None is to be made in a signal handler, which might wait for
-the call that it interrupted. After a fork one of the two processes is to leave the client alone.
+the call that it interrupted. After a fork one of the two processes goes on with a client, and the other at most closes
+it: two that go on send the same transaction IDs.
 """
 
 from __future__ import annotations
@@ -22,6 +23,7 @@ import enum
 import ipaddress
 import os
 import platform
+import secrets
 import socket
 import sys
 import threading
@@ -156,6 +158,18 @@ class NoMemory(TurnError):
     status = -16
 
 
+class ZeroSeed(TurnError):
+    """A seed of zeros."""
+
+    status = -17
+
+
+class BadLength(TurnError):
+    """A length that nothing has. This module hands in none."""
+
+    status = -18
+
+
 _REFUSALS = {kind.status: kind for kind in TurnError.__subclasses__()}
 
 
@@ -213,15 +227,18 @@ class RequestRetransmits:
 @dataclass(frozen=True)
 class TurnConfig:
     """What a client asks for, and how. allocation_transport is the one between the server and peers: TCP wants TCP to
-    the server, too (RFC 6062). Without request_retransmits waits are those of RFC 8489."""
+    the server, too (RFC 6062). Without request_retransmits waits are those of RFC 8489. A hardened client ignores
+    responses to no request of its own, refuses a challenge that lacks the list of algorithms which its nonce announces,
+    and ignores what doesn't validate while it allocates."""
 
     username: str
     password: str = field(repr=False)
     allocation_transport: Transport = Transport.UDP
     address_families: Families = Families.IPV4
-    supported_integrity: Integrity = Integrity.SHA1
+    supported_integrity: Integrity = Integrity.SHA1 | Integrity.SHA256
     anonymous_username: Anonymous = Anonymous.AUTO
     request_retransmits: RequestRetransmits | None = None
+    hardened: bool = True
 
 
 # ---- answers
@@ -387,10 +404,10 @@ class _Address(ctypes.Structure):
 
 class _Settings(ctypes.Structure):
     _fields_ = [
-        ("local", _Address), ("server", _Address), ("transport", ctypes.c_uint32), ("peers", ctypes.c_uint32),
-        ("families", ctypes.c_uint32), ("integrity", ctypes.c_uint32), ("anonymous", ctypes.c_uint32),
-        ("sends", ctypes.c_uint32), ("first_wait", ctypes.c_uint32), ("most_wait", ctypes.c_uint32),
-        ("last_wait", ctypes.c_uint32),
+        ("size", ctypes.c_size_t), ("local", _Address), ("server", _Address), ("transport", ctypes.c_uint32),
+        ("peers", ctypes.c_uint32), ("families", ctypes.c_uint32), ("integrity", ctypes.c_uint32),
+        ("anonymous", ctypes.c_uint32), ("sends", ctypes.c_uint32), ("first_wait", ctypes.c_uint32),
+        ("most_wait", ctypes.c_uint32), ("last_wait", ctypes.c_uint32), ("compatible", ctypes.c_uint32),
     ]
 
 
@@ -525,15 +542,22 @@ def _loaded(path: Path) -> dict[str, Callable[..., Any]]:
         warnings.warn(f"{path} is NOT PROVED", stacklevel=1)
     try:
         library = ctypes.CDLL(str(path))
-        calls: dict[str, Any] = {name: getattr(library, f"turn_client_{name}") for name in _CALLS}
+        calls: dict[str, Any] = {name: getattr(library, f"turn_client_{name}") for name in (*_CALLS, "version")}
     except (OSError, AttributeError) as error:
         raise ImportError(f"{error}\nthe library of turn_client can't be loaded from {path}") from error
     for name, (answer, given) in _CALLS.items():
         calls[name].restype, calls[name].argtypes = answer, [ctypes.POINTER(_Client), *given]
+    calls["version"].restype, calls["version"].argtypes = ctypes.c_uint32, []
     return calls
 
 
 _CALL = _loaded(_library())
+
+
+def library_version() -> int:
+    """The version of the library that is loaded: major * 10000 + minor * 100 + patch."""
+    number: int = _CALL["version"]()
+    return number
 
 
 # ---- values
@@ -601,12 +625,12 @@ class TurnClient:
     connections. Nothing is sent before poll_transmit gives it. It is freed by close, at the end of a `with`, and when
     nobody knows it any more; the server is told nothing by that: see delete.
 
-    The seed, where there is one, is 32 random bytes. It is for tests: without it they are the system's (os.urandom), as
-    they have to be."""
+    The seed, where there is one, is 32 random bytes. It is for tests: without it they are the system's
+    (secrets.token_bytes), as they have to be. A seed of zeros is refused."""
 
     def __init__(self, local: Address, server: Address, config: TurnConfig, transport: Transport = Transport.UDP, *,
                  seed: bytes | None = None) -> None:
-        """BadSetting, BadText, LongName, NoMemory."""
+        """BadSetting, BadText, LongName, ZeroSeed, NoMemory."""
         self.local_addr, self.remote_addr, self.transport = local, server, transport
         self._local, self._server = _to_c(local), _to_c(server)
         self._lock = threading.Lock()
@@ -614,18 +638,18 @@ class TurnClient:
         self._out = ctypes.create_string_buffer(_MESSAGE_MAX)
         self._free = weakref.finalize(self, _CALL["close"], self._client)
         self._free.atexit = False  # another thread may be in a call when the program ends
-        self._open(config, os.urandom(_SEED_SIZE) if seed is None else seed)
+        self._open(config, secrets.token_bytes(_SEED_SIZE) if seed is None else seed)
 
     def _open(self, config: TurnConfig, seed: bytes) -> None:
         if len(seed) != _SEED_SIZE:
             raise ValueError(f"a seed of {len(seed)} bytes: {_SEED_SIZE} are wanted")
         waits = config.request_retransmits or RequestRetransmits(0, 0, 0, 0)
         settings = _Settings(
-            local=self._local, server=self._server, transport=_word(self.transport),
+            size=ctypes.sizeof(_Settings), local=self._local, server=self._server, transport=_word(self.transport),
             peers=_word(config.allocation_transport), families=_word(config.address_families),
             integrity=_word(config.supported_integrity), anonymous=_word(config.anonymous_username),
             sends=_word(waits.sends), first_wait=_word(waits.first_wait), most_wait=_word(waits.most_wait),
-            last_wait=_word(waits.last_wait))
+            last_wait=_word(waits.last_wait), compatible=int(not config.hardened))
         name, password = (it.encode("utf-8", "surrogatepass") for it in (config.username, config.password))
         self._status("open", settings, name, len(name), password, len(password), _Seed.from_buffer_copy(seed))
 

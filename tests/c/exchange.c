@@ -214,6 +214,9 @@ static void walk(const struct exchange *exchange)
 
 /* ---- opening */
 
+/* Lengths that no object has. To some of them a sum adds up to a small number. */
+static const size_t bad_lengths[] = {(size_t)PTRDIFF_MAX + 1, SIZE_MAX - 64, SIZE_MAX - 63, SIZE_MAX - 1, SIZE_MAX};
+
 static void refuse_settings(const turn_settings *settings, int32_t want, const char *why)
 {
     turn_client client = TURN_CLIENT_INIT;
@@ -234,6 +237,7 @@ static void refuse_numbers(const turn_settings *good)
         {offsetof(turn_settings, families), 4}, {offsetof(turn_settings, families), 1 | 8},
         {offsetof(turn_settings, integrity), 8}, {offsetof(turn_settings, integrity), UINT32_MAX},
         {offsetof(turn_settings, anonymous), 3}, {offsetof(turn_settings, anonymous), 256},
+        {offsetof(turn_settings, compatible), 2}, {offsetof(turn_settings, compatible), UINT32_MAX},
     };
     for (size_t i = 0; i < sizeof wrong / sizeof *wrong; i++) {
         turn_settings settings = *good;
@@ -279,6 +283,71 @@ static void open_names(const turn_settings *good)
     }
 }
 
+/* Sizes that the settings do not have. They are checked before the rest of the settings. */
+static void refuse_sizes(const turn_settings *good)
+{
+    static const size_t sizes[] = {0, 1, sizeof(turn_settings) - 1, sizeof(turn_settings) + 8, SIZE_MAX};
+    for (size_t i = 0; i < sizeof sizes / sizeof *sizes; i++) {
+        turn_settings settings = *good;
+        settings.size = sizes[i];
+        refuse_settings(&settings, TURN_BAD_SETTING, "another size");
+        settings.local.family = 0;
+        refuse_settings(&settings, TURN_BAD_SETTING, "another size, and a bad family");
+    }
+    turn_settings settings = *good;
+    settings.local.family = 0;
+    settings.peers = 5;
+    refuse_settings(&settings, TURN_BAD_FAMILY, "a bad family, and a bad number");
+    settings = (turn_settings)TURN_SETTINGS_INIT;
+    check(settings.size == sizeof settings && settings.last_wait == 0, "the settings to begin with state their size");
+    settings.local = good->local;
+    settings.server = good->server;
+    turn_client client = TURN_CLIENT_INIT;
+    check_answer(open_with(&client, &settings, sample_user, sample_password), TURN_OK, "open", "the least settings");
+    turn_client_close(&client);
+}
+
+/* Opens under a seed with one byte that is not zero, or none. */
+static int32_t open_seeded(turn_client *client, const turn_settings *settings, size_t name_len, size_t which)
+{
+    static const char name[TURN_NAME_MAX + 1];
+    turn_seed seed = {{0}};
+    if (which < sizeof seed.bytes)
+        seed.bytes[which] = 1;
+    return turn_client_open(client, settings, name, name_len, "secret", 6, &seed);
+}
+
+static void open_seeds(const turn_settings *good)
+{
+    turn_client client = TURN_CLIENT_INIT;
+    check_answer(open_seeded(&client, good, 5, 32), TURN_ZERO_SEED, "open", "a seed of zeros");
+    check(client.private_client == NULL && !client.private_is_open, "a handle that wasn't opened stays as it was");
+    check_answer(open_seeded(&client, good, TURN_NAME_MAX + 1, 32), TURN_LONG_NAME, "open", "the name comes first");
+    for (size_t which = 0; which < 32; which++) {
+        check_answer(open_seeded(&client, good, 5, which), TURN_OK, "open", "a seed with one byte");
+        check_answer(open_seeded(&client, good, 5, 32), TURN_ALREADY_OPEN, "open", "the handle comes first");
+        turn_client_close(&client);
+    }
+}
+
+/* Lengths that no object has, and the order in which they are checked. */
+static void open_lengths(const turn_settings *good)
+{
+    static const char name[] = "alice", latin[] = "M\xfcl";
+    turn_client client = TURN_CLIENT_INIT;
+    turn_settings bad = *good;
+    const turn_seed zero = {{0}};
+    bad.peers = 5;
+    for (size_t i = 0; i < sizeof bad_lengths / sizeof *bad_lengths; i++) {
+        const size_t len = bad_lengths[i];
+        check_answer(turn_client_open(&client, good, name, len, name, 5, &zero), TURN_BAD_LENGTH, "open", "a name");
+        check_answer(turn_client_open(&client, good, latin, 3, name, len, &zero), TURN_BAD_LENGTH, "open",
+                     "a password");
+        check_answer(turn_client_open(&client, &bad, name, len, name, 5, &zero), TURN_BAD_SETTING, "open",
+                     "the settings come first");
+    }
+}
+
 static void openings(void)
 {
     const unsigned long passed_before = passed, failed_before = failed;
@@ -287,7 +356,85 @@ static void openings(void)
     refuse_numbers(good);
     refuse_addresses(good);
     open_names(good);
+    refuse_sizes(good);
+    open_seeds(good);
+    open_lengths(good);
+    check(turn_client_version() == TURN_CLIENT_VERSION_NUMBER, "header and library are of one version");
     printf("openings: %lu passed, %lu failed\n", passed - passed_before, failed - failed_before);
+}
+
+/* ---- lengths and null */
+
+static void feed_lengths(turn_client *client, const turn_settings *s, bool is_open)
+{
+    static const turn_address none = {{0}, 0, 0};
+    const uint8_t byte = 0;
+    turn_payload payload;
+    for (size_t i = 0; i < sizeof bad_lengths / sizeof *bad_lengths; i++) {
+        const size_t len = bad_lengths[i];
+        check_answer(turn_client_feed(client, &s->server, &s->local, &byte, len, 0, &payload), TURN_BAD_LENGTH, "feed",
+                     "a length that nothing has");
+        check_answer(turn_client_feed(client, &s->server, &none, &byte, len, 0, &payload), TURN_BAD_FAMILY, "feed",
+                     "the family comes first");
+    }
+    check_answer(turn_client_feed(client, &s->server, &s->local, NULL, 0, 0, &payload),
+                 is_open ? TURN_IGNORED : TURN_NO_CLIENT, "feed", "no bytes, by a null pointer");
+}
+
+static void send_lengths(turn_client *client, const turn_settings *s, bool is_open)
+{
+    static uint8_t out[TURN_SEND_EXTRA];
+    const turn_address *to = &s->server;
+    const uint8_t byte = 0;
+    turn_transmit transmit;
+    for (size_t i = 0; i < sizeof bad_lengths / sizeof *bad_lengths; i++) {
+        const size_t len = bad_lengths[i];
+        check_answer(turn_client_send(client, TURN_UDP, to, &byte, len, 0, out, sizeof out, &transmit), TURN_BAD_LENGTH,
+                     "send", "a payload of a length that nothing has");
+        check_answer(turn_client_send(client, TURN_UDP, to, &byte, 1, 0, out, len, &transmit), TURN_BAD_LENGTH, "send",
+                     "a buffer of a length that nothing has");
+        check_answer(turn_client_send(client, 0, to, &byte, len, 0, out, 0, &transmit), TURN_BAD_SETTING, "send",
+                     "the transport comes first");
+        check_answer(turn_client_draw(client, 0, out, len, &transmit), TURN_BAD_LENGTH, "draw", "a buffer");
+        check_answer(turn_client_read(client, out, len), TURN_BAD_LENGTH, "read", "a buffer");
+    }
+    const size_t small[] = {1, 2, PTRDIFF_MAX - 63, PTRDIFF_MAX};
+    for (size_t i = 0; i < sizeof small / sizeof *small; i++)
+        check_answer(turn_client_send(client, TURN_UDP, to, &byte, small[i], 0, out, sizeof out, &transmit),
+                     TURN_SMALL_BUFFER, "send", "a buffer with too little room");
+    for (size_t room = 0; room <= sizeof out; room++)
+        check_answer(turn_client_send(client, TURN_UDP, to, NULL, 0, 0, out, room, &transmit),
+                     room < sizeof out ? TURN_SMALL_BUFFER : is_open ? TURN_NO_PERMISSION : TURN_NO_CLIENT, "send",
+                     "no bytes, by a null pointer");
+    check_answer(turn_client_send(client, TURN_UDP, to, NULL, 0, 0, NULL, 0, &transmit), TURN_SMALL_BUFFER, "send",
+                 "no buffer");
+    check_answer(turn_client_draw(client, 0, NULL, 0, &transmit), TURN_SMALL_BUFFER, "draw", "no buffer");
+    check_answer(turn_client_read(client, NULL, 0), is_open ? TURN_NOTHING : TURN_NO_CLIENT, "read", "no buffer");
+}
+
+static void list_by_null(turn_client *client, const turn_settings *s)
+{
+    check(turn_client_relayed(client, NULL, 0) == 0 && turn_client_channels(client, NULL, 0) == 0
+              && turn_client_connections(client, NULL, 0) == 0
+              && turn_client_permissions(client, TURN_UDP, &s->local, NULL, 0) == 0, "lists without room, by null");
+}
+
+static void lengths(void)
+{
+    const unsigned long passed_before = passed, failed_before = failed;
+    const turn_settings *good = &exchanges[0].settings;
+    turn_client client = TURN_CLIENT_INIT;
+    const turn_seed seed = {{1}};
+    part_name = "lengths";
+    for (int is_open = 0; is_open < 2; is_open++) {
+        feed_lengths(&client, good, is_open);
+        send_lengths(&client, good, is_open);
+        list_by_null(&client, good);
+        if (!is_open)
+            check_answer(turn_client_open(&client, good, NULL, 0, NULL, 0, &seed), TURN_OK, "open", "null texts");
+    }
+    turn_client_close(&client);
+    printf("lengths: %lu passed, %lu failed\n", passed - passed_before, failed - failed_before);
 }
 
 /* ---- the longest payload */
@@ -351,6 +498,7 @@ static void longest(void)
 int main(void)
 {
     openings();
+    lengths();
     for (size_t i = 0; i < exchange_count; i++)
         walk(&exchanges[i]);
     longest();

@@ -663,16 +663,16 @@ static const struct part exchanges_9_parts[] = {
     {"an algorithm that the server has not: SHA-512 alone", exchanges_9_0, 9},
 };
 const struct exchange exchanges[] = {
-    {"over UDP", {.local = {{192, 0, 2, 1}, 5000, 4}, .server = {{192, 0, 2, 2}, 3478, 4}, .transport = TURN_UDP, .peers = TURN_UDP}, exchanges_0_parts, 6},
-    {"over TCP", {.local = {{192, 0, 2, 1}, 5000, 4}, .server = {{192, 0, 2, 2}, 3478, 4}, .transport = TURN_TCP, .peers = TURN_UDP}, exchanges_1_parts, 4},
-    {"connections to peers", {.local = {{192, 0, 2, 1}, 5000, 4}, .server = {{192, 0, 2, 2}, 3478, 4}, .transport = TURN_TCP, .peers = TURN_TCP}, exchanges_2_parts, 6},
-    {"both families, both algorithms", {.local = {{192, 0, 2, 1}, 5000, 4}, .server = {{192, 0, 2, 2}, 3478, 4}, .transport = TURN_UDP, .peers = TURN_UDP, .families = 3, .integrity = 3}, exchanges_3_parts, 3},
-    {"the other of two", {.local = {{192, 0, 2, 1}, 5000, 4}, .server = {{192, 0, 2, 2}, 3478, 4}, .transport = TURN_UDP, .peers = TURN_UDP, .families = 2, .integrity = 2, .anonymous = TURN_ANONYMOUS_DISABLED}, exchanges_4_parts, 1},
-    {"other waits", {.local = {{192, 0, 2, 1}, 5000, 4}, .server = {{192, 0, 2, 2}, 3478, 4}, .transport = TURN_UDP, .peers = TURN_UDP, .sends = 3, .first_wait = 600, .most_wait = 1000, .last_wait = 3000}, exchanges_5_parts, 1},
-    {"the name is to be hidden", {.local = {{192, 0, 2, 1}, 5000, 4}, .server = {{192, 0, 2, 2}, 3478, 4}, .transport = TURN_UDP, .peers = TURN_UDP, .anonymous = TURN_ANONYMOUS_REQUIRED}, exchanges_6_parts, 1},
-    {"a channel ends", {.local = {{192, 0, 2, 1}, 5000, 4}, .server = {{192, 0, 2, 2}, 3478, 4}, .transport = TURN_UDP, .peers = TURN_UDP}, exchanges_7_parts, 2},
-    {"all three algorithms", {.local = {{192, 0, 2, 1}, 5000, 4}, .server = {{192, 0, 2, 2}, 3478, 4}, .transport = TURN_UDP, .peers = TURN_UDP, .integrity = 7}, exchanges_8_parts, 2},
-    {"an algorithm that the server has not", {.local = {{192, 0, 2, 1}, 5000, 4}, .server = {{192, 0, 2, 2}, 3478, 4}, .transport = TURN_UDP, .peers = TURN_UDP, .integrity = 4}, exchanges_9_parts, 1},
+    {"over UDP", {.size = sizeof(turn_settings), .local = {{192, 0, 2, 1}, 5000, 4}, .server = {{192, 0, 2, 2}, 3478, 4}, .transport = TURN_UDP, .peers = TURN_UDP}, exchanges_0_parts, 6},
+    {"over TCP", {.size = sizeof(turn_settings), .local = {{192, 0, 2, 1}, 5000, 4}, .server = {{192, 0, 2, 2}, 3478, 4}, .transport = TURN_TCP, .peers = TURN_UDP}, exchanges_1_parts, 4},
+    {"connections to peers", {.size = sizeof(turn_settings), .local = {{192, 0, 2, 1}, 5000, 4}, .server = {{192, 0, 2, 2}, 3478, 4}, .transport = TURN_TCP, .peers = TURN_TCP}, exchanges_2_parts, 6},
+    {"both families, both algorithms", {.size = sizeof(turn_settings), .local = {{192, 0, 2, 1}, 5000, 4}, .server = {{192, 0, 2, 2}, 3478, 4}, .transport = TURN_UDP, .peers = TURN_UDP, .families = 3, .integrity = 3}, exchanges_3_parts, 3},
+    {"the other of two", {.size = sizeof(turn_settings), .local = {{192, 0, 2, 1}, 5000, 4}, .server = {{192, 0, 2, 2}, 3478, 4}, .transport = TURN_UDP, .peers = TURN_UDP, .families = 2, .integrity = 2, .anonymous = TURN_ANONYMOUS_DISABLED}, exchanges_4_parts, 1},
+    {"other waits", {.size = sizeof(turn_settings), .local = {{192, 0, 2, 1}, 5000, 4}, .server = {{192, 0, 2, 2}, 3478, 4}, .transport = TURN_UDP, .peers = TURN_UDP, .sends = 3, .first_wait = 600, .most_wait = 1000, .last_wait = 3000}, exchanges_5_parts, 1},
+    {"the name is to be hidden", {.size = sizeof(turn_settings), .local = {{192, 0, 2, 1}, 5000, 4}, .server = {{192, 0, 2, 2}, 3478, 4}, .transport = TURN_UDP, .peers = TURN_UDP, .anonymous = TURN_ANONYMOUS_REQUIRED}, exchanges_6_parts, 1},
+    {"a channel ends", {.size = sizeof(turn_settings), .local = {{192, 0, 2, 1}, 5000, 4}, .server = {{192, 0, 2, 2}, 3478, 4}, .transport = TURN_UDP, .peers = TURN_UDP}, exchanges_7_parts, 2},
+    {"all three algorithms", {.size = sizeof(turn_settings), .local = {{192, 0, 2, 1}, 5000, 4}, .server = {{192, 0, 2, 2}, 3478, 4}, .transport = TURN_UDP, .peers = TURN_UDP, .integrity = 7}, exchanges_8_parts, 2},
+    {"an algorithm that the server has not", {.size = sizeof(turn_settings), .local = {{192, 0, 2, 1}, 5000, 4}, .server = {{192, 0, 2, 2}, 3478, 4}, .transport = TURN_UDP, .peers = TURN_UDP, .integrity = 4}, exchanges_9_parts, 1},
 };
 static const struct step timed_0_0[] = {
     {.name = "open", .call = CALL_OPEN, .now = 0, .want = {.answer = TURN_OK}},
@@ -739,7 +739,7 @@ static const struct part timed_1_parts[] = {
     {"over TCP: all of it", timed_1_0, 21},
 };
 const struct exchange timed[] = {
-    {"over UDP", {.local = {{192, 0, 2, 1}, 5000, 4}, .server = {{192, 0, 2, 2}, 3478, 4}, .transport = TURN_UDP, .peers = TURN_UDP}, timed_0_parts, 1},
-    {"over TCP", {.local = {{192, 0, 2, 1}, 5000, 4}, .server = {{192, 0, 2, 2}, 3478, 4}, .transport = TURN_TCP, .peers = TURN_UDP}, timed_1_parts, 1},
+    {"over UDP", {.size = sizeof(turn_settings), .local = {{192, 0, 2, 1}, 5000, 4}, .server = {{192, 0, 2, 2}, 3478, 4}, .transport = TURN_UDP, .peers = TURN_UDP}, timed_0_parts, 1},
+    {"over TCP", {.size = sizeof(turn_settings), .local = {{192, 0, 2, 1}, 5000, 4}, .server = {{192, 0, 2, 2}, 3478, 4}, .transport = TURN_TCP, .peers = TURN_UDP}, timed_1_parts, 1},
 };
 const size_t exchange_count = 10, timed_count = 2;

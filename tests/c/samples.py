@@ -646,7 +646,7 @@ def c_exchanges(name, exchanges):
     rows = []
     for i, it in enumerate(exchanges):
         yield from it.lines(f"{name}_{i}")
-        rows.append(f'    {{"{it.name}", {{{c_fields(it.settings)}}}, {name}_{i}_parts, {len(it.parts)}}},')
+        rows.append(f'    {{"{it.name}", {{.size = sizeof(turn_settings), {c_fields(it.settings)}}}, {name}_{i}_parts, {len(it.parts)}}},')
     yield from (f"const struct exchange {name}[] = {{", *rows, "};")
 
 

@@ -10,13 +10,13 @@ enum { NO_REFUSAL = 0, SHOWN_MAX = 64 };
 
 /* ---- the statuses that each call may answer */
 
-#define BIT(status) (UINT32_C(1) << ((status) - TURN_NO_MEMORY))
+#define BIT(status) (UINT32_C(1) << ((status) - TURN_BAD_LENGTH))
 #define ASKED (BIT(TURN_OK) | BIT(TURN_NO_ALLOCATION) | BIT(TURN_ALREADY_EXISTS) | BIT(TURN_BAD_FAMILY) \
                | BIT(TURN_NO_MEMORY) | BIT(TURN_NO_CLIENT))
 
 static const uint32_t statuses[CALLS] = {
     [CALL_OPEN] = BIT(TURN_OK) | BIT(TURN_ALREADY_OPEN) | BIT(TURN_BAD_FAMILY) | BIT(TURN_BAD_SETTING)
-        | BIT(TURN_BAD_TEXT) | BIT(TURN_LONG_NAME) | BIT(TURN_NO_MEMORY),
+        | BIT(TURN_BAD_TEXT) | BIT(TURN_LONG_NAME) | BIT(TURN_ZERO_SEED) | BIT(TURN_NO_MEMORY),
     [CALL_CLOSE] = BIT(TURN_OK),
     [CALL_DELETE] = BIT(TURN_OK) | BIT(TURN_NO_ALLOCATION) | BIT(TURN_NO_MEMORY) | BIT(TURN_NO_CLIENT),
     [CALL_FEED] = BIT(TURN_OK) | BIT(TURN_PAYLOAD) | BIT(TURN_ICMP) | BIT(TURN_IGNORED) | BIT(TURN_UNREAD)
@@ -336,7 +336,7 @@ static void check_reason(const struct step *s, int32_t answer, int32_t refusal, 
 {
     const bool is_of_arguments = answer == TURN_BAD_FAMILY || answer == TURN_BAD_SETTING || answer == TURN_UNREAD
         || answer == TURN_SMALL_BUFFER || answer == TURN_NO_CLIENT;
-    check(answer >= TURN_NO_MEMORY && answer <= TURN_CLOSE_SOCKET && (statuses[s->call] & BIT(answer)) != 0,
+    check(answer >= TURN_BAD_LENGTH && answer <= TURN_CLOSE_SOCKET && (statuses[s->call] & BIT(answer)) != 0,
           "a status that the call hasn't");
     check(refusal == NO_REFUSAL ? !is_of_arguments : answer == refusal, "another refusal than the arguments ask for");
     check(!had_no_memory || answer == TURN_NO_MEMORY || s->call == CALL_CLOSE, "refused memory wasn't told");
@@ -359,8 +359,31 @@ static void check_behind_failure(const struct fuzzed *f, const struct step *s, i
 
 static int32_t get_checked(struct fuzzed *f, const struct step *s, size_t room);
 
+/* A call with a length that nothing has: it is refused before the handle is looked at, and touches nothing. */
+static void check_length(struct fuzzed *f, const struct step *s, size_t length)
+{
+    static uint8_t byte;
+    static turn_payload payload;
+    static turn_transmit transmit;
+    last_call = s->call;
+    switch (s->call) {
+    case CALL_FEED:
+        last_answer = turn_client_feed(f->client, &s->from, &s->to, &byte, length, s->now, &payload);
+        break;
+    case CALL_READ: last_answer = turn_client_read(f->client, &byte, length); break;
+    case CALL_DRAW: last_answer = turn_client_draw(f->client, s->now, &byte, length, &transmit); break;
+    case CALL_SEND:
+        last_answer = turn_client_send(f->client, s->transport, &s->to, &byte, length, s->now, &byte, 1, &transmit);
+        break;
+    default: return;
+    }
+    const int32_t refusal = refusal_of_arguments(s);
+    check(last_answer == (refusal == NO_REFUSAL ? TURN_BAD_LENGTH : refusal), "a length that nothing has was taken");
+}
+
 int32_t call_checked(struct fuzzed *f, const struct step *s, size_t room)
 {
+    check_length(f, s, SIZE_MAX - room);
     if (s->call == CALL_OPEN)
         return open_checked(f, &f->walker.exchange->settings, sample_user, sample_password);
     if (s->call >= CALL_RELAYED)
@@ -388,8 +411,9 @@ static bool are_good(const turn_settings *s)
 {
     const bool is_to = s->transport == 0 || is_transport(s->transport);
     const bool is_between = s->peers == 0 || s->peers == TURN_UDP || (s->peers == TURN_TCP && s->transport == TURN_TCP);
-    return is_family(&s->local) && is_family(&s->server) && is_to && is_between && s->families <= 3
-        && s->integrity <= 7 && s->anonymous <= TURN_ANONYMOUS_DISABLED;
+    return s->size == sizeof *s && is_family(&s->local) && is_family(&s->server) && is_to && is_between
+        && s->families <= 3
+        && s->integrity <= 7 && s->anonymous <= TURN_ANONYMOUS_DISABLED && s->compatible <= 1;
 }
 
 static bool is_ascii(struct bytes text)
@@ -405,7 +429,7 @@ static int32_t open_in_rooms(struct fuzzed *f, const turn_settings *settings, st
 {
     turn_seed seed;
     for (size_t i = 0; i < sizeof seed.bytes; i++)
-        seed.bytes[i] = (uint8_t)(i + 1); /* that of all exchanges */
+        seed.bytes[i] = f->has_zero_seed ? 0 : (uint8_t)(i + 1); /* that of all exchanges */
     const turn_settings *s = room_copy(ROOM_SETTINGS, settings, sizeof *settings);
     const char *name = room_copy(ROOM_USER, user.at, user.len);
     const char *secret = room_copy(ROOM_PASSWORD, password.at, password.len);
@@ -422,14 +446,15 @@ static int32_t open_in_rooms(struct fuzzed *f, const turn_settings *settings, st
 
 int32_t open_checked(struct fuzzed *f, const turn_settings *settings, struct bytes user, struct bytes password)
 {
-    const bool is_good = are_good(settings) && user.len <= TURN_NAME_MAX && is_ascii(user) && is_ascii(password);
+    const bool is_good = !f->has_zero_seed && are_good(settings) && user.len <= TURN_NAME_MAX && is_ascii(user)
+        && is_ascii(password);
     const turn_client before = *f->client;
     const long held = memory_held();
     memory_was_refused();
     last_call = CALL_OPEN;
     const int32_t answer = last_answer = open_in_rooms(f, settings, user, password);
     const bool had_no_memory = memory_was_refused();
-    check(answer >= TURN_NO_MEMORY && answer <= TURN_OK && (statuses[CALL_OPEN] & BIT(answer)) != 0,
+    check(answer >= TURN_BAD_LENGTH && answer <= TURN_OK && (statuses[CALL_OPEN] & BIT(answer)) != 0,
           "a status that open hasn't");
     check(!had_no_memory || answer == TURN_NO_MEMORY, "refused memory wasn't told");
     check(!is_good || answer == TURN_OK || f->is_open || had_no_memory, "good settings were refused");
@@ -437,6 +462,9 @@ int32_t open_checked(struct fuzzed *f, const turn_settings *settings, struct byt
     check(!f->is_open || answer == TURN_ALREADY_OPEN, "an open handle was opened, or refused otherwise");
     check(f->is_open || answer != TURN_ALREADY_OPEN, "a handle that isn't open was refused as open");
     check(are_good(settings) || answer != TURN_OK, "bad settings were taken");
+    check(!f->has_zero_seed || answer != TURN_OK, "a seed of zeros was taken");
+    check(f->has_zero_seed || answer != TURN_ZERO_SEED, "a seed was refused as one of zeros");
+    check(f->is_open || settings->size == sizeof *settings || answer == TURN_BAD_SETTING, "another size was taken");
     if (answer == TURN_OK) {
         f->is_open = true;
         f->settings = *settings;

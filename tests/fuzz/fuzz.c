@@ -411,16 +411,20 @@ static void open_any(void)
     const uint8_t kind = next();
     memset(letters, kind & 0x40 ? 0xc3 : 'a', sizeof letters);
     if (kind & 1)
-        s = (turn_settings){.local = next_address(), .server = next_address(), .transport = next_transport(),
-                            .peers = next_transport(), .families = next(), .integrity = next() % 9,
+        s = (turn_settings){.size = kind & 0x80 ? next() : sizeof s, .local = next_address(),
+                            .server = next_address(), .transport = next_transport(), .peers = next_transport(),
+                            .families = next(), .integrity = next() % 9,
                             .anonymous = next() % 4, .sends = next_number(4), .first_wait = next_number(4),
-                            .most_wait = next_number(4), .last_wait = next_number(4)};
+                            .most_wait = next_number(4), .last_wait = next_number(4),
+                            .compatible = kind & 0x20 ? next() % 3 : 0};
     if (kind & 2)
         s.families = 3;
     const struct bytes any = {letters, kind & 8 ? TURN_NAME_MAX + (kind >> 4) % 2 : next()};
     const bool was_open = fuzzed.is_open;
     calls[CALL_OPEN]++;
+    fuzzed.has_zero_seed = (kind & 0xe0) == 0xe0;
     open_checked(&fuzzed, &s, kind & 4 ? any : sample_user, kind & 16 ? any : sample_password);
+    fuzzed.has_zero_seed = false;
     fuzzed.is_undisturbed = fuzzed.is_undisturbed && was_open == fuzzed.is_open;
 }
 

@@ -27,6 +27,7 @@ struct fuzzed {
     size_t waiting;            /* joined bytes that wait */
     size_t allocations;        /* that the getters showed last */
     bool is_open, has_failed;
+    bool has_zero_seed;        /* it is opened under a seed of zeros */
     bool is_undisturbed;       /* no call but those of the exchange changed anything */
 };
 

@@ -54,7 +54,7 @@ class Program:
 
     def _algorithms(self, case):
         if case.algorithms == "sha1":
-            return []
+            return ["--algorithms", "sha1"] if "--algorithms" in self.takes else []
         if case.algorithms == "sha256" and "--sha256" in self.takes:
             return ["--sha256"]
         return ["--algorithms", case.algorithms]

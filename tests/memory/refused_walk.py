@@ -14,7 +14,7 @@ OF_THE_USER = (
     "open", "create_permission", "bind_channel", "tcp_connect", "allocated_tcp_socket", "tcp_closed",
     "delete", "send_to",
 )
-SEED = bytes(32)
+SEED = bytes([1] * 32)
 MS, SECOND = 1_000_000, 1_000_000_000
 # turns at one moment
 MOST_TURNS = 50

@@ -1,7 +1,7 @@
 //! A client over TCP: allocates, gets a permission and a channel, sends payloads, counts what comes back, and gives the
 //! address back. Peers are reached over UDP.
 //!
-//!     cargo run --example tcp -- --server 127.0.0.1:3478 --user alice --password secret --echo
+//!     TURN_PASSWORD=secret cargo run --example tcp -- --server 127.0.0.1:3478 --user alice --echo
 //!
 //! `--help` tells the options and the exit status. The loop is in `common/mod.rs`.
 
@@ -48,7 +48,7 @@ fn open(server: SocketAddr) -> std::result::Result<Box<dyn Line>, Failure> {
 }
 
 fn main() -> ExitCode {
-    main_over(open, |local, server, config, seed| {
-        Ok(Box::new(TurnClientTcp::allocate(local, server, config, seed)?))
+    main_over(open, |local, server, config| {
+        Ok(Box::new(TurnClientTcp::new(local, server, config)?))
     })
 }

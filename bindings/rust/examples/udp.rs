@@ -1,7 +1,7 @@
 //! A client over UDP: allocates, gets a permission and a channel, sends payloads, counts what comes back, and gives the
 //! address back.
 //!
-//!     cargo run --example udp -- --server 127.0.0.1:3478 --user alice --password secret --echo
+//!     TURN_PASSWORD=secret cargo run --example udp -- --server 127.0.0.1:3478 --user alice --echo
 //!
 //! `--help` tells the options and the exit status. The loop is in `common/mod.rs`.
 
@@ -52,7 +52,7 @@ fn open(server: SocketAddr) -> std::result::Result<Box<dyn Line>, Failure> {
 }
 
 fn main() -> ExitCode {
-    main_over(open, |local, server, config, seed| {
-        Ok(Box::new(TurnClientUdp::allocate(local, server, config, seed)?))
+    main_over(open, |local, server, config| {
+        Ok(Box::new(TurnClientUdp::new(local, server, config)?))
     })
 }

@@ -2,6 +2,7 @@
 
 use std::borrow::Cow;
 use std::fmt;
+use std::mem::size_of;
 use std::net::{IpAddr, SocketAddr};
 use std::time::Duration;
 
@@ -95,10 +96,9 @@ struct Retransmits {
 /// ```
 /// use turn_client::{AddressFamily, IntegrityAlgorithm, TransportType, TurnConfig, TurnCredentials};
 ///
-/// let mut config = TurnConfig::new(TurnCredentials::new("alice", "secret"));
+/// let config = TurnConfig::new(TurnCredentials::new("alice", "secret"));
 /// assert_eq!(config.allocation_transport(), TransportType::Udp);
 /// assert_eq!(config.address_families(), [AddressFamily::IPV4]);
-/// config.add_supported_integrity(IntegrityAlgorithm::Sha256);
 /// assert_eq!(config.supported_integrity(), [IntegrityAlgorithm::Sha1, IntegrityAlgorithm::Sha256]);
 /// ```
 #[derive(Clone, Debug, PartialEq, Eq)]
@@ -109,19 +109,22 @@ pub struct TurnConfig {
     supported_integrity: Vec<IntegrityAlgorithm>,
     anonymous_username: Feature,
     retransmits: Option<Retransmits>,
+    is_hardened: bool,
 }
 
 impl TurnConfig {
-    /// An address of IPv4 over UDP is asked for, HMAC-SHA1 is supported alone, the name is hidden where the server
-    /// can, and requests are sent again as RFC 8489 says.
+    /// An address of IPv4 over UDP is asked for, HMAC-SHA1 and HMAC-SHA256 are supported, of which the server's
+    /// strongest is taken, the name is hidden where the server can, requests are sent again as RFC 8489 says, and the
+    /// client is hardened.
     pub fn new(credentials: TurnCredentials) -> Self {
         Self {
             allocation_transport: TransportType::Udp,
             address_families: vec![AddressFamily::IPV4],
             credentials,
-            supported_integrity: vec![IntegrityAlgorithm::Sha1],
+            supported_integrity: vec![IntegrityAlgorithm::Sha1, IntegrityAlgorithm::Sha256],
             anonymous_username: Feature::Auto,
             retransmits: None,
+            is_hardened: true,
         }
     }
 
@@ -184,6 +187,18 @@ impl TurnConfig {
         self.anonymous_username
     }
 
+    /// Sets whether the client is hardened. Then it ignores responses to no request of its own, refuses a challenge
+    /// that lacks the list of algorithms which its nonce announces, and ignores what doesn't validate while it
+    /// allocates.
+    pub fn set_hardened(&mut self, is_hardened: bool) {
+        self.is_hardened = is_hardened;
+    }
+
+    /// Whether the client is hardened.
+    pub fn is_hardened(&self) -> bool {
+        self.is_hardened
+    }
+
     /// Sets how requests are sent again over UDP: the wait behind the first, which each next one doubles, the longest
     /// wait between two, how often a request is sent in all, and the wait behind the last. Where `retransmits` is
     /// 0, all of it is as RFC 8489 says. Waits count in milliseconds, rounded up. Over TCP a request is sent once, and
@@ -206,6 +221,7 @@ impl TurnConfig {
     /// All of it, told to C, for a client between two addresses.
     pub(crate) fn told(&self, transport: TransportType, local: SocketAddr, server: SocketAddr) -> sys::Settings {
         let mut settings = sys::Settings {
+            size: size_of::<sys::Settings>(),
             local: told(local),
             server: told(server),
             transport: told_transport(transport),
@@ -219,6 +235,7 @@ impl TurnConfig {
                 .iter()
                 .fold(0, |bits, it| bits | bit_of_integrity(*it)),
             anonymous: told_feature(self.anonymous_username),
+            compatible: u32::from(!self.is_hardened),
             ..sys::Settings::default()
         };
         if let Some(waits) = self.retransmits {
@@ -511,7 +528,11 @@ mod tests {
             let told = config.told(TransportType::Udp, local, server);
             (told.families, told.integrity)
         };
-        assert_eq!(bits(&config), (1, 1));
+        assert_eq!(bits(&config), (1, 3));
+        let compatible = |config: &TurnConfig| config.told(TransportType::Udp, local, server).compatible;
+        assert_eq!(compatible(&config), 0);
+        config.set_hardened(false);
+        assert_eq!(compatible(&config), 1);
         config.set_address_family(AddressFamily::IPV6);
         config.set_supported_integrity(IntegrityAlgorithm::Sha256);
         assert_eq!(bits(&config), (2, 2));

@@ -175,6 +175,21 @@ impl Handle {
     }
 }
 
+/// 32 bytes of the system's source of random bytes.
+fn random_seed() -> Result<[u8; 32], AllocateError> {
+    let mut seed = [0; 32];
+    loop {
+        // SAFETY: pointer and length are of an array that lives as long as the call.
+        let drawn = unsafe { sys::getrandom(seed.as_mut_ptr().cast(), seed.len(), 0) };
+        if usize::try_from(drawn) == Ok(seed.len()) {
+            return Ok(seed);
+        }
+        if drawn >= 0 || std::io::Error::last_os_error().kind() != std::io::ErrorKind::Interrupted {
+            return Err(AllocateError::of(sys::NO_RANDOM));
+        }
+    }
+}
+
 /// A status as a call's outcome.
 fn outcome<E>(status: i32, refusal: fn(i32) -> E) -> Result<(), E> {
     if status == sys::OK {
@@ -451,11 +466,20 @@ macro_rules! client {
         }
 
         impl $name {
-            /// Makes a client that asks a server for an address. Nothing is sent yet: `poll_transmit` gives the first
-            /// request.
+            /// Makes a client that asks a server for an address, with a seed of the system's random bytes
+            /// (getrandom). Nothing is sent yet: `poll_transmit` gives the first request.
+            pub fn new(
+                local_addr: SocketAddr,
+                remote_addr: SocketAddr,
+                config: TurnConfig,
+            ) -> Result<Self, AllocateError> {
+                Self::allocate(local_addr, remote_addr, config, random_seed()?)
+            }
+
+            /// Does what `new` does, with a seed of the program's own.
             ///
             /// The 32 bytes come from the system's source of random bytes, and from nowhere else: whoever knows them
-            /// can forge answers, and two clients with the same confuse each other's.
+            /// can forge answers, and two clients with the same confuse each other's. Only a seed of zeros is refused.
             pub fn allocate(
                 local_addr: SocketAddr,
                 remote_addr: SocketAddr,
@@ -490,8 +514,7 @@ client! {
     ///
     /// let (local, server) = ("192.0.2.1:5000".parse()?, "192.0.2.2:3478".parse()?);
     /// let config = TurnConfig::new(TurnCredentials::new("alice", "secret"));
-    /// # let random = [1; 32];
-    /// let mut client = TurnClientUdp::allocate(local, server, config, random)?;
+    /// let mut client = TurnClientUdp::new(local, server, config)?;
     ///
     /// let now = Duration::ZERO;
     /// if let Some(transmit) = client.poll_transmit(now)? {
@@ -516,8 +539,7 @@ client! {
     ///
     /// let (local, server) = ("192.0.2.1:5000".parse()?, "192.0.2.2:3478".parse()?);
     /// let config = TurnConfig::new(TurnCredentials::new("alice", "secret"));
-    /// # let random = [1; 32];
-    /// let mut client = TurnClientTcp::allocate(local, server, config, random)?;
+    /// let mut client = TurnClientTcp::new(local, server, config)?;
     ///
     /// let now = Duration::ZERO;
     /// while let Some(transmit) = client.poll_transmit(now)? {

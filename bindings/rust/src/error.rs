@@ -55,6 +55,8 @@ refusals! {
     AllocateError {
         LongName = LONG_NAME: "the user's name has more than 513 bytes",
         BadTransport = BAD_SETTING: "an allocation over TCP is to be had over TCP alone",
+        ZeroSeed = ZERO_SEED: "all bytes of the seed are zero: it was not filled",
+        NoRandom = NO_RANDOM: "the system gave no random bytes for a seed",
         NoMemory = NO_MEMORY: "there is no memory for a client",
     }
 }

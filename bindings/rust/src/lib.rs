@@ -10,13 +10,12 @@
 //! use turn_client::{Transmit, TransportType, TurnClientApi, TurnClientUdp, TurnConfig, TurnCredentials, TurnEvent};
 //! use turn_client::{TurnPollRet, TurnRecvRet};
 //!
-//! # fn random() -> [u8; 32] { [0; 32] }
 //! # fn main() -> Result<(), Box<dyn std::error::Error>> {
 //! let server: SocketAddr = "127.0.0.1:3478".parse()?;
 //! let socket = UdpSocket::bind("127.0.0.1:0")?;
 //! let local = socket.local_addr()?;
 //! let config = TurnConfig::new(TurnCredentials::new("alice", "secret"));
-//! let mut client = TurnClientUdp::allocate(local, server, config, random())?;
+//! let mut client = TurnClientUdp::new(local, server, config)?;
 //! let (start, mut bytes) = (Instant::now(), [0; 65536]);
 //! loop {
 //!     while let Some(transmit) = client.poll_transmit(start.elapsed())? {
@@ -57,6 +56,8 @@
 //! - No event tells that an allocation's time is over: look at [`TurnClientApi::relayed_addresses`].
 //! - A client may go to another thread, and isn't shared by two. Dropped, it frees what it holds, and tells the server
 //!   nothing: [`TurnClientApi::delete`] does that.
+//! - After `fork`, one of the two processes goes on with a client, and the other at most drops it: two that go on send
+//!   the same transaction IDs.
 //! - An address of IPv6 is told without flow information and scope.
 //!
 //! A client is sent, and not shared:
@@ -86,7 +87,8 @@
 //!
 //! # What is otherwise than in `turn-client-proto`
 //!
-//! - `allocate` takes a seed of 32 random bytes, and may be refused. Calls that want memory answer a `Result`.
+//! - `new` makes a client; `allocate` does, with a seed of 32 random bytes of the program's own. Both may be refused.
+//!   Calls that want memory answer a `Result`.
 //! - `send_to` and `poll_transmit` answer bytes that stand in the client's buffer, which is 64 kB, until its next call.
 //! - `recv` takes `&[u8]`, and answers data that is borrowed of it or owned. Getters answer vectors. So
 //!   [`TurnClientApi`] makes an object: `Box<dyn TurnClientApi>` is a client over either transport.
@@ -120,6 +122,12 @@ pub use error::{
 #[cfg(doctest)]
 #[doc = include_str!("../README.md")]
 pub struct Readme;
+
+/// The version of the linked archive: major * 10,000 + minor * 100 + patch.
+pub fn version() -> u32 {
+    // SAFETY: it takes nothing, and reads a constant.
+    unsafe { sys::turn_client_version() }
+}
 
 /// Bytes of a user's name at most.
 pub const NAME_MAX: usize = sys::NAME_MAX;

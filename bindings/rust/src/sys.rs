@@ -22,6 +22,10 @@ pub const EXPIRED_CHANNEL: i32 = -13;
 pub const NO_SOCKET: i32 = -14;
 pub const TOO_LARGE: i32 = -15;
 pub const NO_MEMORY: i32 = -16;
+pub const ZERO_SEED: i32 = -17;
+
+/// No status of the header: the system gave no random bytes for a seed.
+pub const NO_RANDOM: i32 = i32::MIN;
 
 pub const NAME_MAX: usize = 513;
 pub const MESSAGE_MAX: usize = 65555;
@@ -60,6 +64,7 @@ pub struct Address {
 #[repr(C)]
 #[derive(Clone, Copy, Debug, Default)]
 pub struct Settings {
+    pub size: usize,
     pub local: Address,
     pub server: Address,
     pub transport: u32,
@@ -71,6 +76,7 @@ pub struct Settings {
     pub first_wait: u32,
     pub most_wait: u32,
     pub last_wait: u32,
+    pub compatible: u32,
 }
 
 #[repr(C)]
@@ -155,6 +161,11 @@ pub const CLIENT_INIT: Client = Client {
 };
 
 extern "C" {
+    /// The C library's, with which std is linked.
+    pub fn getrandom(bytes: *mut c_void, len: usize, flags: u32) -> isize;
+
+    pub fn turn_client_version() -> u32;
+
     pub fn turn_client_open(
         client: *mut Client,
         settings: *const Settings,
@@ -279,7 +290,8 @@ mod tests {
         layouts! {
             turn_address = Address { ip, port, family }
             turn_settings = Settings {
-                local, server, transport, peers, families, integrity, anonymous, sends, first_wait, most_wait, last_wait
+                size, local, server, transport, peers, families, integrity, anonymous, sends, first_wait, most_wait,
+                last_wait, compatible
             }
             turn_seed = Seed { bytes }
             turn_transmit = Transmit { size, transport, from, to }
@@ -297,7 +309,7 @@ mod tests {
         numbers! {
             OK NOTHING IGNORED PAYLOAD ICMP CLOSED OPEN_SOCKET CLOSE_SOCKET
             BAD_SETTING LONG_NAME UNREAD NO_ALLOCATION ALREADY_EXISTS NO_PERMISSION NO_CHANNEL EXPIRED_CHANNEL
-            NO_SOCKET TOO_LARGE NO_MEMORY
+            NO_SOCKET TOO_LARGE NO_MEMORY ZERO_SEED
             NAME_MAX MESSAGE_MAX SEND_EXTRA PAYLOAD_MAX MOMENT_MAX
             TCP UDP IPV4 IPV6 SHA1 SHA256 SHA512 ANONYMOUS_AUTO ANONYMOUS_REQUIRED ANONYMOUS_DISABLED
             ALLOCATION_CREATED ALLOCATION_FAILED PERMISSION_CREATED PERMISSION_FAILED CHANNEL_CREATED CHANNEL_FAILED

@@ -8,8 +8,8 @@ use std::time::Duration;
 use stored::walker::{address, open, Walker};
 use stored::{exchange, PASSWORD, SEED, USER};
 use turn_client::{
-    AllocateError, SendError, Transmit, TransportType, TurnClientTcp, TurnClientUdp, TurnConfig, TurnCredentials,
-    TurnRecvRet, NAME_MAX, PAYLOAD_MAX,
+    version, AllocateError, IntegrityAlgorithm, SendError, Transmit, TransportType, TurnClientApi, TurnClientTcp,
+    TurnClientUdp, TurnConfig, TurnCredentials, TurnRecvRet, NAME_MAX, PAYLOAD_MAX,
 };
 
 const LOCAL: &str = "192.0.2.1:5000";
@@ -47,6 +47,48 @@ fn an_allocation_over_tcp_is_refused_over_udp() {
         allocate(USER, TransportType::Tcp),
         (Some(AllocateError::BadTransport), None)
     );
+}
+
+#[test]
+fn a_seed_of_zeros_is_refused() {
+    let (local, server): (SocketAddr, SocketAddr) = (address(LOCAL), address(SERVER));
+    let config = TurnConfig::new(TurnCredentials::new(USER, PASSWORD));
+    let refusal = Some(AllocateError::ZeroSeed);
+    assert_eq!(
+        TurnClientUdp::allocate(local, server, config.clone(), [0; 32]).err(),
+        refusal
+    );
+    assert_eq!(TurnClientTcp::allocate(local, server, config, [0; 32]).err(), refusal);
+}
+
+/// The first request of a client that draws its own seed, which has the transaction ID.
+fn first_request() -> Vec<u8> {
+    let config = TurnConfig::new(TurnCredentials::new(USER, PASSWORD));
+    let mut client = TurnClientUdp::new(address(LOCAL), address(SERVER), config).unwrap();
+    client.poll_transmit(Duration::ZERO).unwrap().unwrap().data.to_vec()
+}
+
+#[test]
+fn a_client_draws_its_own_seed() {
+    assert_ne!(first_request(), first_request());
+}
+
+#[test]
+fn both_usual_algorithms_are_supported() {
+    let config = TurnConfig::new(TurnCredentials::new(USER, PASSWORD));
+    assert_eq!(
+        config.supported_integrity(),
+        [IntegrityAlgorithm::Sha1, IntegrityAlgorithm::Sha256]
+    );
+}
+
+#[test]
+fn the_archive_is_of_this_version() {
+    let parts: Vec<u32> = env!("CARGO_PKG_VERSION")
+        .split('.')
+        .map(|it| it.parse().unwrap())
+        .collect();
+    assert_eq!(version(), parts[0] * 10_000 + parts[1] * 100 + parts[2]);
 }
 
 /// A frame that has data of a peer over UDP is not for the client over TCP.

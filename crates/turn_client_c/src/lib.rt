@@ -8,7 +8,8 @@ ghost use Rattle.std.specs.Net.Socket.{socket_ip};
 ghost use Rattle.std.specs.Prelude.{None, false, length, nat_lt, ◌+◌, ◌≡◌, ◌≢◌};
 ghost use Rattle.turn_client_c_calls.specs.Answers.{bind_answer, connect_answer, delete_answer, memory_answer, permission_answer, socket_answer};
 ghost use Rattle.turn_client_c_calls.specs.Calls.{Named, OnClient, OnCore, OnStored, Reports, Unless};
-ghost use Rattle.turn_client_c_calls.specs.Codes.{bad_family, bad_setting, ok, small_buffer};
+ghost use Rattle.turn_client_c_calls.specs.Codes.{bad_family, bad_length, bad_setting, ok, small_buffer};
+ghost use Rattle.turn_client_c_calls.specs.Lengths.{is_bad_length};
 ghost use Rattle.turn_client_c_calls.specs.Opened.{HoldsOpened, WhyNot};
 ghost use Rattle.turn_client_c_calls.specs.Visible.{Lists, Shows, is_permitted, permitted_of, reported_channel, reported_connection, reported_relayed};
 ghost use Rattle.turn_client_c_calls.specs.Sockets.{IsClosedReported, own_tuple};
@@ -31,6 +32,17 @@ use turn_client_c_types::event::TurnClientEvent;
 use turn_client_c_types::reported::{TurnPayload, TurnTransmit, TurnWait};
 use turn_client_c_types::settings::{TurnSeed, TurnSettings};
 
+/// The version of the library: major * 10,000 + minor * 100 + patch.
+const VERSION: u32 = 100;
+
+/// Returns the version of the library: major * 10,000 + minor * 100 + patch.
+#[unsafe(no_mangle)]
+pub extern "C" fn turn_client_version() -> u32
+    ensures { result ≡ 100 }
+{
+    VERSION
+}
+
 /// Opens a client of this user. Nothing is sent yet.
 #[unsafe(no_mangle)]
 pub extern "C" fn turn_client_open(
@@ -44,7 +56,8 @@ pub extern "C" fn turn_client_open(
     ensures opened { result ≡ ok → HoldsOpened settings.now username.now password.now
         seed.now.bytes client.new.boxed_client.value }
     ensures stays { result ≢ ok → client.new.boxed_client.value ≡ client.old.boxed_client.value }
-    ensures why { WhyNot client.old.boxed_client.value settings.now username.now password.now result }
+    ensures why { WhyNot client.old.boxed_client.value settings.now username.now password.now
+        seed.now.bytes result }
 {
     opening::turn_client_open(alloc, client, settings, username, password, seed)
 }
@@ -73,8 +86,10 @@ pub extern "C" fn turn_client_feed(
         result (λ sender.
         Named (address_of to.now) bad_family client.old.boxed_client.value client.new.boxed_client.value
         result (λ here.
-        OnClient client.old.boxed_client.value client.new.boxed_client.value result
-        (IsFed bytes.entry sender here now result payload.old payload.new))) }
+        Unless (is_bad_length (length bytes.now)) bad_length client.old.boxed_client.value
+        client.new.boxed_client.value result
+        (OnClient client.old.boxed_client.value client.new.boxed_client.value result
+        (IsFed bytes.entry sender here now result payload.old payload.new)))) }
 {
     traffic::turn_client_feed(alloc, client, from, to, bytes, now, payload)
 }
@@ -96,8 +111,10 @@ pub extern "C" fn turn_client_pull(
 /// Copies the joined bytes of the last reported payload to the start of a buffer, and frees them.
 #[unsafe(no_mangle)]
 pub extern "C" fn turn_client_read(alloc: Global, client: &mut TurnHandle, out: &mut [u8]) -> i32
-    ensures { OnClient client.old.boxed_client.value client.new.boxed_client.value result
-        (IsReadReported result out.old out.new) }
+    ensures { Unless (is_bad_length (length out.old)) bad_length client.old.boxed_client.value
+        client.new.boxed_client.value result
+        (OnClient client.old.boxed_client.value client.new.boxed_client.value result
+        (IsReadReported result out.old out.new)) }
 {
     traffic::turn_client_read(alloc, client, out)
 }
@@ -111,10 +128,12 @@ pub extern "C" fn turn_client_draw(
     out: &mut [u8],
     transmit: &mut TurnTransmit,
 ) -> i32
-    ensures { Unless (nat_lt (length out.old) message_room) small_buffer client.old.boxed_client.value
+    ensures { Unless (is_bad_length (length out.old)) bad_length client.old.boxed_client.value
+        client.new.boxed_client.value result
+        (Unless (nat_lt (length out.old) message_room) small_buffer client.old.boxed_client.value
         client.new.boxed_client.value result
         (OnClient client.old.boxed_client.value client.new.boxed_client.value result
-        (IsTransmittedReported now result out.old out.new transmit.old transmit.new)) }
+        (IsTransmittedReported now result out.old out.new transmit.old transmit.new))) }
 {
     traffic::turn_client_draw(alloc, client, now, out, transmit)
 }
@@ -136,10 +155,14 @@ pub extern "C" fn turn_client_send(
         result (λ by.
         Named (address_of peer.now) bad_family client.old.boxed_client.value client.new.boxed_client.value
         result (λ to.
-        Unless (nat_lt (length out.old) (length bytes.now + send_extra)) small_buffer
+        Unless (is_bad_length (length bytes.now)) bad_length client.old.boxed_client.value
+        client.new.boxed_client.value result
+        (Unless (is_bad_length (length out.old)) bad_length client.old.boxed_client.value
+        client.new.boxed_client.value result
+        (Unless (nat_lt (length out.old) (length bytes.now + send_extra)) small_buffer
         client.old.boxed_client.value client.new.boxed_client.value result
         (OnClient client.old.boxed_client.value client.new.boxed_client.value result
-        (IsSendReported by to bytes.now now result out.old out.new transmit.old transmit.new)))) }
+        (IsSendReported by to bytes.now now result out.old out.new transmit.old transmit.new)))))) }
 {
     traffic::turn_client_send(alloc, client, transport, peer, bytes, now, out, transmit)
 }

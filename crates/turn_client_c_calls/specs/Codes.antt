@@ -79,3 +79,9 @@ too_large = negsuc 14
 
 abbrev pub no_memory : ℤ
 no_memory = negsuc 15
+
+abbrev pub zero_seed : ℤ
+zero_seed = negsuc 16
+
+abbrev pub bad_length : ℤ
+bad_length = negsuc 17

@@ -2,6 +2,7 @@ pub mod Answers
 pub mod Calls
 pub mod Codes
 pub mod Held
+pub mod Lengths
 pub mod Opened
 pub mod Visible
 pub mod Sockets

@@ -1,5 +1,5 @@
 -- What a client is that C opened, and why one is not opened.
-use Rattle.std.specs.Prelude.{◌≡◌, ◌⊎◌, ◌≤◌, ◌<◌, ◌||◌, ℕ, ℤ, Bool, true, is_some, List, [], length, Some, None, IsUtf8}
+use Rattle.std.specs.Prelude.{◌≡◌, ◌⊎◌, ◌≤◌, ◌<◌, ◌||◌, ℕ, ℤ, Bool, true, false, is_some, List, [], length, Some, None, IsUtf8}
 use Rattle.std.specs.declared.net.socket_addr.SocketAddr.{SocketAddr}
 use Rattle.stun_types_wire.specs.Registry.{longest_username}
 use Rattle.stun_types_base.specs.declared.transport.TransportType.{TransportType}
@@ -14,7 +14,8 @@ use Rattle.turn_client_c_types.specs.Addresses.{address_of}
 use Rattle.turn_client_c_calls.specs.Codes as code
 use Rattle.turn_client_c_calls.specs.Codes.{same}
 use Rattle.turn_client_c_calls.specs.Held.{Held}
-use Rattle.turn_client_c_types.specs.Settings.{config_of, transports_of}
+use Rattle.turn_client_c_calls.specs.Lengths.{is_bad_length}
+use Rattle.turn_client_c_types.specs.Settings.{config_of, has_size, is_zero_seed, transports_of}
 use Rattle.turn_client_c_types.specs.declared.settings.TurnSettings.{TurnSettings}
 use Rattle.turn_client_c_calls.specs.declared.whole.HandleState.{HandleState}
 
@@ -29,8 +30,10 @@ pub record IsStarted (by : TransportType) (local server : SocketAddr) (config : 
   pub is_new : IsNew by local server config seed (stored_of client).core
   pub control : (stored_of client).control ≡ first_control by
 
--- The client is new and of this user, all of its settings are valid, and no joined bytes are unread.
+-- The client is new and of this user, all of its settings are valid, its seed is not zero, and no joined bytes are
+-- unread.
 pub record IsOpened (s : TurnSettings) (name password seed : List ℕ) (whole : HandleState) : Type 0 where
+  pub size : has_size s ≡ true
   pub local : SocketAddr
   pub local_is : address_of s.local ≡ Some local
   pub server : SocketAddr
@@ -40,6 +43,7 @@ pub record IsOpened (s : TurnSettings) (name password seed : List ℕ) (whole : 
   pub name_is_text : IsUtf8 name
   pub password_is_text : IsUtf8 password
   pub short : length name ≤ longest_username
+  pub not_zero : is_zero_seed seed ≡ false
   pub started : IsStarted by.0 local server (config_of s by.1 (record { username = name; password = password })) seed
       whole.client
   pub none_wait : whole.joined.items ≡ []
@@ -51,15 +55,19 @@ HoldsOpened s name password seed (Some whole) = IsOpened s name password seed wh
 -- The statuses that `turn_client_open` returns.
 abbrev pub is_answer : ℤ → Bool
 is_answer s = same s code.ok || (same s code.already_open || (same s code.bad_family || (same s code.bad_setting
-    || (same s code.bad_text || (same s code.long_name || same s code.no_memory)))))
+    || (same s code.bad_text || (same s code.long_name || (same s code.no_memory || (same s code.zero_seed
+    || same s code.bad_length)))))))
 
 -- A status of `turn_client_open` is returned only if its reason holds. It is `already_open` if and only if
--- the handle is open.
-pub record WhyNot (old : Held) (s : TurnSettings) (name password : List ℕ) (status : ℤ) : Type 0 where
+-- the handle is open. A seed of zeros is checked last: with it no client is opened, and no memory is allocated.
+pub record WhyNot (old : Held) (s : TurnSettings) (name password seed : List ℕ) (status : ℤ) : Type 0 where
   pub answer : is_answer status ≡ true
   pub already : is_some old ≡ true → status ≡ code.already_open
   pub is_open : status ≡ code.already_open → is_some old ≡ true
   pub family : status ≡ code.bad_family → (address_of s.local ≡ None) ⊎ (address_of s.server ≡ None)
-  pub setting : status ≡ code.bad_setting → transports_of s ≡ None
+  pub setting : status ≡ code.bad_setting → (has_size s ≡ false) ⊎ (transports_of s ≡ None)
+  pub size : status ≡ code.bad_length → (is_bad_length (length name) ≡ true) ⊎ (is_bad_length (length password) ≡ true)
   pub text : status ≡ code.bad_text → ¬ (IsUtf8 name × IsUtf8 password)
   pub long : status ≡ code.long_name → longest_username < length name
+  pub zero : status ≡ code.zero_seed → is_zero_seed seed ≡ true
+  pub last : status ≡ code.no_memory → is_zero_seed seed ≡ false

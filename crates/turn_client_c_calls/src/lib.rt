@@ -10,6 +10,7 @@ pub mod asking;
 mod boxed_client;
 pub mod getters;
 pub mod handle;
+mod lengths;
 pub mod opening;
 mod raw_box;
 pub mod sockets;

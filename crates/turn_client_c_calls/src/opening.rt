@@ -8,6 +8,7 @@ ghost use Rattle.turn_client_c_calls.specs.Opened.{HoldsOpened, IsStarted, WhyNo
 ghost use Rattle.turn_client_c_types.specs.Settings.{config_of};
 
 use crate::handle::{TurnHandle, may_go_to_another_thread};
+use crate::lengths::is_bad_length;
 use crate::status;
 use crate::whole::HandleState;
 use std::alloc::Global;
@@ -86,10 +87,14 @@ pub fn turn_client_open(
     ensures opened { result ≡ ok → HoldsOpened settings.now username.now password.now
         seed.now.bytes client.new.boxed_client.value }
     ensures stays { result ≢ ok → client.new.boxed_client.value ≡ client.old.boxed_client.value }
-    ensures why { WhyNot client.old.boxed_client.value settings.now username.now password.now result }
+    ensures why { WhyNot client.old.boxed_client.value settings.now username.now password.now
+        seed.now.bytes result }
 {
     if client.is_open {
         return status::ALREADY_OPEN;
+    }
+    if !settings.has_size() {
+        return status::BAD_SETTING;
     }
     let (Some(local), Some(server)) = (settings.local.to_socket(), settings.server.to_socket())
     else {
@@ -98,11 +103,20 @@ pub fn turn_client_open(
     let Some((transport, peers)) = settings.transports() else {
         return status::BAD_SETTING;
     };
+    if is_bad_length(username.len()) {
+        return status::BAD_LENGTH;
+    }
+    if is_bad_length(password.len()) {
+        return status::BAD_LENGTH;
+    }
     let (Ok(username), Ok(password)) = (str::from_utf8(username), str::from_utf8(password)) else {
         return status::BAD_TEXT;
     };
     if username.len() > MAX_USERNAME_LENGTH {
         return status::LONG_NAME;
+    }
+    if seed.is_zero() {
+        return status::ZERO_SEED;
     }
     match begin(
         alloc, settings, transport, peers, local, server, username, password, seed.bytes,

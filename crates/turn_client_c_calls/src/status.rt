@@ -71,3 +71,9 @@ pub(crate) const TOO_LARGE: i32 = -15;
 
 /// An allocation failed.
 pub(crate) const NO_MEMORY: i32 = -16;
+
+/// All bytes of the seed are zero.
+pub(crate) const ZERO_SEED: i32 = -17;
+
+/// A length is more than the size of any object.
+pub(crate) const BAD_LENGTH: i32 = -18;

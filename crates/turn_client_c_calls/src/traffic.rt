@@ -3,10 +3,12 @@
 ghost use Rattle.std.specs.Prelude.{◌≡◌, ◌+◌, [], length, nat_lt, not, None};
 ghost use Rattle.turn_client_c_types.specs.Addresses.{address_of, transport_of};
 ghost use Rattle.turn_client_c_calls.specs.Calls.{Named, OnClient, Unless};
-ghost use Rattle.turn_client_c_calls.specs.Codes.{bad_family, bad_setting, small_buffer};
+ghost use Rattle.turn_client_c_calls.specs.Codes.{bad_family, bad_length, bad_setting, small_buffer};
+ghost use Rattle.turn_client_c_calls.specs.Lengths.{is_bad_length};
 ghost use Rattle.turn_client_c_calls.specs.Traffic.{IsTransmittedReported, IsFed, IsPulledReported, IsReadReported, IsCarried, IsSendReported, draw_status, draw_reported, draw_written, joined_by, message_room, payload_reported, recv_joined, recv_status, recv_reported, send_extra, written};
 
 use crate::handle::TurnHandle;
+use crate::lengths::is_bad_length;
 use crate::status;
 use crate::whole::HandleState;
 use std::alloc::Global;
@@ -124,8 +126,10 @@ pub fn turn_client_feed(
         result (λ sender.
         Named (address_of to.now) bad_family client.old.boxed_client.value client.new.boxed_client.value
         result (λ here.
-        OnClient client.old.boxed_client.value client.new.boxed_client.value result
-        (IsFed bytes.entry sender here now result payload.old payload.new))) }
+        Unless (is_bad_length (length bytes.now)) bad_length client.old.boxed_client.value
+        client.new.boxed_client.value result
+        (OnClient client.old.boxed_client.value client.new.boxed_client.value result
+        (IsFed bytes.entry sender here now result payload.old payload.new)))) }
 {
     let Some(sender) = from.to_socket() else {
         return status::BAD_FAMILY;
@@ -133,6 +137,9 @@ pub fn turn_client_feed(
     let Some(here) = to.to_socket() else {
         return status::BAD_FAMILY;
     };
+    if is_bad_length(bytes.len()) {
+        return status::BAD_LENGTH;
+    }
     let Some(mut whole) = client.take(alloc) else {
         return status::NO_CLIENT;
     };
@@ -199,9 +206,14 @@ pub fn turn_client_pull(
 
 /// Copies the joined bytes of the last reported payload to the start of a buffer, and frees them.
 pub fn turn_client_read(alloc: Global, client: &mut TurnHandle, out: &mut [u8]) -> i32
-    ensures { OnClient client.old.boxed_client.value client.new.boxed_client.value result
-        (IsReadReported result out.old out.new) }
+    ensures { Unless (is_bad_length (length out.old)) bad_length client.old.boxed_client.value
+        client.new.boxed_client.value result
+        (OnClient client.old.boxed_client.value client.new.boxed_client.value result
+        (IsReadReported result out.old out.new)) }
 {
+    if is_bad_length(out.len()) {
+        return status::BAD_LENGTH;
+    }
     let Some(mut whole) = client.take(alloc) else {
         return status::NO_CLIENT;
     };
@@ -265,11 +277,16 @@ pub fn turn_client_draw(
     out: &mut [u8],
     transmit: &mut TurnTransmit,
 ) -> i32
-    ensures { Unless (nat_lt (length out.old) message_room) small_buffer client.old.boxed_client.value
+    ensures { Unless (is_bad_length (length out.old)) bad_length client.old.boxed_client.value
+        client.new.boxed_client.value result
+        (Unless (nat_lt (length out.old) message_room) small_buffer client.old.boxed_client.value
         client.new.boxed_client.value result
         (OnClient client.old.boxed_client.value client.new.boxed_client.value result
-        (IsTransmittedReported now result out.old out.new transmit.old transmit.new)) }
+        (IsTransmittedReported now result out.old out.new transmit.old transmit.new))) }
 {
+    if is_bad_length(out.len()) {
+        return status::BAD_LENGTH;
+    }
     if out.len() < MAX_MESSAGE_LENGTH {
         return status::SMALL_BUFFER;
     }
@@ -358,10 +375,14 @@ pub fn turn_client_send(
         result (λ by.
         Named (address_of peer.now) bad_family client.old.boxed_client.value client.new.boxed_client.value
         result (λ to.
-        Unless (nat_lt (length out.old) (length bytes.now + send_extra)) small_buffer
+        Unless (is_bad_length (length bytes.now)) bad_length client.old.boxed_client.value
+        client.new.boxed_client.value result
+        (Unless (is_bad_length (length out.old)) bad_length client.old.boxed_client.value
+        client.new.boxed_client.value result
+        (Unless (nat_lt (length out.old) (length bytes.now + send_extra)) small_buffer
         client.old.boxed_client.value client.new.boxed_client.value result
         (OnClient client.old.boxed_client.value client.new.boxed_client.value result
-        (IsSendReported by to bytes.now now result out.old out.new transmit.old transmit.new)))) }
+        (IsSendReported by to bytes.now now result out.old out.new transmit.old transmit.new)))))) }
 {
     let Some(by) = transport_of(transport) else {
         return status::BAD_SETTING;
@@ -369,6 +390,13 @@ pub fn turn_client_send(
     let Some(to) = peer.to_socket() else {
         return status::BAD_FAMILY;
     };
+    if is_bad_length(bytes.len()) {
+        return status::BAD_LENGTH;
+    }
+    if is_bad_length(out.len()) {
+        return status::BAD_LENGTH;
+    }
+    // The payload is no longer than an object can be, so the sum doesn't wrap.
     if out.len() < bytes.len() + SEND_EXTRA {
         return status::SMALL_BUFFER;
     }

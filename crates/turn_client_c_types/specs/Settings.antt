@@ -1,5 +1,6 @@
 -- The settings of a client, as C passes them.
-use Rattle.std.specs.Prelude.{ℕ, ◌*◌, ◌/◌, ◌%◌, ◌==◌, nat_lt, Bool, ◌||◌, List, [], ◌∷◌, filter, Option, Some, None, if◌then◌else◌}
+use Rattle.std.specs.Prelude.{ℕ, ◌*◌, ◌/◌, ◌%◌, ◌==◌, nat_lt, Bool, not, ◌||◌, List, [], ◌∷◌, filter, Option, Some, None, if◌then◌else◌, replicate}
+use Rattle.std.specs.Cmp.Lexicographic.{pointwise}
 use Rattle.turn_types_attributes.specs.StunTypesIntegrity.Credentials.{NameAndPassword}
 use Rattle.stun_types_wire.specs.declared.algorithm.IntegrityAlgorithm.{IntegrityAlgorithm}
 use Rattle.stun_types_wire.specs.declared.algorithm.IntegrityAlgorithm.TheVariants.{Sha1, Sha256, Sha512}
@@ -16,6 +17,18 @@ use Rattle.turn_client_proto_api.specs.Families.{with_family}
 use Rattle.turn_client_c_types.specs.Addresses.{transport_of}
 use Rattle.turn_client_c_types.specs.declared.settings.TurnSettings.{TurnSettings}
 
+-- The size of the settings in bytes.
+abbrev pub settings_size : ℕ
+settings_size = 88
+
+-- The settings state this size.
+abbrev pub has_size : TurnSettings → Bool
+has_size s = s.size == settings_size
+
+-- All 32 bytes of a seed are zero.
+abbrev pub is_zero_seed : List ℕ → Bool
+is_zero_seed seed = pointwise (λ one other. one == other) seed (replicate 32 0)
+
 -- The transport with this protocol number in IP; 0 is UDP.
 abbrev pub transport_set : ℕ → Option TransportType
 transport_set number = if number == 0 then Some Udp else transport_of number
@@ -29,7 +42,8 @@ both_of _ _ = None
 -- The transports to the server and to the peers. `None` if a number of the settings is not one of its
 -- choices.
 unfoldable pub transports_of : TurnSettings → Option (TransportType × TransportType)
-transports_of s = if nat_lt 3 s.families || (nat_lt 7 s.integrity || nat_lt 2 s.anonymous) then None
+transports_of s =
+    if nat_lt 3 s.families || (nat_lt 7 s.integrity || (nat_lt 2 s.anonymous || nat_lt 1 s.compatible)) then None
     else both_of (transport_set s.transport) (transport_set s.peers)
 
 -- The requested families, by the bits of families; by default IPv4.
@@ -51,9 +65,15 @@ abbrev pub or_others : List IntegrityAlgorithm → List IntegrityAlgorithm → L
 or_others [] others = others
 or_others (some ∷ rest) _ = some ∷ rest
 
--- The supported algorithms, by the bits of algorithms, the weaker ones first; by default HMAC-SHA1.
+-- The supported algorithms if no bit is set.
+abbrev pub default_algorithms : List IntegrityAlgorithm
+default_algorithms = Sha1 ∷ Sha256 ∷ []
+
+-- The supported algorithms, by the bits of algorithms, the weaker ones first; by default HMAC-SHA1 and
+-- HMAC-SHA256.
 unfoldable pub algorithms_of : ℕ → List IntegrityAlgorithm → List IntegrityAlgorithm
-algorithms_of bits first = or_others (filter (λ algorithm. has_bit bits (bit_of algorithm)) all_algorithms) first
+algorithms_of bits first = if bits == 0 then default_algorithms
+    else or_others (filter (λ algorithm. has_bit bits (bit_of algorithm)) all_algorithms) first
 
 -- Whether the name is hidden; by default it is if the server supports it.
 abbrev pub anonymous_of : ℕ → Feature → Feature
@@ -71,12 +91,14 @@ waits_of s first = if s.sends == 0 then first else record {
   final = s.last_wait * millisecond;
 }
 
--- The settings of a client of this user, whose allocation is over this transport.
+-- The settings of a client of this user, whose allocation is over this transport. It is hardened unless they say
+-- otherwise.
 abbrev pub config_of : TurnSettings → TransportType → NameAndPassword → Config
 config_of s peers user = record (default_config user) {
   transport = peers;
   families = families_of s.families (default_config user).families;
   algorithms = algorithms_of s.integrity (default_config user).algorithms;
   anonymous_username = anonymous_of s.anonymous (default_config user).anonymous_username;
+  hardened = not (s.compatible == 1);
   waits = waits_of s (default_config user).waits;
 }

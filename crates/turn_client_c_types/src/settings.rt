@@ -2,7 +2,7 @@
 
 ghost use Rattle.std.specs.Prelude.{◌≡◌, ◌<◌, IfOk, IfSome};
 ghost use Rattle.stun_types_base.specs.declared.transport.TransportType.TheVariants.{Udp};
-ghost use Rattle.turn_client_c_types.specs.Settings.{algorithms_of, anonymous_of, config_of, families_of, has_bit, transport_set, transports_of, waits_of};
+ghost use Rattle.turn_client_c_types.specs.Settings.{algorithms_of, anonymous_of, config_of, families_of, has_bit, has_size, is_zero_seed, transport_set, transports_of, waits_of};
 
 use crate::address::{TurnAddress, transport_of};
 use std::alloc::Global;
@@ -39,10 +39,22 @@ const ANONYMOUS_REQUIRED: u32 = 1;
 /// The name is never hidden.
 const ANONYMOUS_DISABLED: u32 = 2;
 
-/// The settings of a client. A number that is zero leaves the default of a new client.
+/// The client is not hardened.
+const COMPATIBLE: u32 = 1;
+
+/// The size of the settings, in bytes.
+const SETTINGS_SIZE: usize = size_of::<TurnSettings>();
+
+/// A seed of zeros.
+const ZERO_SEED: [u8; 32] = [0; 32];
+
+/// The settings of a client. A number that is zero leaves its default.
 #[repr(C)]
 #[derive(Clone, Copy)]
 pub struct TurnSettings {
+    /// The size of this struct in bytes, as the program was compiled. Fields are added at the end,
+    /// so the size says which there are.
+    pub size: usize,
     /// The client's own address.
     pub local: TurnAddress,
     /// The server's address.
@@ -55,7 +67,7 @@ pub struct TurnSettings {
     /// The families of the requested relayed addresses, as bits: 1 is IPv4, 2 is IPv6.
     pub families: u32,
     /// The supported integrity algorithms, as bits: 1 is HMAC-SHA1, 2 is HMAC-SHA256, 4 is
-    /// HMAC-SHA512.
+    /// HMAC-SHA512; 0 is 1 and 2.
     pub integrity: u32,
     /// Whether the name is hidden: 0 if the server supports it, 1 always, 2 never.
     pub anonymous: u32,
@@ -67,6 +79,8 @@ pub struct TurnSettings {
     pub most_wait: u32,
     /// The wait after the last transmission, in milliseconds.
     pub last_wait: u32,
+    /// 0: the client is hardened (`TurnConfig::set_hardened`). 1: it is not.
+    pub compatible: u32,
 }
 
 /// The seed of the generator of a client's transaction IDs.
@@ -75,6 +89,15 @@ pub struct TurnSettings {
 pub struct TurnSeed {
     /// The bytes.
     pub bytes: [u8; 32],
+}
+
+impl TurnSeed {
+    /// Returns whether all bytes are zero, which no source of random bytes gives.
+    pub fn is_zero(&self) -> bool
+        ensures { result ≡ is_zero_seed self.now.bytes }
+    {
+        self.bytes == ZERO_SEED
+    }
 }
 
 /// Returns the transport with this protocol number in IP, where 0 is UDP, or `None` if it is
@@ -98,6 +121,13 @@ fn has_bit(number: u32, bit: u32) -> bool
 }
 
 impl TurnSettings {
+    /// Returns whether the program states the size that this struct has here.
+    pub fn has_size(&self) -> bool
+        ensures { result ≡ has_size self.now }
+    {
+        self.size == SETTINGS_SIZE
+    }
+
     /// Returns the transport to the server and the one between the server and the peers. `None` if
     /// a number of the settings is not one of its choices, or if the first is UDP and the second
     /// TCP.
@@ -109,6 +139,7 @@ impl TurnSettings {
         if self.families > BOTH_FAMILIES
             || self.integrity > ALL_INTEGRITY
             || self.anonymous > ANONYMOUS_DISABLED
+            || self.compatible > COMPATIBLE
         {
             return None;
         }
@@ -139,6 +170,7 @@ impl TurnSettings {
         self.set_families(&mut config);
         self.set_integrity(&mut config);
         self.set_anonymous(&mut config);
+        config.set_hardened(self.compatible != COMPATIBLE);
         self.set_waits(&mut config);
         Ok(config)
     }
@@ -157,13 +189,18 @@ impl TurnSettings {
     }
 
     /// Sets the algorithms: the weakest whose bit is set, then the stronger ones whose bits are
-    /// set.
+    /// set. If no bit is set, HMAC-SHA1 and HMAC-SHA256.
     #[tactic(auto, unfolding(crate::specs::Settings::algorithms_of))]
     fn set_integrity(&self, config: &mut TurnConfig)
         ensures { config.new ≡ record config.old {
           algorithms = algorithms_of self.now.integrity config.old.algorithms;
         } }
     {
+        if self.integrity == 0 {
+            config.set_supported_integrity(IntegrityAlgorithm::Sha1);
+            config.add_supported_integrity(IntegrityAlgorithm::Sha256);
+            return;
+        }
         let by_sha256 = has_bit(self.integrity, INTEGRITY_SHA256);
         let by_sha512 = has_bit(self.integrity, INTEGRITY_SHA512);
         if has_bit(self.integrity, INTEGRITY_SHA1) {

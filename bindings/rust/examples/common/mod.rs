@@ -4,8 +4,7 @@ mod options;
 mod tally;
 
 use std::error::Error;
-use std::fs::File;
-use std::io::{ErrorKind, Read};
+use std::io::ErrorKind;
 use std::net::{SocketAddr, UdpSocket};
 use std::process::ExitCode;
 use std::time::{Duration, Instant};
@@ -70,15 +69,8 @@ pub fn is_nothing(error: &std::io::Error) -> bool {
     )
 }
 
-/// Makes a client: the `allocate` of its type.
-pub type Allocate = fn(SocketAddr, SocketAddr, TurnConfig, [u8; 32]) -> Result<Box<dyn TurnClientApi>, Failure>;
-
-/// 32 bytes of the system's source of random bytes.
-fn random() -> std::io::Result<[u8; 32]> {
-    let mut bytes = [0; 32];
-    File::open("/dev/urandom")?.read_exact(&mut bytes)?;
-    Ok(bytes)
-}
+/// Makes a client: the `new` of its type.
+pub type New = fn(SocketAddr, SocketAddr, TurnConfig) -> Result<Box<dyn TurnClientApi>, Failure>;
 
 /// Starts a peer on loopback that sends back what it gets: its address.
 fn start_echo() -> std::io::Result<SocketAddr> {
@@ -309,14 +301,14 @@ fn config(options: &Options, peer: Option<SocketAddr>) -> TurnConfig {
 }
 
 /// Does all of it: the tally, and what went wrong.
-fn run(options: &Options, line: Box<dyn Line>, allocate: Allocate) -> Result<Tally, Failure> {
+fn run(options: &Options, line: Box<dyn Line>, new: New) -> Result<Tally, Failure> {
     let peer = match options.peer {
         Peer::None => None,
         Peer::Echo => Some(start_echo()?),
         Peer::At(peer) => Some(peer),
     };
     let mut run = Run {
-        client: allocate(line.local_addr()?, options.server, config(options, peer), random()?)?,
+        client: new(line.local_addr()?, options.server, config(options, peer))?,
         line,
         start: Instant::now(),
         peer,
@@ -335,7 +327,7 @@ fn run(options: &Options, line: Box<dyn Line>, allocate: Allocate) -> Result<Tal
 }
 
 /// The exit status of an example. `open` makes its line to a server.
-pub fn main_over(open: fn(SocketAddr) -> Result<Box<dyn Line>, Failure>, allocate: Allocate) -> ExitCode {
+pub fn main_over(open: fn(SocketAddr) -> Result<Box<dyn Line>, Failure>, new: New) -> ExitCode {
     let mut words = std::env::args();
     let name = words.next().unwrap_or_default();
     let options = match options::read(words) {
@@ -349,7 +341,7 @@ pub fn main_over(open: fn(SocketAddr) -> Result<Box<dyn Line>, Failure>, allocat
             return ExitCode::from(BAD_USAGE);
         }
     };
-    match open(options.server).and_then(|line| run(&options, line, allocate)) {
+    match open(options.server).and_then(|line| run(&options, line, new)) {
         Ok(tally) => {
             let is_lost = tally.back < tally.count;
             tally.print();

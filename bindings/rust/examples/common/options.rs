@@ -7,15 +7,16 @@ pub const USAGE: &str = "\
 [OPTION..]: asks a TURN server for an address, and sends payloads through it to a peer that sends them back
 
   --server ADDRESS   the server, as 127.0.0.1:3478
-  --user NAME        and
-  --password WORD    whose address it is
+  --user NAME        whose address it is. The password is that of the variable TURN_PASSWORD, or of
+  --password-file F  its first line; or of
+  --password WORD    which other users of the machine can see while the program runs
   --peer ADDRESS     the peer, which is to send back what it gets
   --echo             in its place one of this program's own, on loopback
   --count N          how many payloads; without it 10. Without a peer there are none
   --size BYTES       of each, 4 to 60000; without it 100
   --seconds N        how long the address is kept at least; without it 0
   --indications      no channel: each payload goes in an indication
-  --sha256           messages are signed by HMAC-SHA256 alone, in place of HMAC-SHA1
+  --sha256           messages are signed by HMAC-SHA256 alone; without it by that or HMAC-SHA1
   --help
 
 Exit status: 0 all came back, or nothing was to be sent; 1 something was lost; 2 options that can't be read;
@@ -67,7 +68,7 @@ impl<I: Iterator<Item = String>> Reader<I> {
             words,
             server: None,
             user: None,
-            password: None,
+            password: std::env::var("TURN_PASSWORD").ok(),
             at: None,
             has_echo: false,
             count: 10,
@@ -80,6 +81,12 @@ impl<I: Iterator<Item = String>> Reader<I> {
 
     fn value(&mut self, option: &str) -> Result<String, String> {
         self.words.next().ok_or_else(|| format!("{option} wants a value"))
+    }
+
+    fn first_line(&mut self, option: &str) -> Result<String, String> {
+        let file = self.value(option)?;
+        let text = std::fs::read_to_string(&file).map_err(|why| format!("{file}: {why}"))?;
+        Ok(text.lines().next().unwrap_or_default().to_string())
     }
 
     fn address(&mut self, option: &str) -> Result<Option<SocketAddr>, String> {
@@ -101,6 +108,7 @@ impl<I: Iterator<Item = String>> Reader<I> {
             "--server" => self.server = self.address(option)?,
             "--user" => self.user = Some(self.value(option)?),
             "--password" => self.password = Some(self.value(option)?),
+            "--password-file" => self.password = Some(self.first_line(option)?),
             "--peer" => self.at = self.address(option)?,
             "--echo" => self.has_echo = true,
             "--count" => self.count = self.number(option, 0, MOST_COUNT)?,
