@@ -75,18 +75,20 @@ size_t stun_bench_check_types(SLICE(bytes), OUT);
 
 // ---- what is counted: the linker sends each call of malloc and realloc here (--wrap)
 
-size_t allocations;
+size_t allocations, allocated_bytes;
 
 void *__real_malloc(size_t size);
 void *__real_realloc(void *at, size_t size);
 
 void *__wrap_malloc(size_t size) {
     allocations++;
+    allocated_bytes += size;
     return __real_malloc(size);
 }
 
 void *__wrap_realloc(void *at, size_t size) {
     allocations++;
+    allocated_bytes += size;
     return __real_realloc(at, size);
 }
 
@@ -133,6 +135,9 @@ static volatile unsigned sink;
 static uint8_t out[256];
 static uint8_t wide[HEADER_SIZE + BODY_MOST];
 static uint8_t digest[SHA512_SIZE];
+// the response signed by SHA-256, with the first or the last byte of its HMAC changed
+static uint8_t first_wrong[sizeof response_sha256];
+static uint8_t last_wrong[sizeof response_sha256];
 static struct allocation told;
 static bool fingerprint;
 
@@ -163,6 +168,8 @@ TIMED(validate_whole_sha1, sink += stun_bench_validate_sha1(KEY, WHOLE(response_
 TIMED(validate_request_sha1, sink += stun_bench_validate_sha1(KEY, WHOLE(request_sha1)).holds)
 TIMED(validate_response_sha256,
       sink += stun_bench_validate_sha256(KEY, WHOLE(response_sha256)).holds)
+TIMED(refuse_first, sink += stun_bench_validate_sha256(KEY, WHOLE(first_wrong)).holds)
+TIMED(refuse_last, sink += stun_bench_validate_sha256(KEY, WHOLE(last_wrong)).holds)
 TIMED(validate_request_sha256,
       sink += stun_bench_validate_sha256(KEY, WHOLE(request_sha256)).holds)
 TIMED(validate_response_sha512,
@@ -207,8 +214,8 @@ enum {
     SHA1_FIVE, SHA256_FIVE, SHA512_FIVE, CRC_LONG, CRC_SHORT, PARSE_RESPONSE, READ_RESPONSE, PARSE_REQUEST,
     LOOK_UP_REQUEST, PARSE_WHOLE, LOOK_UP_WHOLE, READ_WHOLE, KEY_SHA1, KEY_SHA256, KEY_SHA512,
     VALIDATE_RESPONSE_SHA1, VALIDATE_WHOLE_SHA1, VALIDATE_REQUEST_SHA1, VALIDATE_RESPONSE_SHA256,
-    VALIDATE_REQUEST_SHA256, VALIDATE_RESPONSE_SHA512, VALIDATE_REQUEST_SHA512, BUILD, BUILD_LENT, SIGN_SHA1,
-    MARK_SHA1, MARK_LENT_SHA1, SIGN_SHA256, SIGN_SHA512, BUILD_REQUEST, SIGN_REQUEST_SHA1,
+    REFUSE_FIRST, REFUSE_LAST, VALIDATE_REQUEST_SHA256, VALIDATE_RESPONSE_SHA512, VALIDATE_REQUEST_SHA512,
+    BUILD, BUILD_LENT, SIGN_SHA1, MARK_SHA1, MARK_LENT_SHA1, SIGN_SHA256, SIGN_SHA512, BUILD_REQUEST, SIGN_REQUEST_SHA1,
     BUILD_REQUEST_LENT, SIGN_REQUEST_LENT_SHA1, FINGERPRINT_RESPONSE, FINGERPRINT_REQUEST,
     PARSE_CHANNEL, WRITE_CHANNEL, FEED_FEW, FEED_MORE, SMALL_ROWS,
     ADD_1 = SMALL_ROWS, ADD_18, ADD_899, ADD_1100, PARSE_UNKNOWNS, CHECK_UNKNOWNS, FEED_MANY,
@@ -236,6 +243,8 @@ static const struct row rows[ROWS] = {
                              16},
     [VALIDATE_REQUEST_SHA1] = {"key, validate request, SHA-1", validate_request_sha1, 16},
     [VALIDATE_RESPONSE_SHA256] = {"key, validate response, SHA-256", validate_response_sha256, 16},
+    [REFUSE_FIRST] = {"key, refuse response, SHA-256, whose HMAC's first byte is wrong", refuse_first, 16},
+    [REFUSE_LAST] = {"key, refuse response, SHA-256, whose HMAC's last byte is wrong", refuse_last, 16},
     [VALIDATE_REQUEST_SHA256] = {"key, validate request, SHA-256", validate_request_sha256, 16},
     [VALIDATE_RESPONSE_SHA512] = {"key, validate response, SHA-512", validate_response_sha512, 16},
     [VALIDATE_REQUEST_SHA512] = {"key, validate request, SHA-512", validate_request_sha512, 16},
@@ -324,6 +333,14 @@ static void make_unknowns(void) {
     }
 }
 
+// the HMAC is the value of the response's last attribute
+static void make_wrong(void) {
+    memcpy(first_wrong, response_sha256, sizeof first_wrong);
+    memcpy(last_wrong, response_sha256, sizeof last_wrong);
+    first_wrong[sizeof first_wrong - SHA256_SIZE] ^= 1;
+    last_wrong[sizeof last_wrong - 1] ^= 1;
+}
+
 // each another one
 static void make_lifetimes(void) {
     for (uint32_t i = 0; i < ADDS_MOST; i++) {
@@ -379,6 +396,10 @@ static void check_validation(void) {
     must(validates(stun_bench_validate_sha512(KEY, WHOLE(response_sha512))), "SHA-512");
     must(validates(stun_bench_validate_sha512(KEY, WHOLE(request_sha512))), "SHA-512");
     must(!validates(stun_bench_validate_sha512(KEY, WHOLE(response_sha256))), "another algorithm");
+    make_wrong();
+    struct answer first = stun_bench_validate_sha256(KEY, WHOLE(first_wrong));
+    struct answer last = stun_bench_validate_sha256(KEY, WHOLE(last_wrong));
+    must(first.known && !first.holds && last.known && !last.holds, "a wrong HMAC");
     must(!validates(stun_bench_validate_sha1(software, sizeof software - 1, WHOLE(response_sha1))),
          "another key");
 }
@@ -523,6 +544,8 @@ static const double MOST_INTO_VECTOR = 0.15;
 static const double MOST_REQUEST_INTO_SLICE = 0.06;
 static const double MOST_SIGNED_REQUEST = 0.75;
 static const double MOST_OF_10TH_ADD = 1.2;
+// a comparison that stopped at the first byte would save some nanoseconds of a microsecond: this is noise
+static const double MOST_BETWEEN_BYTES = 1.03;
 static const double MOST_OF_FEW_FRAMES = 1.5;
 // nanoseconds that a block of SHA-1 takes on the processor to which the bound of CRC-32 is scaled
 static const double SCALED_BLOCK = 150;
@@ -567,6 +590,10 @@ static void tell_integrity(void) {
     tell("validate the request, SHA-256", NO_BOUND, under_key_sha256(VALIDATE_REQUEST_SHA256) / sha256);
     tell("sign the response, SHA-256", NO_BOUND,
          (under_key_sha256(SIGN_SHA256) - least[BUILD]) / sha256);
+    double first = least[REFUSE_FIRST];
+    double last = least[REFUSE_LAST];
+    tell("refuse a wrong HMAC-SHA256: its last byte to its first, or the other way round", MOST_BETWEEN_BYTES,
+         last > first ? last / first : first / last);
     double sha512 = least[SHA512_FIVE];
     tell("validate the response, SHA-512, to five SHA-512 blocks", NO_BOUND,
          under_key_sha512(VALIDATE_RESPONSE_SHA512) / sha512);
@@ -669,6 +696,7 @@ int main(int argc, char **argv) {
     tell_allocations();
     tell_clients();
     tell_agents();
+    tell_users();
     if (missed) {
         printf("\nA bound is missed.\n");
     }

@@ -45,15 +45,16 @@ void must(bool holds, const char *what);
 void tell(const char *name, double wanted, double measured);
 // two bytes of a message
 void write_short(uint8_t *bytes, unsigned value);
-// how many calls of malloc and realloc there were
-extern size_t allocations;
+// how many calls of malloc and realloc there were, and how many bytes they were for
+extern size_t allocations, allocated_bytes;
 
 // what a key saves that is kept (kept.c)
 void time_kept(unsigned rounds);
 void tell_kept(void);
 
-// what a client's calls cost (clients.c), and an agent's (agents.c)
+// what a client's calls cost (clients.c), an agent's (agents.c), and a server core's (users.c)
 void tell_clients(void);
 void tell_agents(void);
+void tell_users(void);
 
 #endif

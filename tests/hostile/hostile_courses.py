@@ -5,6 +5,9 @@ bytes. It knows no client: what it asks for, and when, is drawn by lot.
 
 What it signs under the user's key never grants anything to the client's own requests: it has numbers that the client
 doesn't draw, or is an error. Messages of other runs come from clients of other seeds.
+
+Some clients are hardened. Those that aren't have the traces that they would have if there were no others: a lot of its
+own decides, and only a hardened one gets the moves of `BLIND`.
 """
 
 import random
@@ -33,6 +36,8 @@ ALGORITHMS = (
 AIMS = {"udp": ("permission", "channel", "channel", "nothing"), "tcp": ("connection", "connection", "permission")}
 # how much of a course is hostile; the seeds of clients, and those of other runs
 SHARES = (0.2, 0.35, 0.35, 0.5, 0.8)
+# how many courses have a hardened client, and how many of those begin with a handshake that nothing disturbs
+HARDENED, UNDISTURBED = 0.3, {False: 0.85, True: 0.5}
 SEEDS = {False: (0, 127), True: (128, 255)}
 BAD_LINES = ("draw", "poll -1", "toclient 0 x y -", "send 0 udp 10.0.0.1:5 @0", "evil 0", "draw 0 0")
 SERVED = (0x003, 0x004, 0x008, 0x009, 0x00A, 0x00B)
@@ -53,6 +58,7 @@ class Course:
         self.lines, self.events, self.known = [f"# {name}"], [], 0
         self.asked, self.replied, self.handed, self.delivered = [], [], 0, 0
         self.wanted, self.closing, self.until, self.steps, self.replies = [], [], None, 0, set()
+        self.hardened = others is not None and dice_of(name, "hardened").random() < HARDENED
         self.set_up(dice.randint(*SEEDS[others is None]))
 
     def set_up(self, seed):
@@ -69,7 +75,7 @@ class Course:
         if dice.random() < 0.3:
             self.lines.append(f"rto {dice.choice(WAITS)}")
         setting = f"{self.transport} {self.families} {algorithms} {hidden} user pass {seed}"
-        self.lines.append(f"client {self.own} {LOCAL} {REMOTE} {setting}")
+        self.lines.append(f"client {self.own} {LOCAL} {REMOTE} {setting}{' hardened' * self.hardened}")
         common = set(algorithms.split(",")) & set(offered.split(","))
         self.meets = bool(common) and (hidden, anonymity) != ("required", "disabled")
         self.aim = dice.choice(AIMS[self.transport])
@@ -380,6 +386,25 @@ class Course:
             signed = dice.choice(((), (INTEGRITY, b"wrong"), (INTEGRITY_SHA256, md5), (INTEGRITY_SHA512, md5)))
         return self.hears(written(kind, asked.number, told, *signed).hex(), source)
 
+    def forges_blindly(self):
+        """What answers one of the last requests, but with a number that no request has: a challenge, mostly."""
+        asked, source = self.newest()
+        if asked is None:
+            return self.draws()
+        return self.forges_to(asked._replace(number=self.foreign_number()), source)
+
+    def cuts_list(self):
+        """A challenge whose nonce announces algorithms, without a list or with a bad one, to one of the last
+        requests."""
+        dice, (asked, source) = self.dice, self.newest()
+        if asked is None:
+            return self.draws()
+        nonces = [it for it in (read(data).first(NONCE) for _, data, _ in self.replied) if it]
+        told = [(ERROR_CODE, dice.choice((b"\0\0\4\1", b"\0\0\4\x26"))), (REALM, b"realm")]
+        told.append((NONCE, dice.choice([*nonces[-1:], b"obMatJos2gAAAevil", b"obMatJos2wAAAevil"])))
+        told += dice.choice(([], [], [(PASSWORD_ALGORITHMS, b"\0\2\0")], [(PASSWORD_ALGORITHMS, b"\0\3\0\0")]))
+        return self.hears(written(asked.method | ERROR, asked.number, told).hex(), source)
+
     def answer(self):
         """The number and the bytes of an answer that has some: mostly one of the last."""
         known = self.asked + self.replied
@@ -441,17 +466,24 @@ HOSTILE = (
 )
 
 
+BLIND = ((Course.forges_blindly, 6), (Course.cuts_list, 3))
+
+
 def moves_of(table):
     return [move for move, times in table for _ in range(times)]
 
 
-MOVES = {False: moves_of(HONEST), True: moves_of(HOSTILE)}
+# by whether they are hostile, and whether the client is hardened
+MOVES = {
+    (False, False): moves_of(HONEST), (False, True): moves_of(HONEST),
+    (True, False): moves_of(HOSTILE), (True, True): moves_of(HOSTILE + BLIND),
+}
 
 
 def begun(name, dice, others=None):
     """A course whose first lines stand; with messages of other runs a hostile one, else one of these."""
     course = Course(name, dice, others)
-    if course.meets and dice.random() < 0.85:
+    if course.meets and dice.random() < UNDISTURBED[course.hardened]:
         course.starts()
     else:
         course.draws()
@@ -467,7 +499,7 @@ def goes_further(course, is_last):
     if dice.random() < 0.85:
         course.opens()
     for _ in range(dice.randint(1, 4)):
-        dice.choice(MOVES[dice.random() < course.share])(course)
+        dice.choice(MOVES[dice.random() < course.share, course.hardened])(course)
     if dice.random() < 0.7:
         course.aims()
         course.draws()

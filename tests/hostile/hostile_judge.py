@@ -8,11 +8,13 @@
 - The client's requests have the numbers of its seed, each of one text, and are signed under its key. Of what `poll`
   told to wait for nothing is sent before; a moment that has passed it tells where something is due.
 - The desk grants what a user has signed, as the decision says, and signs that under the same key.
+- What a hardened client never does is in `hostile_hardened.py`.
 """
 
 import re
 
 from hostile_grants import CONNECTION_ATTEMPT, CONNECTION_ID, Grant, Grants, is_success, payload_in
+from hostile_hardened import Hardened
 from hostile_messages import (
     ERROR, INDICATION, REQUEST, SUCCESS, address_in, host_of, is_drawn, is_named, is_signed, number_in, read,
 )
@@ -84,7 +86,9 @@ class Judge:
             if words[0] == "client":
                 _, self.own, self.local, self.remote, self.transport, *_ = words
                 self.name, self.password, self.seed = words[8], words[9], int(words[10])
+                is_hardened = words[11:] == ["hardened"]
         self.grants = Grants((self.name, self.realm, self.password), self.own == "tcp")
+        self.hardened = Hardened(self.name, self.password, self.own == "tcp") if is_hardened else None
 
     def bytes_of(self, word):
         """What a word of bytes spells."""
@@ -177,6 +181,8 @@ class Judge:
             realm = (message.last(REALM) or b"").decode()
             signed = is_named(message, self.name, realm) and is_signed(message, self.name, realm, self.password)
             check(signed, "not signed under the client's key")
+            why = self.hardened and self.hardened.sends(message, self.sent)
+            check(not why, why)
 
     def on_send(self, words, told, value):
         if told[0] == "refused":
@@ -211,6 +217,8 @@ class Judge:
             check(told == ["ignored"], "taken from or for another address")
         if is_servers:
             self.grants.hear(to, data)
+            why = self.hardened and self.hardened.hear(to, data, " ".join(told), self.sent)
+            check(not why, why)
         if told[0] in ("peer", "icmp"):
             self.check_given(told, value)
         if told[0] == "peer" and self.own == "udp":

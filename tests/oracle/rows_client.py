@@ -41,7 +41,7 @@ class Settings:
     def __init__(self, name, password, changes):
         self.account = name or "-", password or "-"
         self.transport, self.families, self.algorithms = "UDP", ("IPV4",), ("Sha1",)
-        self.anonymity, self.waits = "Auto", None
+        self.anonymity, self.is_hardened, self.waits = "Auto", False, None
         self.words = []
         for it in changes:
             self.words += ["waits", *it] if isinstance(it, tuple) else [it]
@@ -50,6 +50,9 @@ class Settings:
     def change(self, it):
         if isinstance(it, tuple):
             self.waits = it
+            return
+        if it in ("hardened", "softened"):
+            self.is_hardened = it == "hardened"
             return
         how = "+" if "+" in it else "="
         kind, name = it.split(how)
@@ -63,7 +66,8 @@ class Settings:
             self.anonymity = name.capitalize()
 
     def told(self):
-        return [*self.account, self.transport, *self.families, *self.algorithms, self.anonymity]
+        last = ["hardened"] * self.is_hardened
+        return [*self.account, self.transport, *self.families, *self.algorithms, self.anonymity, *last]
 
     def schedule(self):
         """How long the requests of an agent wait: as those of every agent, where no waits are set."""
@@ -81,12 +85,14 @@ KEPT = []
 
 
 def settings(*changes, name="user", password="pass"):
-    """A row of settings, which are held against all that were made before and against themselves."""
+    """A row of settings, which are held against all that were made before and against themselves. Returns the indexes
+    of those that equal them."""
     made = Settings(name, password, changes)
     KEPT.append(made)
     equal = [at for at, it in enumerate(KEPT) if (it.told(), it.waits) == (made.told(), made.waits)]
     answer = [*made.told(), "equals", *equal, "is equalled by", *equal]
     row("settings", *made.account, *made.words)(*answer)
+    return equal
 
 
 def step_by_step(steps):
@@ -367,6 +373,45 @@ def bad_lines():
     settings()
 
 
+OTHERS = ("transport=tcp", "family=v6", "algorithm+sha256", "anonymity=required", (600, 1000, 3, 3000))
+
+
+def hardened():
+    part("hardened settings equal their copy, and none that are not hardened")
+    alone = settings("hardened")
+    assert alone == [len(KEPT) - 1]
+    assert settings("softened") == settings()[:-1]
+    part("what was set last counts, however often")
+    for words, is_hardened in (
+        (["hardened", "hardened"], True),
+        (["softened", "hardened"], True),
+        (["hardened", "softened", "hardened"], True),
+        (["hardened", "softened"], False),
+        (["softened", "softened"], False),
+        (["hardened", "hardened", "softened"], False),
+    ):
+        assert (alone[0] in settings(*words)) == is_hardened
+    part("with each other setting: hardened first, hardened last, and not hardened")
+    for others in (*([it] for it in OTHERS), OTHERS):
+        first, last = settings("hardened", *others), settings(*others, "hardened")
+        assert last[:-1] == first and not {*last} & {*settings(*others)}
+    part("of other accounts, the same letters parted elsewhere, and none")
+    for account in ({"name": "uses"}, {"password": "past"}, {"name": "userp", "password": "ass"}):
+        assert settings("hardened", **account) == [len(KEPT) - 1]
+        settings(**account)
+    settings("hardened", name="", password="")
+    part("an agent's waits are the same")
+    for waits in ([], [(600, 1000, 3, 3000)]):
+        settings("hardened", *waits)
+        agent("UDP")
+        agent("TCP")
+    part("words that mean no such change; settings of such a line are not kept")
+    for word in ("Hardened", "hardened=true", "hardened=", "harden", "soften", "not-hardened", "hardened 1"):
+        row("settings", "user", "pass", *word.split(" "))("bad line")
+    part("the next settings")
+    settings("hardened")
+
+
 def debugs():
     part("what credentials are printed as for who looks for a fault: no password is")
     for name, password, realm in (("user", "pass", "realm"), ("", "", ""), ("a\"b", "secret", "r")):
@@ -380,7 +425,7 @@ def debugs():
 
 
 def main():
-    for made in (no_settings, lists, kinds, agents, errors, payloads, sends, debugs, bad_lines):
+    for made in (no_settings, lists, kinds, agents, errors, payloads, sends, debugs, bad_lines, hardened):
         made()
     write(CRATE)
 

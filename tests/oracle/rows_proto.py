@@ -3,8 +3,9 @@
 
 It knows nothing of the repository's code. What an agent of requests answers is worked out in
 `rows_proto_agent.py`; what digests, keys and nonces answer, in `rows_proto_values.py`; and what the
-authenticators answer, in `rows_proto_auth.py`. What reaches these is in `rows_proto_parties.py`, and of three
-algorithms in `rows_proto_three_algorithms.py`. It writes `stdin` and `stdout` of the crate.
+authenticators answer, in `rows_proto_auth.py`. What reaches these is in `rows_proto_parties.py`, of three
+algorithms in `rows_proto_three_algorithms.py`, and of hardened clients in `rows_proto_hardened.py`. It writes
+`stdin` and `stdout` of the crate.
 """
 
 import sys
@@ -14,6 +15,7 @@ from pathlib import Path
 sys.dont_write_bytecode = True
 
 import rows_proto_agent
+import rows_proto_hardened
 import rows_proto_parties
 import rows_proto_three_algorithms
 import rows_proto_values
@@ -51,6 +53,7 @@ def sections():
     yield from rows_proto_parties.clients()
     yield from rows_proto_parties.servers()
     yield from rows_proto_three_algorithms.sections()
+    yield from rows_proto_hardened.sections()
     yield from bad_heads()
 
 

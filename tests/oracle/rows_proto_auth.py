@@ -121,6 +121,7 @@ class Client(Section):
         super().__init__("client")
         self.remark(what)
         self.account, self.algorithms, self.anonymity = None, [SHA1], "Auto"
+        self.is_hardened = False
         self.kept = self.integrity = None
         if account:
             self.credentials(*account)
@@ -148,6 +149,14 @@ class Client(Section):
         self.anonymity = anonymity
         self.ask("ok", "names", anonymity=anonymity.lower())
 
+    def harden(self):
+        self.is_hardened = True
+        self.ask("ok", "harden")
+
+    def soften(self):
+        self.is_hardened = False
+        self.ask("ok", "soften")
+
     def standing(self):
         return self.kept if self.account else None
 
@@ -172,7 +181,7 @@ class Client(Section):
         account = 'Some(("{}", "{}"))'.format(*self.account) if self.account else "None"
         realm, nonce, _, _ = self.standing() or (None, None, None, None)
         size = made("request", lambda: self.parts("request"))[1]
-        kept = f"{rust_text(realm)} {rust_text(nonce)} {some(self.integrity)} {size}"
+        kept = f"{rust_text(realm)} {rust_text(nonce)} {some(self.integrity)} {size}" + " hardened" * self.is_hardened
         self.ask(f"({account}, [{', '.join(self.algorithms)}], {self.anonymity}) {kept}", "tell")
 
     def signs(self, *classes):
@@ -180,7 +189,10 @@ class Client(Section):
             self.ask(made(what, lambda what=what: self.parts(what))[0], "sign", class_=what)
 
     def taken(self, claim):
-        """What is made of a challenge."""
+        """What is made of a challenge. A hardened client wants the list that the nonce announces (RFC 8489, section
+        9.2.5: it must not retry where the bit is set and no PASSWORD-ALGORITHMS is there)."""
+        if self.is_hardened and told(claim.nonce)[0] and claim.algorithms is None:
+            return "UnsupportedFeature"
         listed = claim.algorithms if told(claim.nonce)[0] else None
         theirs = [SHA1] if listed is None else [it for it in ALL if BY[it][3] in numbers_in(listed)]
         common = [it for it in reversed(ALL) if it in self.algorithms and it in theirs]

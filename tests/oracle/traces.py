@@ -3,15 +3,15 @@
 
 It knows nothing of the repository's code: messages and numbers are written by `traces_base.py`. The moments
 were worked out by hand, from the waits that a client is documented to have. It was run once, and what it
-wrote is stored: nine examples, and the traces of a client and a desk in the stored run of `turn_replay`,
+wrote is stored: eleven examples, and the traces of a client and a desk in the stored run of `turn_replay`,
 behind those of a desk alone.
 
 Here are the handshake, renewal and end of an allocation, each pair of settings, and what is no trace. Strangers at the
 desk are in `traces_other_addresses.py`, permissions in `traces_permissions.py`, channels in `traces_channels.py` and
 `traces_channel_lifetimes.py`, sends and payloads in `traces_payloads.py`, a client over TCP in `traces_tcp.py`.
 Connections are in `traces_connections.py`, their sockets in `traces_connection_sockets.py`, what comes over these in
-`traces_bound_connections.py`, connections that peers begin in `traces_attempt_timing.py`, and a client that is never
-answered in `traces_unanswered.py`.
+`traces_bound_connections.py`, connections that peers begin in `traces_attempt_timing.py`, a client that is never
+answered in `traces_unanswered.py`, and a hardened client in `traces_hardened.py`.
 """
 
 import hashlib
@@ -574,6 +574,7 @@ def good_traces():
     from traces_permissions import permission_traces
     from traces_connections import connection_traces
     from traces_connection_sockets import socket_traces
+    from traces_hardened import hardened_traces
     from traces_other_addresses import stranger_traces
     from traces_tcp import stream_traces
     from traces_unanswered import unanswered_traces
@@ -589,7 +590,18 @@ def good_traces():
         *refreshes_answered(), stale_refresh(), stale_refresh_lost(), stale_deletion(),
         mismatched_deletion(), *each_setting(), *stranger_traces(), *permission_traces(), *channel_traces(),
         *payload_traces(), *stream_traces(), *connection_traces(), *socket_traces(),
-        *bound_traces(), *attempt_traces(), *unanswered_traces(),
+        *bound_traces(), *attempt_traces(), *unanswered_traces(), *hardened_traces(honest_traces()),
+    )
+
+
+def honest_traces():
+    """Traces whose answers a hardened client gives as well."""
+    yield from (
+        handshake(), repeated_grant(), reflected_request(), address_behind_the_signature(), foreign_datagrams(),
+        forged_challenge(), repeated_challenge(), ten_challenges(), *offers(), no_hashed_names(), lost_replies(),
+        nobody_answers(), deleted(), renewed(), repeated_renewal(), error_above(), last_moment(),
+        request_for_a_response(), signed_request(), stale_allocate(), half_stale(), family_not_supported(),
+        both_families(), stale_refresh(), stale_deletion(), mismatched_deletion(),
     )
 
 
@@ -624,6 +636,15 @@ def bad_traces():
     yield "A client over TCP with a word more", TCP[:-1] + " 0\n", "", 2
     yield "A client over each transport", TCP + MADE, "", 3
     yield "One family twice", MADE.replace("udp 4", "udp 4,4"), "", 2
+    for remark, words in (
+        ("spelled otherwise", "Hardened"), ("with a letter less", "hardene"), ("twice", "hardened hardened"),
+        ("and a word behind it", "hardened 0"), ("behind an empty one", " hardened"), ("that is a number", "1"),
+    ):
+        yield f"A client with the word that hardens it, {remark}", f"{MADE[:-1]} {words}\n", "", 2
+    yield "A client with the word that hardens it in the place of its seed", MADE[:-3] + " hardened\n", "", 2
+    yield "A client with the word that hardens it before its seed", MADE[:-3] + " hardened 0\n", "", 2
+    yield "A client over TCP with the word that hardens it twice", TCP[:-1] + " hardened hardened\n", "", 2
+    yield "A desk with the word that hardens a client", "desk realm sha1 auto hardened\n", "", 2
     yield "Behind an event", BOTH + "relayed\n" + rto, "relayed\n", 6
     yield from bad_events(f"""
         A moment too much: event 0
@@ -706,6 +727,7 @@ def examples():
     from traces_attempts import example as example_of_attempts
     from traces_bound_connections import example as example_of_connections
     from traces_channels import granted_channel_again
+    from traces_hardened import examples_of_hardened
     from traces_payloads import example
     from traces_permissions import granted_reply_again
     from traces_tcp import example as example_over_tcp
@@ -719,6 +741,7 @@ def examples():
     yield "tcp", example_over_tcp()
     yield "connection", example_of_connections()
     yield "attempt", example_of_attempts()
+    yield from examples_of_hardened()
 
 
 def with_shortest_decisions(lines):

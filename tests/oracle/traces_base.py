@@ -190,10 +190,10 @@ def unsigned(kind, k, attributes):
 # ---- traces
 
 
-def setup(families="4", algorithms="sha1", anonymity="auto", desk="sha1 auto", rto=""):
+def setup(families="4", algorithms="sha1", anonymity="auto", desk="sha1 auto", rto="", hardened=False):
     return (
         f"desk realm {desk}\nuser user pass\n{rto}"
-        f"client udp {CLIENT} {SERVER} udp {families} {algorithms} {anonymity} user pass 0\n"
+        f"client udp {CLIENT} {SERVER} udp {families} {algorithms} {anonymity} user pass 0{' hardened' * hardened}\n"
     )
 
 

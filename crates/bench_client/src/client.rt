@@ -33,7 +33,7 @@ pub(crate) fn time(requests: usize) -> Instant {
 }
 
 /// Returns an address from its numbers.
-fn address(host: u32, port: u16) -> SocketAddr {
+pub(crate) fn address(host: u32, port: u16) -> SocketAddr {
     SocketAddr::V4(SocketAddrV4::new(Ipv4Addr::from(host), port))
 }
 
@@ -75,7 +75,7 @@ pub(crate) fn desk(alloc: Global) -> Result<Desk, NoMemory> {
         return Err(NoMemory);
     };
     let mut auth = LongTermServerAuth::new(alloc, realm);
-    match add_user(alloc, &mut auth) {
+    match add_user(alloc, &mut auth, "user", "pass") {
         Ok(()) => Ok(Desk::new(alloc, auth)),
         Err(error) => {
             drop(auth);
@@ -84,12 +84,17 @@ pub(crate) fn desk(alloc: Global) -> Result<Desk, NoMemory> {
     }
 }
 
-/// Adds the client's user to a server's users.
-fn add_user(alloc: Global, auth: &mut LongTermServerAuth) -> Result<(), NoMemory> {
-    let Ok(name) = String::from_str(alloc, "user") else {
+/// Adds a user to a server's users.
+pub(crate) fn add_user(
+    alloc: Global,
+    auth: &mut LongTermServerAuth,
+    name: &str,
+    password: &str,
+) -> Result<(), NoMemory> {
+    let Ok(name) = String::from_str(alloc, name) else {
         return Err(NoMemory);
     };
-    match String::from_str(alloc, "pass") {
+    match String::from_str(alloc, password) {
         Ok(password) => auth.add_user(LongTermCredentials::new(name, password)),
         Err(_) => {
             drop(name);

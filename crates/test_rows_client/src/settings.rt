@@ -50,6 +50,8 @@ fn change(line: &mut Line<'_>, config: &mut TurnConfig) {
         "family=v6" => config.set_address_family(AddressFamily::IPV6),
         "family+v4" => config.add_address_family(AddressFamily::IPV4),
         "family+v6" => config.add_address_family(AddressFamily::IPV6),
+        "hardened" => config.set_hardened(true),
+        "softened" => config.set_hardened(false),
         "waits" => wait(line, config),
         word => sign(line, config, word),
     }
@@ -79,7 +81,7 @@ fn sign(line: &mut Line<'_>, config: &mut TurnConfig, word: &str) {
     }
 }
 
-/// Prints settings.
+/// Prints settings, and `hardened` last if they are.
 fn show(line: &mut Line<'_>, config: &TurnConfig) {
     line.say_text(config.credentials().username());
     line.say_text(config.credentials().password());
@@ -92,6 +94,9 @@ fn show(line: &mut Line<'_>, config: &TurnConfig) {
     }
     let anonymity = config.anonymous_username();
     let _ = write!(line.answer, " {anonymity:?}");
+    if config.is_hardened() {
+        line.say(&"hardened");
+    }
 }
 
 /// Prints the indexes of the settings that `one` equals, and of those that equal `one`.

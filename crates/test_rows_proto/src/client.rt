@@ -36,14 +36,16 @@ impl Party for LongTermClientAuth {
             "set" => self.set_supported_integrity(line.algorithm),
             "add" => self.add_supported_integrity(line.algorithm),
             "names" => self.set_anonymous_username(line.anonymity),
+            "harden" => self.set_hardened(true),
+            "soften" => self.set_hardened(false),
             _ => return Err(LineError::Bad),
         }
         Ok(text.push_str("ok")?)
     }
 }
 
-/// Appends a client's settings, the challenge that it stores, and how many bytes its signature
-/// adds.
+/// Appends a client's settings, the challenge that it stores, how many bytes its signature adds,
+/// and `hardened` if the client is.
 fn report(client: &LongTermClientAuth, text: &mut String) -> Result<(), LineError> {
     let account = match client.credentials() {
         Some(account) => Some((account.username(), account.password())),
@@ -53,10 +55,14 @@ fn report(client: &LongTermClientAuth, text: &mut String) -> Result<(), LineErro
     let (realm, nonce, integrity) = (client.realm(), client.nonce(), client.integrity());
     let size = client.message_signature_bytes();
     let settings = (account, algorithms, anonymity);
-    Ok(write!(
+    write!(
         text,
         "{settings:?} {realm:?} {nonce:?} {integrity:?} {size}"
-    )?)
+    )?;
+    if client.is_hardened() {
+        text.push_str(" hardened")?;
+    }
+    Ok(())
 }
 
 /// Appends a client's result of validating a message.
