@@ -4,17 +4,18 @@
  *   - A handle is used by one call at a time, and is not copied while it is open. It may go to another thread
  *     between two calls. After fork(), one process goes on with an open handle, and the other at most closes its copy:
  *     two that go on send the same transaction IDs.
- *   - A pointer is not null, not even with a length of 0. It is aligned for its type, and points to memory of the size
- *     that its type or the length beside it says. What a call writes does not overlap anything else that the call is
- *     given.
- *   - A length is at most PTRDIFF_MAX, as the size of any object is. So the -1 of a recv that failed is no length.
+ *   - A pointer is aligned for its type, and points to memory of the size that its type or the length beside it says.
+ *     It is not null, except beside a length of 0, which is then no bytes. What a call writes does not overlap anything
+ *     else that the call is given.
+ *   - The `out_len` of the calls that list what the client holds counts elements: together they are at most PTRDIFF_MAX
+ *     bytes, as any object is. In bytes a length is checked: see TURN_BAD_LENGTH.
  *   - A handle is all zero before it is opened for the first time (TURN_CLIENT_INIT). A bool is true or false.
  *   - malloc, realloc and free come from one allocator. No call is made from a signal handler.
  *   - Times are nanoseconds since any start, as those of CLOCK_MONOTONIC: none earlier than one before, none after
  *     TURN_MOMENT_MAX. Otherwise renewals may come at the wrong time.
  *   - The 32 bytes of a seed come from the system's source of random bytes (getrandom, getentropy), and from
  *     nowhere else. Whoever knows them knows the client's transaction IDs and can forge responses. Two clients with
- *     the same seed confuse each other's responses. A seed that was left all zero is taken like any other.
+ *     the same seed confuse each other's responses. Only a seed that was left all zero is refused.
  *
  * WHAT IS CHECKED: everything else. A call that refuses returns a status below zero. The checks come in this order:
  * the arguments from the left, the sizes of buffers, the handle, and then the rest; only turn_client_open checks the
@@ -43,7 +44,7 @@
  *         if (happened)
  *             continue;                                          another turn at once
  *         ...                                                    wait for `fd`, until wait.until at most (round it up)
- *         ssize_t size = recv(fd, in, sizeof in, MSG_DONTWAIT);
+ *         ssize_t size = recv(fd, in, sizeof in, MSG_DONTWAIT);    below zero: TURN_BAD_LENGTH, and nothing is handled
  *         if (size >= 0 && turn_client_feed(&client, &server, &local, in, size, now(), &payload) == TURN_PAYLOAD)
  *             ...                                                in[payload.start], payload.size bytes of payload.peer
  *     }
@@ -89,11 +90,13 @@
 #error "libturn_client is made for x86-64 Linux with glibc, and this program is compiled for another platform"
 #endif
 
-/* The version of this header, and of the library that was released with it. The library cannot be asked for its own. */
+/* The version of this header, and of the library that was released with it: turn_client_version returns the library's
+ * own, by the same number. It is major * 10000 + minor * 100 + patch. */
 #define TURN_CLIENT_VERSION "0.1.0"
 #define TURN_CLIENT_VERSION_MAJOR 0
 #define TURN_CLIENT_VERSION_MINOR 1
 #define TURN_CLIENT_VERSION_PATCH 0
+#define TURN_CLIENT_VERSION_NUMBER 100
 
 #ifdef __cplusplus
 extern "C" {
@@ -116,9 +119,12 @@ enum turn_status {
     TURN_BAD_FAMILY = -3,    /* the family of an address is neither 4 nor 6 */
     TURN_BAD_TEXT = -4,      /* the name or the password is not UTF-8 */
     TURN_LONG_NAME = -5,     /* the name has more than TURN_NAME_MAX bytes */
-    TURN_BAD_SETTING = -6,   /* a number is not a valid transport, family, algorithm or choice */
+    TURN_BAD_SETTING = -6,   /* a number is not a valid transport, family, algorithm or choice, or the settings state
+                              * another size than theirs */
     TURN_SMALL_BUFFER = -7,  /* the buffer is smaller than the size that the call states */
     TURN_UNREAD = -8,        /* joined bytes are to be read first, by turn_client_read */
+    TURN_ZERO_SEED = -17,    /* all bytes of the seed are zero: it was not filled */
+    TURN_BAD_LENGTH = -18,   /* a length in bytes is more than PTRDIFF_MAX, as the -1 of a recv that failed */
 
     /* The client cannot do this. After these nothing has changed, except for what the call says. */
     TURN_NO_ALLOCATION = -9, /* no allocation can serve this: it was never made, the client has ended, or it has
@@ -153,23 +159,32 @@ typedef struct turn_address {
     uint8_t family;          /* 4 or 6; 0 is no address, where a call says so */
 } turn_address;
 
-/* The settings of a client. With all numbers zero except the addresses: over UDP, one IPv4 address over UDP, HMAC-SHA1
- * only, the name is hidden if the server supports it, and requests wait as RFC 8489 says. */
+/* The settings of a client, which begin as TURN_SETTINGS_INIT. With all numbers zero except size and addresses: over
+ * UDP, one IPv4 address over UDP, HMAC-SHA1 and HMAC-SHA256, the name is hidden if the server supports it, requests
+ * wait as RFC 8489 says, and the client is hardened. */
 typedef struct turn_settings {
+    size_t size;             /* sizeof(turn_settings), as the program was compiled: another size is refused */
     turn_address local;      /* the client's own address. It need not be the system's, but turn_client_feed has to name
                               * the same: what came to another address is ignored, but for sockets of connections */
     turn_address server;     /* the server's address: what comes from another is ignored */
     uint32_t transport;      /* to the server; 0 is TURN_UDP */
     uint32_t peers;          /* between the server and the peers; 0 is TURN_UDP; TURN_TCP only over TCP */
     uint32_t families;       /* bits: of the relayed addresses; 0 is TURN_IPV4 */
-    uint32_t integrity;      /* bits: the supported algorithms; 0 is TURN_SHA1 */
+    uint32_t integrity;      /* bits: the supported algorithms, of which the strongest that the server has is taken; 0
+                              * is TURN_SHA1 and TURN_SHA256 */
     uint32_t anonymous;      /* whether the user's name is hidden (RFC 8489, section 9.2): auto hides it if the server
                               * supports that */
     uint32_t sends;          /* how often a request is sent in all over UDP; 0: this and the waits as RFC 8489 says */
     uint32_t first_wait;     /* the wait after the first transmission, in milliseconds; each next is twice as long */
     uint32_t most_wait;      /* the longest wait between two transmissions, in milliseconds */
     uint32_t last_wait;      /* the wait after the last transmission, in milliseconds */
+    uint32_t compatible;     /* 0: the client is hardened. It ignores responses to no request of its own, refuses a
+                              * challenge that lacks the list of algorithms which its nonce announces, and ignores what
+                              * does not validate while it allocates. 1: it takes these as the RFCs allow */
 } turn_settings;
+
+/* Settings of this size, and otherwise zero: turn_settings settings = TURN_SETTINGS_INIT; */
+#define TURN_SETTINGS_INIT {sizeof(turn_settings), {{0}, 0, 0}, {{0}, 0, 0}, 0, 0, 0, 0, 0, 0, 0, 0, 0, 0}
 
 /* 32 random bytes, see above. */
 typedef struct turn_seed {
@@ -255,6 +270,10 @@ typedef struct turn_client {
 
 #define TURN_CLIENT_INIT {0, false}
 
+/* The version of the library: major * 10000 + minor * 100 + patch. If it is not TURN_CLIENT_VERSION_NUMBER, header
+ * and library are of two releases. */
+uint32_t turn_client_version(void);
+
 /* ---- beginning and end */
 
 /* Opens a client of this user. Nothing is sent yet: turn_client_draw gives the first request.
@@ -266,10 +285,13 @@ typedef struct turn_client {
  *
  *   Refused (the handle stays as it was):
  *   TURN_ALREADY_OPEN     the handle is open already
+ *   TURN_BAD_SETTING      settings->size is not sizeof(turn_settings)
  *   TURN_BAD_FAMILY       the family of settings->local or settings->server is neither 4 nor 6
  *   TURN_BAD_SETTING      a number of the settings is not valid, or `peers` is TURN_TCP over UDP
+ *   TURN_BAD_LENGTH       `username_len` or `password_len` is more than PTRDIFF_MAX
  *   TURN_BAD_TEXT         the name or the password is not UTF-8
  *   TURN_LONG_NAME        the name has more than TURN_NAME_MAX bytes
+ *   TURN_ZERO_SEED        all 32 bytes of the seed are zero
  *   TURN_NO_MEMORY        malloc failed */
 int32_t turn_client_open(turn_client *client, const turn_settings *settings,
                          const char *username, size_t username_len,
@@ -310,6 +332,7 @@ int32_t turn_client_delete(turn_client *client, uint64_t now);
  *
  *   Refused:
  *   TURN_BAD_FAMILY       the family of `from` or `to` is neither 4 nor 6
+ *   TURN_BAD_LENGTH       `len` is more than PTRDIFF_MAX
  *   TURN_NO_CLIENT        the handle is not open
  *   TURN_UNREAD           joined bytes are to be read first, by turn_client_read; these bytes were not handled
  *   TURN_NO_MEMORY        malloc failed: the client has failed, and is to be closed */
@@ -336,6 +359,7 @@ int32_t turn_client_pull(turn_client *client, uint64_t now, turn_payload *payloa
  *   TURN_NOTHING          there are no joined bytes
  *
  *   Refused (the joined bytes stay to be read):
+ *   TURN_BAD_LENGTH       `out_len` is more than PTRDIFF_MAX
  *   TURN_NO_CLIENT        the handle is not open
  *   TURN_SMALL_BUFFER     `out_len` is less than the payload's size */
 int32_t turn_client_read(turn_client *client, uint8_t *out, size_t out_len);
@@ -347,6 +371,7 @@ int32_t turn_client_read(turn_client *client, uint8_t *out, size_t out_len);
  *   TURN_NOTHING          nothing is to be sent now
  *
  *   Refused:
+ *   TURN_BAD_LENGTH       `out_len` is more than PTRDIFF_MAX
  *   TURN_SMALL_BUFFER     `out_len` is less than TURN_MESSAGE_MAX
  *   TURN_NO_CLIENT        the handle is not open
  *   TURN_NO_MEMORY        malloc failed: the client has failed, and is to be closed
@@ -367,6 +392,7 @@ int32_t turn_client_draw(turn_client *client, uint64_t now, uint8_t *out, size_t
  *   Refused:
  *   TURN_BAD_SETTING      `transport` is neither TURN_UDP nor TURN_TCP
  *   TURN_BAD_FAMILY       the family of `peer` is neither 4 nor 6
+ *   TURN_BAD_LENGTH       `len` or `out_len` is more than PTRDIFF_MAX
  *   TURN_SMALL_BUFFER     `out_len` is less than len + TURN_SEND_EXTRA
  *   TURN_NO_CLIENT        the handle is not open
  *   TURN_NO_PERMISSION    there is no permission for the peer's address
