@@ -551,7 +551,7 @@ def read_options() -> argparse.Namespace:
     add = parser.add_argument
     add("--server", type=read_address, required=True, metavar="IP:PORT", help="of IPv6 [IP]:PORT")
     add("--user", required=True)
-    add("--password-file", dest="password", type=first_line, metavar="FILE", default=os.environ.get("TURN_PASSWORD"),
+    add("--password-file", dest="password", type=first_line, metavar="FILE",
         help="its first line is the password; without it that is the variable TURN_PASSWORD")
     add("--password", help="the password, which other users of the machine can see while the program runs")
     add("--tcp", action="store_true", help="a connection over TCP to the server; peers are reached over UDP")
@@ -568,6 +568,9 @@ def read_options() -> argparse.Namespace:
     add("--sha256", action="store_true", help="requests are signed by HMAC-SHA256 alone; without it by that "
         "or HMAC-SHA1")
     options = parser.parse_args()
+    if options.password is None:
+        # no default of the parser's: it would read the variable as the name of a file
+        options.password = os.environ.get("TURN_PASSWORD")
     if options.password is None:
         parser.error("a password is wanted: TURN_PASSWORD, --password-file or --password")
     options.is_connection = options.connect is not None
