@@ -54,11 +54,16 @@ def announces(nonce):
 
 
 def is_listed(message):
-    """Whether a message lists algorithms, all of which are known (RFC 8489, section 14.11)."""
+    """Whether a message has a list of complete entries, whose algorithms may be unknown (RFC 8489, section 14.11)."""
     value = message.last(PASSWORD_ALGORITHMS)
-    if value is None or len(value) % 4 or not 4 <= len(value) <= LONGEST_LIST:
+    if value is None or not 4 <= len(value) <= LONGEST_LIST:
         return False
-    return all(int.from_bytes(value[i : i + 2], "big") in KNOWN for i in range(0, len(value), 4))
+    while len(value) >= 4:
+        size = 4 + -(-int.from_bytes(value[2:4], "big") // 4) * 4
+        if size > len(value):
+            return False
+        value = value[size:]
+    return not value
 
 
 def is_cut(message):

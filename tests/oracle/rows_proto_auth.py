@@ -23,6 +23,7 @@ from rows_proto_keys import (
     WORDS,
     claim_of,
     entries,
+    entries_in,
     hash_of,
     is_signed,
     judged,
@@ -190,11 +191,20 @@ class Client(Section):
 
     def taken(self, claim):
         """What is made of a challenge. A hardened client wants the list that the nonce announces (RFC 8489, section
-        9.2.5: it must not retry where the bit is set and no PASSWORD-ALGORITHMS is there)."""
-        if self.is_hardened and told(claim.nonce)[0] and claim.algorithms is None:
-            return "UnsupportedFeature"
-        listed = claim.algorithms if told(claim.nonce)[0] else None
-        theirs = [SHA1] if listed is None else [it for it in ALL if BY[it][3] in numbers_in(listed)]
+        9.2.5: it must not retry where the bit is set and no PASSWORD-ALGORITHMS is there), and passes over unknown
+        entries."""
+        has = claim.algorithms is not None
+        if self.is_hardened:
+            has = entries_in(claim.listed) is not None
+            if told(claim.nonce)[0] and not has:
+                return "UnsupportedFeature"
+        listed = claim.listed if has and told(claim.nonce)[0] else None
+        if listed is None:
+            theirs = [SHA1]
+        elif self.is_hardened:
+            theirs = [it for it in ALL if (BY[it][3], b"") in entries_in(listed)]
+        else:
+            theirs = [it for it in ALL if BY[it][3] in numbers_in(listed)]
         common = [it for it in reversed(ALL) if it in self.algorithms and it in theirs]
         if not common or (self.anonymity == "Required" and not told(claim.nonce)[1]):
             return "UnsupportedFeature"

@@ -29,18 +29,38 @@ from rows_proto_three_algorithms import KEYS, THREE_LIST
 STALE = code(438, "Stale Nonce")
 # of the challenges that a client can't answer
 REFUSED = None
-# Malformed lists: of a length that is no multiple of four, of none and of nine algorithms, and with an algorithm that
-# has no name here.
+# Malformed lists: of a length that is no multiple of four, of none and of nine algorithms, and with an entry whose
+# parameters aren't all there.
 MALFORMED = [
     *(THREE_LIST[:size] for size in (1, 2, 3, 5, 6, 7, 9, 10, 11)),
     THREE_LIST + b"\0",
     b"",
     3 * THREE_LIST,
-    b"\0\7\0\0",
-    b"\0\0\0\0",
-    b"\xff\xff\0\0",
-    THREE_LIST + b"\0\3\0\0",
-    b"\0\7\0\0" + THREE_LIST,
+    b"\0\7\0\1",
+    b"\0\7\0\4\0\2\0",
+    b"\0\7\0\5" + entries([SHA256]),
+    THREE_LIST + b"\0\7\xff\xff",
+]
+UNKNOWN, TWO = b"\0\7\0\0", entries([SHA256])
+# Lists that have algorithms without a name here, and the strongest of the others: each entry is as long as its
+# parameters and their padding, in which no other entry is looked for, and padding isn't looked at. An algorithm that is
+# known has no parameters.
+WITH_UNKNOWN = [
+    (UNKNOWN, REFUSED),
+    (b"\0\0\0\0", REFUSED),
+    (b"\xff\xff\0\0", REFUSED),
+    (8 * UNKNOWN, REFUSED),
+    (b"\0\7\0\4" + TWO, REFUSED),
+    (b"\0\7\0\1" + TWO, REFUSED),
+    (b"\0\7\0\5" + TWO + b"x\1\2\3", REFUSED),
+    (b"\0\7\0\x1c" + 7 * TWO, REFUSED),
+    (b"\0\7\0\4" + TWO + entries([SHA1]), SHA1),
+    (b"\0\7\0\4" + TWO + TWO, SHA256),
+    (b"\0\7\0\5" + TWO + b"x\1\2\3" + TWO, SHA256),
+    (UNKNOWN + TWO, SHA256),
+    (TWO + UNKNOWN, SHA256),
+    (UNKNOWN + THREE_LIST, SHA512),
+    (THREE_LIST + b"\0\3\0\0", SHA512),
 ]
 # of three algorithms, and of fewer
 WELL_FORMED = [(THREE_LIST, SHA512), (FIRST_LIST, SHA256), (entries([SHA256, SHA1]), SHA256), (entries([SHA1]), SHA1)]
@@ -103,6 +123,18 @@ def announced():
     yield from both(
         "a list is announced and malformed",
         [(challenge(BOTH, listed(it)), REFUSED, SHA1) for it in MALFORMED],
+    )
+    yield from both(
+        "a list has algorithms that are unknown here",
+        [(challenge(nonce, listed(it)), by, SHA1) for nonce in (LIST, BOTH) for it, by in WITH_UNKNOWN],
+    )
+    yield from both(
+        "a known algorithm has parameters",
+        [
+            (challenge(BOTH, listed(b"\0\2\0\4" + entries([SHA1]))), REFUSED, SHA256),
+            (challenge(BOTH, listed(b"\0\2\0\4" + 2 * entries([SHA1]))), SHA1, SHA256),
+            (challenge(BOTH, listed(b"\0\2\0\4" + UNKNOWN)), REFUSED, SHA1),
+        ],
     )
     two = [listed(THREE_LIST), listed(THREE_LIST[:-1])]
     yield from both(

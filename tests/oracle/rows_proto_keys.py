@@ -138,6 +138,7 @@ class Claim(NamedTuple):
     realm: Optional[str]
     nonce: Optional[str]
     algorithms: Optional[bytes]
+    listed: Optional[bytes]
     algorithm: Optional[int]
     code: Optional[int]
 
@@ -159,6 +160,24 @@ def list_in(value):
     if value is None or len(value) not in range(4, 33, 4):
         return None
     return value if all(it in NUMBERS for it in numbers_in(value)) else None
+
+
+def entries_in(value):
+    """The entries of a list, whose algorithms may be unknown, each a number and parameters that are padded to four
+    bytes; None if the list isn't made of such alone, or isn't of 4 to 32 bytes."""
+    if value is None or len(value) not in range(4, 33):
+        return None
+    found = []
+    while value:
+        if len(value) < 4:
+            return None
+        number, size = struct.unpack(">HH", value[:4])
+        whole = 4 + (size + 3) // 4 * 4
+        if whole > len(value):
+            return None
+        found.append((number, value[4 : 4 + size]))
+        value = value[whole:]
+    return found
 
 
 def algorithm_in(value):
@@ -185,6 +204,7 @@ def claim_of(data):
         text_in(last.get(REALM), MOST_TEXT),
         text_in(last.get(NONCE), MOST_TEXT),
         list_in(last.get(PASSWORD_ALGORITHMS)),
+        last.get(PASSWORD_ALGORITHMS),
         algorithm_in(last.get(PASSWORD_ALGORITHM)),
         code_in(last.get(ERROR_CODE)),
     )

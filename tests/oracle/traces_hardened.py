@@ -238,6 +238,21 @@ def unlisted(*more, nonce=NONCES[b"gAAA"], ends=True):
     return course
 
 
+def passed_over(is_hardened):
+    """Of a list an algorithm is unknown: SHA-1 is taken, or a hardened client passes over it and returns the list."""
+    listed = PASSWORD_ALGORITHMS, b"\0\2\0\0\0\3\0\4\0\1\0\0"
+    returned = [*NAMED_UNDER, listed, (PASSWORD_ALGORITHM, ALGORITHMS["sha256"][1])] if is_hardened else NAMED_UNDER
+    by = SHA256 if is_hardened else SHA1
+    t = Trace(setup(algorithms=TWO, hardened=is_hardened))
+    t.draw(0, first())
+    t.hear(0, unsigned(ALLOCATE | ERROR, 0, [code(401), *UNDER, listed]))
+    t.poll(0, 50 * MS)
+    t.draw(50 * MS, signed_allocate(1, returned, by=by))
+    t.hear(50 * MS, message(ALLOCATE | SUCCESS, number(1), [*GRANTED], by))
+    t.is_created(OTHER)
+    return t
+
+
 def by_sha256(is_hardened):
     """A client that has chosen SHA-256 of a list, and signs its ALLOCATE by that."""
     t = Trace(setup(algorithms=TWO, hardened=is_hardened))
@@ -460,9 +475,11 @@ def pairs():
     yield "A challenge announces algorithms, and lists none", unlisted()
     for name, value in (
         ("of three bytes", b"\0\2\0"), ("of no bytes", b""), ("of six bytes", b"\0\2\0\0\0\1"),
-        ("of an algorithm that nobody knows", b"\0\2\0\0\0\3\0\0"),
+        ("whose last parameters are cut off", b"\0\2\0\0\0\3\0\4"),
+        ("of an algorithm that nobody knows", b"\0\3\0\4\0\2\0\0"),
     ):
         yield f"A challenge announces algorithms, and has a list {name}", unlisted((PASSWORD_ALGORITHMS, value))
+    yield "A challenge announces algorithms, and has one that nobody knows behind SHA-256", passed_over
     twice = (PASSWORD_ALGORITHMS, entries("sha256")), (PASSWORD_ALGORITHMS, b"\0\2\0")
     yield "A challenge announces algorithms, and has a list and then a bad one", unlisted(*twice)
     yield "A challenge announces no algorithms, and lists some", unlisted(LISTED, nonce=NONCES[b"AAAA"], ends=False)

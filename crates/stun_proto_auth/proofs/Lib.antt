@@ -2,6 +2,8 @@ pub mod Adding
 pub mod NonceLemmas
 pub mod Keeping
 pub mod Entries
+pub mod Listed
+pub mod KnownLists
 pub mod Lasts
 pub mod Counting
 pub mod Making

@@ -11,6 +11,7 @@ use Rattle.stun_types_auth_attributes.specs.Entries.{algorithm_read_refusal, alg
 use Rattle.stun_types_attributes.specs.ErrorCodeReading.{error_read_refusal, error_decoded}
 use Rattle.stun_types_wire.specs.Registry.{error_code_kind, longest_text, longest_username, nonce_kind, password_algorithm_kind, password_algorithms_kind, realm_kind, userhash_kind, userhash_length, username_kind}
 use Rattle.stun_types_message.specs.MessageValidation.{last_algorithm}
+use Rattle.stun_proto_auth.specs.Lists.{list_read_refusal}
 
 -- The last attribute of a type.
 unfoldable pub last_of_kind : ℕ → List Attr → Option Attr
@@ -37,6 +38,11 @@ unfoldable pub algorithms_decoded : Option Attr → Option (List ℕ)
 algorithms_decoded None = None
 algorithms_decoded (Some a) = unless_refused (algorithms_read_refusal a) a.value
 
+-- The value of a PASSWORD-ALGORITHMS that may have unknown algorithms, if it is present and well formed.
+unfoldable pub list_decoded : Option Attr → Option (List ℕ)
+list_decoded None = None
+list_decoded (Some a) = unless_refused (list_read_refusal a) a.value
+
 -- The number in a PASSWORD-ALGORITHM, if it is present and well formed.
 unfoldable pub algorithm_decoded : Option Attr → Option ℕ
 algorithm_decoded None = None
@@ -54,8 +60,10 @@ pub record Claimed : Type 0 where
   pub user_hash : Option (List ℕ)
   pub realm : Option (List ℕ)
   pub nonce : Option (List ℕ)
-  -- The PASSWORD-ALGORITHMS value, and the number of the chosen algorithm.
+  -- The PASSWORD-ALGORITHMS value if all its algorithms are known, that value if they may be unknown, and the number
+  -- of the chosen algorithm.
   pub algorithms : Option (List ℕ)
+  pub listed : Option (List ℕ)
   pub algorithm : Option ℕ
 
 -- The claim of a list of attributes.
@@ -67,6 +75,7 @@ claim_of all = record {
   realm = text_decoded realm_kind longest_text (last_of_kind realm_kind all);
   nonce = text_decoded nonce_kind longest_text (last_of_kind nonce_kind all);
   algorithms = algorithms_decoded (last_of_kind password_algorithms_kind all);
+  listed = list_decoded (last_of_kind password_algorithms_kind all);
   algorithm = algorithm_decoded (last_of_kind password_algorithm_kind all);
 }
 

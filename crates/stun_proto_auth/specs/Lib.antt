@@ -3,6 +3,7 @@ pub mod Nonce
 pub mod StoredAlgorithms
 pub mod Claims
 pub mod Offers
+pub mod Lists
 pub mod Addition
 pub mod Sizes
 pub mod AdditionStages

@@ -3,9 +3,10 @@
 ghost use Rattle.std.specs.Prelude.{◌≡◌, Some, None};
 ghost use Rattle.std.specs.Option.{option_copied, option_map};
 ghost use Rattle.stun_types_auth_attributes.specs.PasswordAlgorithmNumbers.{number_of};
-ghost use Rattle.stun_proto_auth.specs.Claims.{algorithm_decoded, algorithms_decoded, claimed, code_visible, code_decoded, hash_decoded, text_decoded};
+ghost use Rattle.stun_proto_auth.specs.Claims.{algorithm_decoded, algorithms_decoded, claimed, code_visible, code_decoded, hash_decoded, list_decoded, text_decoded};
 
 use crate::last::last_attribute;
+use crate::list::is_list;
 use std::convert::TryFrom;
 use std::marker::Model;
 use stun_types_attributes::error_code::ErrorCode;
@@ -40,7 +41,7 @@ pub struct Claim<'a> {
 impl<'a> Model for Claim<'a> {
     ghost use Rattle.stun_types_wire.specs.Registry.{longest_text, longest_username};
     ghost use Rattle.stun_types_wire.specs.Registry.{nonce_kind, realm_kind, username_kind};
-    ghost use Rattle.stun_proto_auth.specs.Claims.{Claimed, algorithm_decoded, algorithms_decoded, hash_decoded, text_decoded};
+    ghost use Rattle.stun_proto_auth.specs.Claims.{Claimed, algorithm_decoded, algorithms_decoded, hash_decoded, list_decoded, text_decoded};
 
     ghost Value = { Claimed };
 
@@ -51,6 +52,7 @@ impl<'a> Model for Claim<'a> {
       realm = text_decoded realm_kind longest_text c.realm;
       nonce = text_decoded nonce_kind longest_text c.nonce;
       algorithms = algorithms_decoded c.algorithms;
+      listed = list_decoded c.algorithms;
       algorithm = algorithm_decoded c.algorithm;
     } };
 }
@@ -106,12 +108,20 @@ impl<'a> Claim<'a> {
         text_decoded(&self.nonce, Nonce::TYPE, Nonce::MAX_LEN)
     }
 
-    /// Returns the value of the PASSWORD-ALGORITHMS (RFC 8489, section 14.11): four bytes for each
-    /// algorithm.
+    /// Returns the value of the PASSWORD-ALGORITHMS (RFC 8489, section 14.11), each of whose
+    /// algorithms is known: four bytes for each.
     pub fn algorithms(&self) -> Option<&[u8]>
         ensures { option_copied result ≡ self.now.algorithms }
     {
         algorithms_decoded(&self.algorithms)
+    }
+
+    /// Returns the value of the PASSWORD-ALGORITHMS, whose algorithms may be unknown: complete
+    /// entries, at most 32 bytes.
+    pub fn listed(&self) -> Option<&[u8]>
+        ensures { option_copied result ≡ self.now.listed }
+    {
+        list_decoded(&self.algorithms)
     }
 
     /// Returns the chosen password algorithm (RFC 8489, section 14.12). Contracts see its number.
@@ -177,6 +187,26 @@ fn algorithms_decoded<'raw>(visible: &'raw Option<RawAttribute<'_>>) -> Option<&
         Some(raw) => match PasswordAlgorithms::entries_of(raw) {
             Ok(value) => Some(value),
             Err(_) => None,
+        },
+        None => None,
+    }
+}
+
+/// Returns the value of a PASSWORD-ALGORITHMS that may have unknown algorithms, if it is present and
+/// well formed.
+#[tactic(auto, unfolding(crate::specs::Claims::list_decoded, crate::specs::Lists::list_read_refusal))]
+fn list_decoded<'raw>(visible: &'raw Option<RawAttribute<'_>>) -> Option<&'raw [u8]>
+    ensures { option_copied result ≡ list_decoded visible.now }
+{
+    match visible {
+        Some(raw) => match value_of(
+            raw,
+            registry::PASSWORD_ALGORITHMS,
+            4,
+            PasswordAlgorithms::MAX_LEN,
+        ) {
+            Ok(value) if is_list(value) => Some(value),
+            _ => None,
         },
         None => None,
     }

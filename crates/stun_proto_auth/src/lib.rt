@@ -7,6 +7,7 @@ pub mod algorithms;
 pub mod claim;
 pub mod feature;
 mod last;
+pub mod list;
 pub mod nonce;
 pub mod number;
 pub mod part;

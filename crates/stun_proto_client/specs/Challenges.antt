@@ -11,11 +11,12 @@ use Rattle.stun_proto_auth.specs.declared.feature.Feature.TheVariants.{Auto, Req
 use Rattle.stun_proto_auth.specs.Claims.{Claimed, claimed, code_visible}
 
 -- A challenge: realm, nonce and, if the nonce announces password algorithms and the list is present, the
--- PASSWORD-ALGORITHMS value.
+-- PASSWORD-ALGORITHMS value: as `offered` if each algorithm in it is known, and as `listed` if some may be unknown.
 pub record ChallengeFields : Type 0 where
   pub realm : List ℕ
   pub nonce : List ℕ
   pub offered : Option (List ℕ)
+  pub listed : Option (List ℕ)
 
 -- Whether a class is that of error responses.
 abbrev pub is_error : MessageClass → Bool
@@ -38,14 +39,18 @@ abbrev pub list_by : List ℕ → Option (List ℕ) → Option (List ℕ)
 list_by nonce algorithms = if (features_in nonce).password_algorithms then algorithms else None
 
 -- The challenge with a realm and a nonce, if both are present.
-abbrev pub decoded_by : Option (List ℕ) → Option (List ℕ) → Option (List ℕ) → Option ChallengeFields
-decoded_by (Some realm) (Some nonce) algorithms =
-    Some (record { realm = realm; nonce = nonce; offered = list_by nonce algorithms })
-decoded_by _ _ _ = None
+abbrev pub decoded_by : Option (List ℕ) → Option (List ℕ) → Option (List ℕ) → Option (List ℕ) → Option ChallengeFields
+decoded_by (Some realm) (Some nonce) algorithms listed = Some (record {
+  realm = realm;
+  nonce = nonce;
+  offered = list_by nonce algorithms;
+  listed = list_by nonce listed;
+})
+decoded_by _ _ _ _ = None
 
 -- The challenge in a claim.
 abbrev pub reported_of : Claimed → Option ChallengeFields
-reported_of claim = decoded_by claim.realm claim.nonce claim.algorithms
+reported_of claim = decoded_by claim.realm claim.nonce claim.algorithms claim.listed
 
 -- The challenge in a message, if the message is one.
 abbrev pub challenge_visible : List ℕ → Option ChallengeFields
@@ -58,10 +63,16 @@ is_anonymous_enough Auto nonce = true
 is_anonymous_enough Required nonce = (features_in nonce).anonymous_username
 is_anonymous_enough Disabled nonce = true
 
+-- The list from which a client chooses an algorithm: a hardened client passes over unknown algorithms (RFC 8489,
+-- section 9.2.5), and for any other a list that has one counts as absent.
+abbrev pub list_for_choice : Bool → ChallengeFields → Option (List ℕ)
+list_for_choice false reported = reported.offered
+list_for_choice true reported = reported.listed
+
 -- Whether the nonce announces password algorithms and there is no well-formed list of them, as where somebody on
 -- the way has taken the list out (RFC 8489, section 9.2.1).
 abbrev pub lacks_list : ChallengeFields → Bool
-lacks_list reported = (features_in reported.nonce).password_algorithms && is_none reported.offered
+lacks_list reported = (features_in reported.nonce).password_algorithms && is_none reported.listed
 
 -- Whether a challenge has the list that it announces. Only a hardened client wants it (RFC 8489, section 9.2.5).
 abbrev pub is_listed_enough : Bool → ChallengeFields → Bool

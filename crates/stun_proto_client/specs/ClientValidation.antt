@@ -3,7 +3,7 @@
 use Rattle.std.specs.Prelude.{◌≡◌, ◌⊎◌, ℕ, true, false, List, Option, Some, None}
 use Rattle.stun_types_wire.specs.declared.algorithm.IntegrityAlgorithm.{IntegrityAlgorithm}
 use Rattle.stun_proto_auth.specs.Claims.{claimed}
-use Rattle.stun_proto_client.specs.Challenges.{ChallengeFields, challenge_visible, is_anonymous_enough, is_listed_enough}
+use Rattle.stun_proto_client.specs.Challenges.{ChallengeFields, challenge_visible, is_anonymous_enough, is_listed_enough, list_for_choice}
 use Rattle.stun_proto_client.specs.Choice.{HasNoneCommon, IsStrongest}
 use Rattle.stun_proto_client.specs.Client.{Client, Standing, standing_key, standing_of}
 use Rattle.stun_proto_client.specs.Digests.{IsRight, IsWrong}
@@ -15,7 +15,7 @@ use Rattle.stun_proto_client.specs.declared.validation.LongTermClientValidation.
 -- The client can answer a challenge with this algorithm: it is the strongest common one; if anonymity is required,
 -- the nonce announces it; and if the client is hardened, a list that the nonce announces is there.
 pub record IsAnswerable (client : Client) (reported : ChallengeFields) (choice : IntegrityAlgorithm) : Type 0 where
-  pub strongest : IsStrongest client.algorithms reported.offered choice
+  pub strongest : IsStrongest client.algorithms client.hardened (list_for_choice client.hardened reported) choice
   pub anonymous : is_anonymous_enough client.anonymous_username reported.nonce ≡ true
   pub listed : is_listed_enough client.hardened reported ≡ true
 
@@ -23,7 +23,12 @@ pub record IsAnswerable (client : Client) (reported : ChallengeFields) (choice :
 abbrev pub keeping : Client → ChallengeFields → IntegrityAlgorithm → Client
 keeping client reported choice = record client {
   challenge = Some
-      (record { realm = reported.realm; nonce = reported.nonce; offered = reported.offered; choice = choice });
+      (record {
+        realm = reported.realm;
+        nonce = reported.nonce;
+        offered = list_for_choice client.hardened reported;
+        choice = choice;
+      });
   integrity = Some choice;
 }
 
@@ -44,7 +49,7 @@ pub record IsResent (old : Client) (bytes : List ℕ) (choice : IntegrityAlgorit
 -- the client is hardened, and a list is announced and not there.
 abbrev pub IsUnanswerable : Client → ChallengeFields → Type 0
 IsUnanswerable client reported =
-    HasNoneCommon client.algorithms reported.offered
+    HasNoneCommon client.algorithms client.hardened (list_for_choice client.hardened reported)
     ⊎ ((is_anonymous_enough client.anonymous_username reported.nonce ≡ false)
     ⊎ (is_listed_enough client.hardened reported ≡ false))
 

@@ -3,7 +3,7 @@
 ghost use Rattle.std.specs.Prelude.{◌≡◌, ◌↔◌};
 ghost use Rattle.std.specs.Option.{option_copied};
 ghost use Rattle.stun_proto_auth.specs.Claims.{claimed};
-ghost use Rattle.stun_proto_client.specs.Challenges.{asks_again, challenge_visible, is_anonymous_enough, is_listed_enough, list_by, reported_of};
+ghost use Rattle.stun_proto_client.specs.Challenges.{asks_again, challenge_visible, is_anonymous_enough, is_listed_enough, list_by, list_for_choice, reported_of};
 
 use std::marker::Model;
 use stun_proto_auth::claim::{Claim, error_code_of};
@@ -14,13 +14,15 @@ use stun_types_wire::class::MessageClass;
 use stun_types_wire::registry::{STALE_NONCE, UNAUTHORIZED};
 
 /// A challenge as read from a message: its realm, its nonce and, if the nonce announces password
-/// algorithms and the list is present, the PASSWORD-ALGORITHMS value. Contracts see the record
+/// algorithms and the list is present, the PASSWORD-ALGORITHMS value: as `offered` if each algorithm
+/// in it is known, and as `listed` if some may be unknown. Contracts see the record
 /// `ChallengeFields`.
 #[derive(Debug, Drop)]
 pub(crate) struct ChallengeFields<'a> {
     realm: &'a str,
     nonce: &'a str,
     offered: Option<&'a [u8]>,
+    listed: Option<&'a [u8]>,
 }
 
 impl<'a> Model for ChallengeFields<'a> {
@@ -33,6 +35,7 @@ impl<'a> Model for ChallengeFields<'a> {
       realm = t.realm.now;
       nonce = t.nonce.now;
       offered = option_copied t.offered;
+      listed = option_copied t.listed;
     } };
 }
 
@@ -58,10 +61,12 @@ impl<'a> ChallengeFields<'a> {
         let realm = claim.realm()?;
         let nonce = claim.nonce()?;
         let offered = list_by(nonce, claim.algorithms());
+        let listed = list_by(nonce, claim.listed());
         Some(ChallengeFields {
             realm,
             nonce,
             offered,
+            listed,
         })
     }
 
@@ -79,11 +84,12 @@ impl<'a> ChallengeFields<'a> {
         self.nonce
     }
 
-    /// Returns the PASSWORD-ALGORITHMS value to choose from, if there is one.
-    pub(crate) fn offered(&self) -> Option<&'a [u8]>
-        ensures { option_copied result ≡ self.now.offered }
+    /// Returns the PASSWORD-ALGORITHMS value to choose from, if there is one. A hardened client's may
+    /// have unknown algorithms.
+    pub(crate) fn list_for_choice(&self, hardened: bool) -> Option<&'a [u8]>
+        ensures { option_copied result ≡ list_for_choice hardened self.now }
     {
-        self.offered
+        if hardened { self.listed } else { self.offered }
     }
 }
 
@@ -125,6 +131,6 @@ pub(crate) fn is_listed_enough(hardened: bool, decoded: &ChallengeFields<'_>) ->
     ensures { result ≡ is_listed_enough hardened decoded.now }
 {
     !hardened
-        || decoded.offered().is_some()
+        || decoded.listed.is_some()
         || !NonceFeatures::decoded_by(decoded.nonce()).password_algorithms
 }

@@ -172,8 +172,10 @@ impl LongTermClientAuth {
     /// Sets whether the client is hardened, that is, protects itself against bidding down (RFC 8489,
     /// sections 9.2.1 and 9.2.5). A hardened client refuses a challenge whose nonce announces
     /// password algorithms and that has no well-formed list of them: somebody on the way may have
-    /// taken it out. Any other client then takes `Sha1` as what the server supports. A challenge
-    /// that is stored already stays valid.
+    /// taken it out. In a list it passes over the algorithms that it doesn't know, and takes the
+    /// strongest of the others that it supports. For any other client a list that is absent,
+    /// malformed or has an unknown algorithm means that the server supports `Sha1`. A challenge that
+    /// is stored already stays valid.
     pub fn set_hardened(&mut self, hardened: bool)
         ensures { self.new ≡ record self.old { hardened = hardened } }
     {

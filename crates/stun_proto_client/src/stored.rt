@@ -2,6 +2,7 @@
 
 ghost use Rattle.std.specs.Prelude.{◌≡◌, IfOk};
 ghost use Rattle.std.specs.Option.{option_copied, option_map};
+ghost use Rattle.stun_proto_client.specs.Challenges.{list_for_choice};
 ghost use Rattle.stun_proto_client.specs.Client.{key_by, standing_key};
 
 use crate::challenge::ChallengeFields;
@@ -38,22 +39,24 @@ impl Model for StoredChallenge {
 }
 
 impl StoredChallenge {
-    /// Copies a challenge, with the chosen algorithm. Fails with `NoMemory` if an allocation fails.
+    /// Copies a challenge, with the list from which a client chose that is hardened or isn't, and
+    /// the chosen algorithm. Fails with `NoMemory` if an allocation fails.
     pub(crate) fn of(
         alloc: Global,
         decoded: &ChallengeFields<'_>,
+        hardened: bool,
         choice: IntegrityAlgorithm,
     ) -> Result<StoredChallenge, NoMemory>
         ensures { IfOk result (λ stored. stored ≡ record {
           realm = decoded.now.realm;
           nonce = decoded.now.nonce;
-          offered = decoded.now.offered;
+          offered = list_for_choice hardened decoded.now;
           choice = choice;
         }) }
     {
         let realm = String::from_str(alloc, decoded.realm())?;
         let nonce = String::from_str(alloc, decoded.nonce())?;
-        let offered = copy_of(alloc, decoded.offered())?;
+        let offered = copy_of(alloc, decoded.list_for_choice(hardened))?;
         Ok(StoredChallenge {
             realm,
             nonce,

@@ -34,6 +34,8 @@ impl LongTermClientAuth {
     ///   has. It is stored with the strongest algorithm that both sides support, and the result is
     ///   `ResendRequest`. If the nonce announces no list of algorithms, or the list is absent, the
     ///   server supports `Sha1`; but a hardened client refuses a list that is announced and absent.
+    ///   A list that has an algorithm unknown here counts as absent, except for a hardened client,
+    ///   which passes over unknown ones (section 9.2.5).
     /// - Any other message is `Validated` if its last integrity attribute is of the chosen
     ///   algorithm and validates under the client's key.
     ///
@@ -84,7 +86,7 @@ impl LongTermClientAuth {
         let Some(choice) = self.choice_for(decoded) else {
             return Err(LongTermClientAuthError::UnsupportedFeature);
         };
-        let stored = StoredChallenge::of(self.alloc, decoded, choice)?;
+        let stored = StoredChallenge::of(self.alloc, decoded, self.hardened, choice)?;
         self.challenge = Some(stored);
         self.key = key_of_both(&self.account, &self.challenge);
         self.integrity = Some(choice);
@@ -102,7 +104,7 @@ impl LongTermClientAuth {
         if !is_listed_enough(self.hardened, decoded) {
             return None;
         }
-        strongest(self.supported, decoded.offered())
+        strongest(self.supported, self.hardened, decoded.list_for_choice(self.hardened))
     }
 
     /// Validates a message that is not a challenge, and records the algorithm.

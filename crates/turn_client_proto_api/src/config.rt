@@ -217,14 +217,16 @@ impl TurnConfig {
     /// - ignores a response whose transaction ID is not outstanding, before anything else of it is
     ///   read: so whoever cannot see the client's requests cannot change its realm, nonce or key;
     /// - refuses a challenge whose nonce announces password algorithms and that has no well-formed
-    ///   list of them (RFC 8489, section 9.2.5), so nobody can bid it down to `Sha1`;
+    ///   list of them, and takes the strongest algorithm of a list, passing over those that it
+    ///   doesn't know (RFC 8489, section 9.2.5): so `Sha1` is not taken because a list is missing.
+    ///   Who sees a request can still forge a whole challenge, whose nonce announces no list;
     /// - while it allocates, treats a response that does not validate as if it had never come; of
     ///   the responses to its first request, which no key protects, only errors with a code from
     ///   300 to 499 other than 400 end it. The request goes on by its schedule.
     ///
     /// A client that is not hardened stores any challenge from the server's address, takes `Sha1`
-    /// where an announced list is missing, and ends on a response that does not validate while it
-    /// allocates.
+    /// where an announced list is missing or has an unknown algorithm, and ends on a response that
+    /// does not validate while it allocates.
     pub fn set_hardened(&mut self, hardened: bool)
         ensures { self.new ≡ record self.old { hardened = hardened } }
     {

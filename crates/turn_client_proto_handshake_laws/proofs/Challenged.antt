@@ -19,7 +19,7 @@ use Rattle.turn_client_proto_api.specs.StunTypesWire.Strength.{is_stronger}
 use Rattle.turn_client_proto_api.specs.StunTypesWire.Types.{class_of, is_response_class}
 use Rattle.stun_types_base.specs.declared.family.AddressFamily.{AddressFamily}
 use Rattle.stun_types_base.specs.declared.transport.TransportType.{TransportType}
-use Rattle.turn_client_proto_messages.specs.StunProtoClient.Challenges.{ChallengeFields, challenge_visible, is_anonymous_enough, is_challenge_code, is_error, is_listed_enough, reported_of}
+use Rattle.turn_client_proto_messages.specs.StunProtoClient.Challenges.{ChallengeFields, challenge_visible, is_anonymous_enough, is_challenge_code, is_error, is_listed_enough, list_for_choice, reported_of}
 use Rattle.turn_client_proto_messages.specs.StunProtoClient.Choice.{is_common}
 use Rattle.turn_client_proto_api.specs.StunProtoAuth.Claims.{claimed, code_visible}
 use Rattle.turn_client_proto_messages.specs.StunProtoClient.Client as auth
@@ -110,7 +110,7 @@ one_choice config reported one other first second = as_strong one other (second.
 
 -- A challenge that is answered does not end the client.
 pub none_barred : {A : Type 0} (config : Config) (reported : ChallengeFields) (choice : IntegrityAlgorithm) → IsAnsweredBy config reported choice → IsBarring config reported → A
-none_barred config reported choice is (inl none) = clash (is_common config.algorithms reported.offered choice) is.strongest.common (none choice)
+none_barred config reported choice is (inl none) = clash (is_common config.algorithms config.hardened (list_for_choice config.hardened reported) choice) is.strongest.common (none choice)
 none_barred config reported choice is (inr (inl named)) = clash (is_anonymous_enough config.anonymous_username reported.nonce) is.anonymous named
 none_barred config reported choice is (inr (inr bare)) = clash (is_listed_enough config.hardened reported) is.listed bare
 

@@ -4,7 +4,7 @@ use Rattle.std.specs.Prelude.{◌≡◌, ◌≢◌, ◌<◌, ◌^◌, ℕ, List,
 use Rattle.turn_client_proto_api.specs.StunTypesWire.Grammar.{number_at, refusal}
 use Rattle.turn_client_proto_api.specs.StunTypesWire.declared.algorithm.IntegrityAlgorithm.{IntegrityAlgorithm}
 use Rattle.turn_client_proto_messages.specs.StunTypesWrite.ValueReading.{utf8_refusal}
-use Rattle.turn_client_proto_messages.specs.StunProtoClient.Challenges.{ChallengeFields, challenge_visible}
+use Rattle.turn_client_proto_messages.specs.StunProtoClient.Challenges.{ChallengeFields, challenge_visible, list_for_choice}
 use Rattle.turn_client_proto_api.specs.StunProtoAuth.Claims.{claimed}
 use Rattle.turn_client_proto_messages.specs.StunProtoClient.Client.{Client, Standing, standing_key}
 use Rattle.turn_client_proto_messages.specs.StunProtoClient.ClientValidation.{IsAnswerable, IsUnanswerable, keeping}
@@ -58,7 +58,7 @@ standing_by b c = record {
   challenge = record {
     realm = c.reported.realm;
     nonce = c.reported.nonce;
-    offered = c.reported.offered;
+    offered = list_for_choice b.config.hardened c.reported;
     choice = c.algorithm;
   };
 }

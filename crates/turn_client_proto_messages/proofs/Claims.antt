@@ -27,12 +27,12 @@ use Rattle.stun_types_base.specs.declared.family.AddressFamily.TheVariants.{IPV4
 use Rattle.stun_types_write.proofs.Values.{text_is_accepted, value_is_accepted}
 use Rattle.turn_types_attributes.specs.FamilyValues.{family_value}
 use Rattle.stun_proto_auth.specs.Addition.{Addition, attrs, calls_of, nonce_of, realm_of}
-use Rattle.stun_proto_auth.specs.Claims.{Claimed, algorithm_decoded, algorithms_decoded, claim_of, claimed, hash_decoded, last_of_kind, text_decoded, unless_refused}
+use Rattle.stun_proto_auth.specs.Claims.{Claimed, algorithm_decoded, algorithms_decoded, claim_of, claimed, hash_decoded, last_of_kind, list_decoded, text_decoded, unless_refused}
 use Rattle.stun_proto_client.specs.Client.{Challenge, Client, Standing, standing_by, standing_key, standing_of}
 use Rattle.stun_proto_client.specs.ClientSigning.{choice_parts, hides_name, name_part, request_parts}
 use Rattle.stun_proto_auth.specs.SupportedAlgorithms.{number_by}
-use Rattle.turn_client_proto_messages.specs.OwnClaims.{own_claim}
-use Rattle.turn_client_proto_messages.specs.ReadTexts.{HasReadTexts, IsReadChallenge}
+use Rattle.turn_client_proto_messages.specs.OwnClaims.{own_claim, returned_list}
+use Rattle.turn_client_proto_messages.specs.ReadTexts.{HasKnownList, HasReadTexts, IsReadChallenge}
 use Rattle.turn_client_proto_messages.specs.Requests.{additional_family, allocation_lifetime, channel_attribute, connection_attribute, dont_fragment_attribute, families_attributes, is_signed, lifetime_attribute, peer_attribute, peer_of, request_attributes, request_calls, request_text, request_type, transport_attribute}
 use Rattle.turn_client_proto_messages.specs.ShortTexts.{HasShortTexts, IsShortChallenge}
 use Rattle.turn_client_proto_messages.specs.ReportedRequests.{IsLawfulRequest}
@@ -124,10 +124,6 @@ abbrev tail : Bool → List ℕ → List ℕ → List ℕ → List ℕ → Optio
 tail hidden name hash realm nonce offered choice key text =
     attrs (name_part hidden name hash ∷ realm_of realm ∷ nonce_of nonce ∷ choice_parts offered choice) ++ signature choice key text ∷ []
 
-abbrev list_listed : Option (List ℕ) → Option Attr
-list_listed None = None
-list_listed (Some list) = Some (attr_of password_algorithms_kind list)
-
 abbrev choice_listed : Option (List ℕ) → IntegrityAlgorithm → Option Attr
 choice_listed None choice = None
 choice_listed (Some list) choice = Some (attr_of password_algorithm_kind (entry (number_by choice)))
@@ -139,7 +135,7 @@ record IsTail (hidden : Bool) (name hash realm nonce : List ℕ) (offered : Opti
   user_hash : last_of_kind userhash_kind all ≡ (if hidden then Some (attr_of userhash_kind hash) else None)
   reported_realm : last_of_kind realm_kind all ≡ Some (attr_of realm_kind realm)
   reported_nonce : last_of_kind nonce_kind all ≡ Some (attr_of nonce_kind nonce)
-  reported_list : last_of_kind password_algorithms_kind all ≡ list_listed offered
+  reported_list : last_of_kind password_algorithms_kind all ≡ returned_list offered
   reported_choice : last_of_kind password_algorithm_kind all ≡ choice_listed offered choice
 
 tail_is : (hidden : Bool) (name hash realm nonce : List ℕ) (offered : Option (List ℕ)) (choice : IntegrityAlgorithm) (key text : List ℕ) → IsTail hidden name hash realm nonce offered choice (tail hidden name hash realm nonce offered choice key text)
@@ -181,12 +177,11 @@ listed_as kind number own parts key =
 
 -- ---- what can be read
 
--- The texts are well formed, and so are the list and the hash.
+-- The texts are well formed, and so is the hash.
 record CanBeClaimed (s : Standing) : Type 0 where
   name : text_read_refusal username_kind longest_username (attr_of username_kind s.account.username) ≡ None
   realm : text_read_refusal realm_kind longest_text (attr_of realm_kind s.challenge.realm) ≡ None
   nonce : text_read_refusal nonce_kind longest_text (attr_of nonce_kind s.challenge.nonce) ≡ None
-  list : IfSome s.challenge.offered (λ list. algorithms_read_refusal (attr_of password_algorithms_kind list) ≡ None)
   hash : value_refusal userhash_kind userhash_length userhash_length (attr_of userhash_kind (userhash_of s.account.username s.challenge.realm)) ≡ None
 
 hash_accepted : (name realm : List ℕ) → value_refusal userhash_kind userhash_length userhash_length (attr_of userhash_kind (userhash_of name realm)) ≡ None
@@ -209,23 +204,23 @@ can_be_claimed client s occurs short reads = by client.account client.challenge 
       name = text_is_accepted username_kind longest_username account.username ns nr;
       realm = text_is_accepted realm_kind longest_text challenge.realm cs.realm cr.realm;
       nonce = text_is_accepted nonce_kind longest_text challenge.nonce cs.nonce cr.nonce;
-      list = cr.offered;
       hash = hash_accepted account.username challenge.realm;
     })
 
 -- ---- the claim
 
-abbrev claim_with : Option IntegrityAlgorithm → Option (List ℕ) → Option (List ℕ) → Option (List ℕ) → Option (List ℕ) → Option (List ℕ) → Option ℕ → Claimed
-claim_with i u h r n l a = record { integrity = i; username = u; user_hash = h; realm = r; nonce = n; algorithms = l; algorithm = a }
+-- What is decoded from the list is a function of the attribute that has it.
+abbrev claim_with : Option IntegrityAlgorithm → Option (List ℕ) → Option (List ℕ) → Option (List ℕ) → Option (List ℕ) → Option Attr → Option ℕ → Claimed
+claim_with i u h r n l a = record { integrity = i; username = u; user_hash = h; realm = r; nonce = n; algorithms = algorithms_decoded l; listed = list_decoded l; algorithm = a }
 
-same_claim : (i j : Option IntegrityAlgorithm) (u v h k r s n m l o : Option (List ℕ)) (a b : Option ℕ) → i ≡ j → u ≡ v → h ≡ k → r ≡ s → n ≡ m → l ≡ o → a ≡ b → claim_with i u h r n l a ≡ claim_with j v k s m o b
+same_claim : (i j : Option IntegrityAlgorithm) (u v h k r s n m : Option (List ℕ)) (l o : Option Attr) (a b : Option ℕ) → i ≡ j → u ≡ v → h ≡ k → r ≡ s → n ≡ m → l ≡ o → a ≡ b → claim_with i u h r n l a ≡ claim_with j v k s m o b
 same_claim i j u v h k r s n m l o a b ij uv hk rs nm lo ab =
     ap (λ (x : Option IntegrityAlgorithm). claim_with x u h r n l a) ij
     ∙ (ap (λ (x : Option (List ℕ)). claim_with j x h r n l a) uv
     ∙ (ap (λ (x : Option (List ℕ)). claim_with j v x r n l a) hk
     ∙ (ap (λ (x : Option (List ℕ)). claim_with j v k x n l a) rs
     ∙ (ap (λ (x : Option (List ℕ)). claim_with j v k s x l a) nm
-    ∙ (ap (λ (x : Option (List ℕ)). claim_with j v k s m x a) lo
+    ∙ (ap (λ (x : Option Attr). claim_with j v k s m x a) lo
     ∙ ap (λ (x : Option ℕ). claim_with j v k s m o x) ab)))))
 
 module _ (client : Client) (request : TurnRequest) (number : ℕ) (s : Standing) (signed : is_signed request ≡ true) (occurs : standing_of client ≡ Some s) where
@@ -259,7 +254,7 @@ module _ (client : Client) (request : TurnRequest) (number : ℕ) (s : Standing)
   last_is k a free is = ap (last_of_kind k) visible_is ∙ (last_after k own following (none_own k request number free) ∙ is)
 
   claims : CanBeClaimed s → claim_of shows ≡ own_claim client.anonymous_username s
-  unfolding text_decoded hash_decoded algorithms_decoded algorithm_decoded algorithm_read_refusal number_decoded raw.type_and_len_refusal numbers.number_refusal numbers.is_known
+  unfolding text_decoded hash_decoded algorithm_decoded algorithm_read_refusal number_decoded raw.type_and_len_refusal numbers.number_refusal numbers.is_known
   claims can =
       let ends = tail_is hides name hash s.challenge.realm s.challenge.nonce s.challenge.offered s.challenge.choice (standing_key s).bytes (message_text kind number (own ++ attrs (request_parts hides s))) in
       same_claim _ _ _ _ _ _ _ _ _ _ _ _ _ _
@@ -268,7 +263,7 @@ module _ (client : Client) (request : TurnRequest) (number : ℕ) (s : Standing)
       (ap hash_decoded (last_is userhash_kind _ (record { transport = refl; lifetime = refl; requested = refl; additional = refl; fragment = refl; peer = refl; channel = refl; connection = refl }) ends.user_hash) ∙ hash_read hides)
       (ap (text_decoded realm_kind longest_text) (last_is realm_kind _ (record { transport = refl; lifetime = refl; requested = refl; additional = refl; fragment = refl; peer = refl; channel = refl; connection = refl }) ends.reported_realm) ∙ ap (λ (o : Option StunParseError). unless_refused o s.challenge.realm) can.realm)
       (ap (text_decoded nonce_kind longest_text) (last_is nonce_kind _ (record { transport = refl; lifetime = refl; requested = refl; additional = refl; fragment = refl; peer = refl; channel = refl; connection = refl }) ends.reported_nonce) ∙ ap (λ (o : Option StunParseError). unless_refused o s.challenge.nonce) can.nonce)
-      (ap algorithms_decoded (last_is password_algorithms_kind _ (record { transport = refl; lifetime = refl; requested = refl; additional = refl; fragment = refl; peer = refl; channel = refl; connection = refl }) ends.reported_list) ∙ list_read s.challenge.offered can.list)
+      (last_is password_algorithms_kind _ (record { transport = refl; lifetime = refl; requested = refl; additional = refl; fragment = refl; peer = refl; channel = refl; connection = refl }) ends.reported_list)
       (ap algorithm_decoded (last_is password_algorithm_kind _ (record { transport = refl; lifetime = refl; requested = refl; additional = refl; fragment = refl; peer = refl; channel = refl; connection = refl }) ends.reported_choice) ∙ choice_read s.challenge.offered s.challenge.choice)
     where
       name_read : (h : Bool) → text_decoded username_kind longest_username (if h then None else Some (attr_of username_kind name)) ≡ (if h then None else Some name)
@@ -278,10 +273,6 @@ module _ (client : Client) (request : TurnRequest) (number : ℕ) (s : Standing)
       hash_read : (h : Bool) → hash_decoded (if h then Some (attr_of userhash_kind hash) else None) ≡ (if h then Some hash else None)
       hash_read false = refl
       hash_read true = ap (λ (o : Option StunParseError). unless_refused o hash) can.hash
-
-      list_read : (o : Option (List ℕ)) → IfSome o (λ list. algorithms_read_refusal (attr_of password_algorithms_kind list) ≡ None) → algorithms_decoded (list_listed o) ≡ o
-      list_read None reads = refl
-      list_read (Some list) reads = ap (λ (o : Option StunParseError). unless_refused o list) reads
 
       choice_read : (o : Option (List ℕ)) (choice : IntegrityAlgorithm) → algorithm_decoded (choice_listed o choice) ≡ option_map (λ (list : List ℕ). number_by choice) o
       choice_read None choice = refl
@@ -294,3 +285,19 @@ pub claim_law : (client : Client) (request : TurnRequest) (number : ℕ) (s : St
 claim_law client request number s short reads lawful n signed occurs =
     ap claim_of (request_read client request number short lawful n).shows
     ∙ claims client request number s signed occurs (can_be_claimed client s occurs short reads)
+
+-- ---- a list of known algorithms
+
+list_again : (o : Option (List ℕ)) → IfSome o (λ list. algorithms_read_refusal (attr_of password_algorithms_kind list) ≡ None) → algorithms_decoded (returned_list o) ≡ o
+unfolding algorithms_decoded
+list_again None reads = refl
+list_again (Some list) reads = ap (λ (o : Option StunParseError). unless_refused o list) reads
+
+-- Who reads only lists of known algorithms reads the list that a client returns which is not hardened.
+pub list_law : (client : Client) (s : Standing) → HasReadTexts client → client.hardened ≡ false → standing_of client ≡ Some s → algorithms_decoded (returned_list s.challenge.offered) ≡ s.challenge.offered
+list_law client s reads soft occurs = list_again s.challenge.offered (by client.account client.challenge occurs (reads.known soft))
+  where
+    by : (account : Option NameAndPassword) (challenge : Option Challenge) → standing_by account challenge ≡ Some s → IfSome challenge HasKnownList → HasKnownList s.challenge
+    by None challenge is known = absurd (Prim.cc is)
+    by (Some account) None is known = absurd (Prim.cc is)
+    by (Some account) (Some challenge) is known = subst (λ (t : Standing). HasKnownList t.challenge) (same_standing is) known

@@ -12,7 +12,7 @@ use Rattle.stun_types_wire.specs.RawBytes.{type_and_len_refusal}
 use Rattle.stun_types_wire.specs.Registry.{longest_text, nonce_kind, password_algorithms_kind, realm_kind}
 use Rattle.stun_types_write.specs.ValueReading.{text_read_refusal, utf8_refusal}
 use Rattle.stun_proto_auth.specs.Claims.{algorithms_decoded, claimed, last_of_kind, text_decoded, unless_refused}
-use Rattle.stun_proto_client.specs.Challenges.{ChallengeFields, asks_again, challenge_visible, decoded_by, reported_of}
+use Rattle.stun_proto_client.specs.Challenges.{ChallengeFields, asks_again, challenge_visible, decoded_by, list_for_choice, reported_of}
 use Rattle.stun_proto_client.specs.Client.{Client}
 use Rattle.stun_proto_client.specs.ClientValidation.{IsTaken, IsRejected, keeping}
 use Rattle.stun_proto_client.specs.declared.error.LongTermClientAuthError.{LongTermClientAuthError}
@@ -69,10 +69,10 @@ list_counts : (list : Option (List ℕ)) (counts : Bool) → IfSome list IsKnown
 list_counts list true reads = reads
 list_counts list false reads = tt
 
-reported_reads : (realm nonce list : Option (List ℕ)) (reported : ChallengeFields) → IfSome realm IsText → IfSome nonce IsText → IfSome list IsKnownList → decoded_by realm nonce list ≡ Some reported → IsReadReported reported
-reported_reads None _ list reported r n l is = absurd (Prim.cc is)
-reported_reads (Some realm) None list reported r n l is = absurd (Prim.cc is)
-reported_reads (Some realm) (Some nonce) list reported r n l is =
+reported_reads : (realm nonce list listed : Option (List ℕ)) (reported : ChallengeFields) → IfSome realm IsText → IfSome nonce IsText → IfSome list IsKnownList → decoded_by realm nonce list listed ≡ Some reported → IsReadReported reported
+reported_reads None _ list listed reported r n l is = absurd (Prim.cc is)
+reported_reads (Some realm) None list listed reported r n l is = absurd (Prim.cc is)
+reported_reads (Some realm) (Some nonce) list listed reported r n l is =
     subst IsReadReported (same_decoded is) (record { realm = r; nonce = n; offered = list_counts list _ l })
 
 challenge_reads : (bytes : List ℕ) (reported : ChallengeFields) → challenge_visible bytes ≡ Some reported → IsReadReported reported
@@ -80,22 +80,28 @@ challenge_reads bytes reported is = by (asks_again bytes) is
   where
     by : (asks : Bool) → (if asks then reported_of (claimed bytes) else None) ≡ Some reported → IsReadReported reported
     by true h =
-        reported_reads (claimed bytes).realm (claimed bytes).nonce (claimed bytes).algorithms reported
+        reported_reads (claimed bytes).realm (claimed bytes).nonce (claimed bytes).algorithms (claimed bytes).listed reported
         (text_reported_reads realm_kind longest_text (last_of_kind realm_kind (visible bytes)))
         (text_reported_reads nonce_kind longest_text (last_of_kind nonce_kind (visible bytes)))
         (list_reported_reads (last_of_kind password_algorithms_kind (visible bytes))) h
     by false h = absurd (Prim.cc h)
+
+-- The list from which a client chose that is not hardened.
+chosen_known : (hardened : Bool) (reported : ChallengeFields) → hardened ≡ false → IsReadReported reported → IfSome (list_for_choice hardened reported) IsKnownList
+chosen_known false reported soft reads = reads.offered
+chosen_known true reported soft reads = absurd (Prim.cc soft)
 
 -- ---- a validation
 
 stored_reads : (old new : Client) (reported : ChallengeFields) (choice : IntegrityAlgorithm) → new ≡ keeping old reported choice → IsReadReported reported → HasReadTexts old → HasReadTexts new
 stored_reads old new reported choice is reads own = rw is (record {
   username = own.username;
-  challenge = record { realm = reads.realm; nonce = reads.nonce; offered = reads.offered };
+  challenge = record { realm = reads.realm; nonce = reads.nonce };
+  known = λ soft. chosen_known old.hardened reported soft reads;
 })
 
 going_reads : (old new : Client) (by : Option IntegrityAlgorithm) → new ≡ record old { integrity = by } → HasReadTexts old → HasReadTexts new
-going_reads old new by is own = rw is (record { username = own.username; challenge = own.challenge })
+going_reads old new by is own = rw is (record { username = own.username; challenge = own.challenge; known = own.known })
 
 same_reads : (old new : Client) → new ≡ old → HasReadTexts old → HasReadTexts new
 same_reads old new is own = rw is own
@@ -116,4 +122,4 @@ stay_readable old new bytes (Ok answer) outcome own = taken_reads old bytes answ
 stay_readable old new bytes (Err error) outcome own = turned_reads old bytes error new outcome own
 
 pub fresh_readable : (client : Client) → client.challenge ≡ None → IfSome client.account (λ account. utf8_refusal account.username ≡ None) → HasReadTexts client
-fresh_readable client none reads = record { username = reads; challenge = rw none tt }
+fresh_readable client none reads = record { username = reads; challenge = rw none tt; known = λ soft. rw none tt }

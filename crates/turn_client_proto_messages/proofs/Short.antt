@@ -12,8 +12,9 @@ use Rattle.stun_types_wire.specs.declared.error.StunParseError.{StunParseError}
 use Rattle.stun_types_wire.specs.RawBytes.{above_refusal, below_refusal, type_and_len_refusal}
 use Rattle.stun_types_wire.specs.Registry.{nonce_kind, password_algorithms_kind, realm_kind}
 use Rattle.stun_types_write.specs.ValueReading.{text_read_refusal, value_refusal}
-use Rattle.stun_proto_auth.specs.Claims.{algorithms_decoded, claimed, last_of_kind, text_decoded, unless_refused}
-use Rattle.stun_proto_client.specs.Challenges.{ChallengeFields, asks_again, challenge_visible, decoded_by, reported_of}
+use Rattle.stun_proto_auth.specs.Claims.{algorithms_decoded, claimed, last_of_kind, list_decoded, text_decoded, unless_refused}
+use Rattle.stun_proto_auth.specs.Lists.{list_read_refusal}
+use Rattle.stun_proto_client.specs.Challenges.{ChallengeFields, asks_again, challenge_visible, decoded_by, list_for_choice, reported_of}
 use Rattle.stun_proto_client.specs.Client.{Client}
 use Rattle.stun_proto_client.specs.ClientValidation.{IsTaken, IsRejected, keeping}
 use Rattle.stun_proto_client.specs.declared.error.LongTermClientAuthError.{LongTermClientAuthError}
@@ -58,6 +59,10 @@ list_within : (a : Attr) → algorithms_read_refusal a ≡ None → length a.val
 unfolding algorithms_read_refusal
 list_within a h = value_within password_algorithms_kind 4 32 a (or_first _ _ h)
 
+listed_within : (a : Attr) → list_read_refusal a ≡ None → length a.value ≤ 32
+unfolding list_read_refusal
+listed_within a h = value_within password_algorithms_kind 4 32 a (or_first _ _ h)
+
 unless_short : (refused : Option StunParseError) (value : List ℕ) (most : ℕ) → (refused ≡ None → length value ≤ most) → IfSome (unless_refused refused value) (λ text. length text ≤ most)
 unless_short None value most h = h refl
 unless_short (Some e) value most h = tt
@@ -72,6 +77,11 @@ unfolding algorithms_decoded
 list_reported_short None = tt
 list_reported_short (Some a) = unless_short (algorithms_read_refusal a) a.value 32 (list_within a)
 
+listed_reported_short : (a : Option Attr) → IfSome (list_decoded a) (λ list. length list ≤ 32)
+unfolding list_decoded
+listed_reported_short None = tt
+listed_reported_short (Some a) = unless_short (list_read_refusal a) a.value 32 (listed_within a)
+
 -- ---- a challenge
 
 -- The texts decoded from a challenge are short.
@@ -79,6 +89,11 @@ record IsShortReported (reported : ChallengeFields) : Type 0 where
   realm : length reported.realm ≤ 763
   nonce : length reported.nonce ≤ 763
   offered : IfSome reported.offered (λ list. length list ≤ 32)
+  listed : IfSome reported.listed (λ list. length list ≤ 32)
+
+chosen_short : (hardened : Bool) (reported : ChallengeFields) → IsShortReported reported → IfSome (list_for_choice hardened reported) (λ list. length list ≤ 32)
+chosen_short false reported short = short.offered
+chosen_short true reported short = short.listed
 
 list_short : (nonce : List ℕ) (list : Option (List ℕ)) (counts : Bool) → IfSome list (λ l. length l ≤ 32) → IfSome (if counts then list else None) (λ l. length l ≤ 32)
 list_short nonce list true short = short
@@ -87,18 +102,19 @@ list_short nonce list false short = tt
 pub same_decoded : {a b : ChallengeFields} → Some a ≡ Some b → a ≡ b
 same_decoded p = Prim.cc p
 
-decoded_short : (realm nonce list : Option (List ℕ)) (reported : ChallengeFields) → IfSome realm (λ l. length l ≤ 763) → IfSome nonce (λ l. length l ≤ 763) → IfSome list (λ l. length l ≤ 32) → decoded_by realm nonce list ≡ Some reported → IsShortReported reported
-decoded_short None _ list reported r n l is = absurd (Prim.cc is)
-decoded_short (Some realm) None list reported r n l is = absurd (Prim.cc is)
-decoded_short (Some realm) (Some nonce) list reported r n l is =
-    subst IsShortReported (same_decoded is) (record { realm = r; nonce = n; offered = list_short nonce list _ l })
+decoded_short : (realm nonce list listed : Option (List ℕ)) (reported : ChallengeFields) → IfSome realm (λ l. length l ≤ 763) → IfSome nonce (λ l. length l ≤ 763) → IfSome list (λ l. length l ≤ 32) → IfSome listed (λ l. length l ≤ 32)
+    → decoded_by realm nonce list listed ≡ Some reported → IsShortReported reported
+decoded_short None _ list listed reported r n l m is = absurd (Prim.cc is)
+decoded_short (Some realm) None list listed reported r n l m is = absurd (Prim.cc is)
+decoded_short (Some realm) (Some nonce) list listed reported r n l m is =
+    subst IsShortReported (same_decoded is) (record { realm = r; nonce = n; offered = list_short nonce list _ l; listed = list_short nonce listed _ m })
 
 challenge_short : (bytes : List ℕ) (reported : ChallengeFields) → challenge_visible bytes ≡ Some reported → IsShortReported reported
 challenge_short bytes reported is = by (asks_again bytes) is
   where
     by : (asks : Bool) → (if asks then reported_of (claimed bytes) else None) ≡ Some reported → IsShortReported reported
-    by true h = decoded_short (claimed bytes).realm (claimed bytes).nonce (claimed bytes).algorithms reported (text_reported_short realm_kind 763 (last_of_kind realm_kind (visible bytes))) (text_reported_short nonce_kind 763 (last_of_kind nonce_kind (visible bytes)))
-        (list_reported_short (last_of_kind password_algorithms_kind (visible bytes))) h
+    by true h = decoded_short (claimed bytes).realm (claimed bytes).nonce (claimed bytes).algorithms (claimed bytes).listed reported (text_reported_short realm_kind 763 (last_of_kind realm_kind (visible bytes))) (text_reported_short nonce_kind 763 (last_of_kind nonce_kind (visible bytes)))
+        (list_reported_short (last_of_kind password_algorithms_kind (visible bytes))) (listed_reported_short (last_of_kind password_algorithms_kind (visible bytes))) h
     by false h = absurd (Prim.cc h)
 
 -- ---- a validation
@@ -106,7 +122,7 @@ challenge_short bytes reported is = by (asks_again bytes) is
 stored_short : (old new : Client) (reported : ChallengeFields) (choice : IntegrityAlgorithm) → new ≡ keeping old reported choice → IsShortReported reported → HasShortTexts old → HasShortTexts new
 stored_short old new reported choice is short own = rw is (record {
   username = own.username;
-  challenge = record { realm = short.realm; nonce = short.nonce; offered = short.offered };
+  challenge = record { realm = short.realm; nonce = short.nonce; offered = chosen_short old.hardened reported short };
 })
 
 going_short : (old new : Client) (by : Option IntegrityAlgorithm) → new ≡ record old { integrity = by } → HasShortTexts old → HasShortTexts new

@@ -1,7 +1,7 @@
 //! Theorems on the definitions that the contracts use, for the crates above this one. The functions
 //! do nothing; each contract is a theorem.
 
-ghost use Rattle.std.specs.Prelude.{◌≡◌, ◌≤◌, ◌<◌, ◌^◌, ℕ, List, true, Some, None, length, IfSome, Result, MatchResult};
+ghost use Rattle.std.specs.Prelude.{◌≡◌, ◌≤◌, ◌<◌, ◌^◌, ℕ, List, false, true, Some, None, length, IfSome, Result, MatchResult};
 ghost use Rattle.std.specs.Net.Socket.{IsSocketAddr, socket_flowinfo, socket_scope_id};
 ghost use Rattle.std.specs.declared.net.socket_addr.SocketAddr.{SocketAddr};
 ghost use Rattle.stun_types_add.specs.Calls.{attributes_of};
@@ -10,14 +10,14 @@ ghost use Rattle.stun_types_wire.specs.MessageReading.{IsReadAs};
 ghost use Rattle.stun_types_wire.specs.Registry.{longest_username};
 ghost use Rattle.stun_types_write.specs.ValueReading.{utf8_refusal};
 ghost use Rattle.stun_proto_client.specs.Digests.{IsRight};
-ghost use Rattle.stun_proto_auth.specs.Claims.{claimed};
+ghost use Rattle.stun_proto_auth.specs.Claims.{algorithms_decoded, claimed};
 ghost use Rattle.turn_client_proto_api.specs.StunProtoAgent.Sending.{is_request};
 ghost use Rattle.stun_proto_client.specs.Client.{Client, Standing, standing_key, standing_of};
 ghost use Rattle.stun_proto_client.specs.ClientValidation.{IsTaken, IsRejected};
 ghost use Rattle.stun_proto_client.specs.declared.error.LongTermClientAuthError.{LongTermClientAuthError};
 ghost use Rattle.stun_proto_client.specs.declared.validation.LongTermClientValidation.{LongTermClientValidation};
 ghost use Rattle.turn_runs.specs.StunWire.{decoded_by};
-ghost use Rattle.turn_client_proto_messages.specs.OwnClaims.{own_claim};
+ghost use Rattle.turn_client_proto_messages.specs.OwnClaims.{own_claim, returned_list};
 ghost use Rattle.turn_client_proto_messages.specs.ReadTexts.{HasReadTexts};
 ghost use Rattle.turn_client_proto_messages.specs.Requests.{is_signed, request_calls, request_text, request_type};
 ghost use Rattle.turn_client_proto_messages.specs.ShortTexts.{HasShortTexts};
@@ -121,8 +121,8 @@ pub fn proof_requests_are_read()
 {}
 
 /// A signed request has these authentication attributes: the chosen algorithm, the user name or its
-/// hash, realm and nonce of the challenge, and its list of algorithms with the choice (RFC 8489,
-/// sections 9.2.3 and 9.2.5).
+/// hash, realm and nonce of the challenge, the choice, and what is decoded from its list of
+/// algorithms (RFC 8489, sections 9.2.3 and 9.2.5).
 ///
 /// Premises: the client's texts are within the limits of their attributes and well formed
 /// (`HasReadTexts`), the request is lawful, the transaction ID has 96 bits, and the client has
@@ -169,9 +169,11 @@ pub fn proof_texts_stay_short()
 /// The texts of a client's authenticator stay well formed (RFC 8489, sections 14.9 to 14.11).
 ///
 /// - `stay`: if they are before a validation, they are afterwards, whatever its result. A realm or
-///   nonce of a challenge that is no UTF-8, and a list that names an unknown algorithm, are
-///   ignored.
+///   nonce of a challenge that is no UTF-8 is ignored, and so is a list that names an unknown
+///   algorithm, unless the client is hardened.
 /// - `fresh`: if the client remembers no challenge, they are if the user name is UTF-8.
+/// - `known`: if the client is not hardened, who reads only lists of known algorithms reads the list
+///   that it returns as it is.
 pub fn texts_stay_read()
     ensures stay { (old new : Client) (bytes : List ℕ)
         (result : Result LongTermClientValidation LongTermClientAuthError)
@@ -183,4 +185,10 @@ pub fn texts_stay_read()
         → client.challenge ≡ None
         → IfSome client.account (λ account. utf8_refusal account.username ≡ None)
         → HasReadTexts client }
+    ensures known { (client : Client) (standing : Standing)
+        → HasReadTexts client
+        → client.hardened ≡ false
+        → standing_of client ≡ Some standing
+        → algorithms_decoded (returned_list standing.challenge.offered)
+        ≡ standing.challenge.offered }
 {}

@@ -5,7 +5,7 @@ use Rattle.turn_client_proto_messages.specs.StunTypesWire.Attributes.{kind_at}
 use Rattle.turn_client_proto_messages.specs.StunTypesWire.Grammar.{number_at}
 use Rattle.turn_client_proto_messages.specs.StunTypesWire.declared.class.MessageClass.TheVariants.{Success}
 use Rattle.turn_client_proto_messages.specs.StunTypesWire.Types.{class_of, method_of}
-use Rattle.turn_client_proto_messages.specs.StunProtoClient.Challenges.{ChallengeFields, challenge_visible}
+use Rattle.turn_client_proto_messages.specs.StunProtoClient.Challenges.{ChallengeFields, challenge_visible, list_for_choice}
 use Rattle.turn_client_proto_messages.specs.StunProtoClient.Client.{standing_key}
 use Rattle.turn_client_proto_messages.specs.StunProtoClient.ClientValidation.{IsAnswerable, keeping}
 use Rattle.turn_client_proto_messages.specs.StunProtoClient.Digests.{IsRight}
@@ -36,7 +36,7 @@ challenged_by h reported choice = record {
   auth = keeping h.auth reported choice;
   standing = record {
     account = h.standing.account;
-    challenge = record { realm = reported.realm; nonce = reported.nonce; offered = reported.offered; choice = choice };
+    challenge = record { realm = reported.realm; nonce = reported.nonce; offered = list_for_choice h.auth.hardened reported; choice = choice };
   };
   address = h.address;
   lifetime = h.lifetime;

@@ -16,7 +16,7 @@ use Rattle.turn_desk_core.specs.StunTypesMessage.Objections.{error_attribute}
 use Rattle.turn_client_proto_messages.specs.StunTypesIntegrity.Signing.{signature}
 use Rattle.turn_desk_core.specs.StunTypesWire.Text.{message_text}
 use Rattle.turn_desk_core.specs.StunTypesWire.Types.{class_of, method_of, type_of}
-use Rattle.turn_client_proto_messages.specs.StunProtoClient.Challenges.{ChallengeFields, asks_again, challenge_visible, is_anonymous_enough, is_challenge_code, is_error, is_listed_enough, lacks_list, reported_of}
+use Rattle.turn_client_proto_messages.specs.StunProtoClient.Challenges.{ChallengeFields, asks_again, challenge_visible, is_anonymous_enough, is_challenge_code, is_error, is_listed_enough, lacks_list, list_for_choice, reported_of}
 use Rattle.turn_client_proto_messages.specs.StunProtoClient.Choice.{supports, takes}
 use Rattle.turn_client_proto_api.specs.StunProtoAuth.Claims.{claim_of, claimed, code_visible, last_of_kind, text_decoded}
 use Rattle.turn_client_proto_messages.specs.StunProtoAuth.SupportedAlgorithms.{list_of}
@@ -39,7 +39,7 @@ use Rattle.turn_desk_core.specs.declared.verdict.Verdict.{Verdict}
 use Rattle.turn_desk_core.specs.declared.verdict.Verdict.TheVariants.{Fails, Allocates, Refreshes, Permits, Binds, Connects, Joins}
 use Rattle.turn_desk_step_laws.specs.Challenged.{challenge_of}
 use Rattle.turn_desk_progress_laws.specs.Standing.{IsOfSettings}
-use Rattle.turn_desk_step_laws.proofs.Reported.{challenge_read, takes_own}
+use Rattle.turn_desk_step_laws.proofs.Reported.{challenge_read, takes_chosen}
 use Rattle.turn_desk_progress_laws.specs.Joining.{ReportsOwn}
 use Rattle.turn_desk_progress_laws.proofs.Successes.{IsMethod}
 
@@ -77,7 +77,7 @@ listed_by false list = refl
 has_list : (party : Party) → lacks_list (challenge_of party) ≡ false
 has_list party = listed_by (features_in party.nonce).password_algorithms (list_of party.algorithms)
 
-pub has_given_list : (reported : ChallengeFields) (list : List ℕ) → reported.offered ≡ (if (features_in reported.nonce).password_algorithms then Some list else None) → lacks_list reported ≡ false
+pub has_given_list : (reported : ChallengeFields) (list : List ℕ) → reported.listed ≡ (if (features_in reported.nonce).password_algorithms then Some list else None) → lacks_list reported ≡ false
 has_given_list reported list is =
     ap (λ (o : Option (List ℕ)). (features_in reported.nonce).password_algorithms && is_none o) is ∙ listed_by (features_in reported.nonce).password_algorithms list
 
@@ -147,10 +147,10 @@ module _ (old new : State) (from : SocketAddr) (bytes reply : List ℕ) (now : �
     features : features_in ch.nonce ≡ features_offered algorithms anonymous
     features = features_by (map.get new.auth.clients from) refl ch.stored
 
-    pub takes_so : (algorithm : IntegrityAlgorithm) → takes reported.offered algorithm ≡ supports algorithms algorithm
-    takes_so algorithm =
-        ap (λ (t : ChallengeFields). takes t.offered algorithm) reported_is
-        ∙ (takes_own (unvalidated_party old.auth ch.nonce) algorithm (ap (λ f. f.password_algorithms) features ∙ ap (λ (l : List IntegrityAlgorithm). (features_offered l anonymous).password_algorithms) (sym own))
+    pub takes_so : (hardened : Bool) (algorithm : IntegrityAlgorithm) → takes hardened (list_for_choice hardened reported) algorithm ≡ supports algorithms algorithm
+    takes_so hardened algorithm =
+        ap (λ (t : ChallengeFields). takes hardened (list_for_choice hardened t) algorithm) reported_is
+        ∙ (takes_chosen hardened (unvalidated_party old.auth ch.nonce) algorithm (ap (λ f. f.password_algorithms) features ∙ ap (λ (l : List IntegrityAlgorithm). (features_offered l anonymous).password_algorithms) (sym own))
         ∙ ap (λ (l : List IntegrityAlgorithm). supports l algorithm) own)
 
     pub hides_so : (features_in reported.nonce).anonymous_username ≡ (features_offered algorithms anonymous).anonymous_username
@@ -159,8 +159,8 @@ module _ (old new : State) (from : SocketAddr) (bytes reply : List ℕ) (now : �
 -- ---- who can answer one challenge of a server can answer another
 
 module _ (server : Server) (client : auth.Client) (one other : ChallengeFields) (of_one : IsOfSettings server one) (of_other : IsOfSettings server other) (choice : IntegrityAlgorithm) (is : IsAnswerable client one choice) where
-  same_takes : (algorithm : IntegrityAlgorithm) → takes other.offered algorithm ≡ takes one.offered algorithm
-  same_takes algorithm = of_other.takes_own algorithm ∙ sym (of_one.takes_own algorithm)
+  same_takes : (algorithm : IntegrityAlgorithm) → takes client.hardened (list_for_choice client.hardened other) algorithm ≡ takes client.hardened (list_for_choice client.hardened one) algorithm
+  same_takes algorithm = of_other.takes_own client.hardened algorithm ∙ sym (of_one.takes_own client.hardened algorithm)
 
   hides : (f : Feature) → is_anonymous_enough f one.nonce ≡ true → is_anonymous_enough f other.nonce ≡ true
   hides Auto enough = refl

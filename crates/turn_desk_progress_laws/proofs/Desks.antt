@@ -198,7 +198,7 @@ no_realm : (reply : List ℕ) → (claimed reply).realm ≡ None → challenge_v
 no_realm reply none = elim (cases_Bool (asks_again reply)) [
   | inl asks ↦
       let here : challenge_visible reply ≡ reported_of (claimed reply) = rw asks refl in
-      here ∙ ap (λ (r : Option (List ℕ)). decoded_by r (claimed reply).nonce (claimed reply).algorithms) none
+      here ∙ ap (λ (r : Option (List ℕ)). decoded_by r (claimed reply).nonce (claimed reply).algorithms (claimed reply).listed) none
   | inr other ↦ rw other refl
 ]
 

@@ -7,7 +7,7 @@ use Rattle.std.specs.Option.{option_map}
 use Rattle.turn_desk_core.specs.StunTypesWire.declared.algorithm.IntegrityAlgorithm.{IntegrityAlgorithm}
 use Rattle.turn_desk_core.specs.StunTypesBase.SocketAddrs.{socket_addr_cmp_total}
 use Rattle.turn_desk_core.specs.StunTypesAuthAttributes.Userhashes.{userhash_of}
-use Rattle.turn_client_proto_messages.specs.StunProtoClient.Challenges.{ChallengeFields}
+use Rattle.turn_client_proto_messages.specs.StunProtoClient.Challenges.{ChallengeFields, list_for_choice}
 use Rattle.turn_client_proto_messages.specs.StunProtoClient.Choice.{supports, takes}
 use Rattle.turn_client_proto_messages.specs.StunProtoClient.Client.{Standing, account_key, standing_key}
 use Rattle.turn_desk_core.specs.StunProtoVerify.Knowledge.{Outcome}
@@ -46,7 +46,7 @@ module _ (plan : Plan) (old desk : State) where
     realm = f.realm;
     takes_own = f.takes_own;
     hides = ap (λ n. n.anonymous_username) f.features;
-    listed = has_given_list f.reported (list_of old.auth.algorithms) f.list;
+    listed = has_given_list f.reported (list_of old.auth.algorithms) (f.list true);
   }
 
   pub of_settings : (reported : ChallengeFields) → IsUnder plan old reported desk → IsOfSettings old.auth reported
@@ -63,10 +63,10 @@ module _ (plan : Plan) (old desk : State) where
   module _ (c : Choice) (u : IsUnder plan old c.reported desk) (by : IsAnsweredBy plan.client.config c.reported c.algorithm)
       (user : map.get old.auth.users plan.client.config.credentials.username ≡ Some plan.client.config.credentials.password) where
     pub chosen_supported : supports old.auth.algorithms c.algorithm ≡ true
-    chosen_supported = sym ((of_settings c.reported u).takes_own c.algorithm) ∙ second_true (supports plan.client.config.algorithms c.algorithm) (takes c.reported.offered c.algorithm) by.strongest.common
+    chosen_supported = sym ((of_settings c.reported u).takes_own plan.client.config.hardened c.algorithm) ∙ second_true (supports plan.client.config.algorithms c.algorithm) (takes plan.client.config.hardened (list_for_choice plan.client.config.hardened c.reported) c.algorithm) by.strongest.common
 
-    given : u.challenge.reported.offered ≡ list_given desk.auth.algorithms
-    given = u.challenge.list
+    given : list_for_choice plan.client.config.hardened u.challenge.reported ≡ list_given desk.auth.algorithms
+    given = u.challenge.list plan.client.config.hardened
         ∙ ap (λ n. if n.password_algorithms then Some (list_of old.auth.algorithms) else None) u.challenge.features
         ∙ sym (ap list_given u.challenge.settings.algorithms)
 
@@ -75,7 +75,7 @@ module _ (plan : Plan) (old desk : State) where
       present = subst (λ m. map.get m plan.client.config.credentials.username ≡ Some plan.client.config.credentials.password) (sym u.challenge.settings.users) user;
       realm = sym (ap (λ (t : ChallengeFields). t.realm) u.reported_is) ∙ u.challenge.realm ∙ sym u.challenge.settings.realm;
       nonce = ap (option_map (λ (k : Client). k.nonce)) u.challenge.stored ∙ ap (λ (t : ChallengeFields). Some t.nonce) u.reported_is;
-      offered = sym (ap (λ (t : ChallengeFields). t.offered) u.reported_is) ∙ given;
+      offered = sym (ap (λ (t : ChallengeFields). list_for_choice plan.client.config.hardened t) u.reported_is) ∙ given;
       choice = ap (λ (l : List IntegrityAlgorithm). supports l c.algorithm) u.challenge.settings.algorithms ∙ chosen_supported;
     }
 

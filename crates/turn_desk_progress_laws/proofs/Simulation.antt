@@ -2,7 +2,7 @@
 use Rattle.std.proofs.Common.{◌≡◌, Bool, true, false, refl, sym, ap, ◌∙◌, inl, inr}
 use Rattle.std.specs.Prelude.{◌&&◌, not}
 use Rattle.turn_desk_core.specs.StunTypesWire.declared.algorithm.IntegrityAlgorithm.{IntegrityAlgorithm}
-use Rattle.turn_client_proto_messages.specs.StunProtoClient.Challenges.{ChallengeFields, is_anonymous_enough, is_listed_enough, lacks_list}
+use Rattle.turn_client_proto_messages.specs.StunProtoClient.Challenges.{ChallengeFields, is_anonymous_enough, is_listed_enough, lacks_list, list_for_choice}
 use Rattle.turn_client_proto_messages.specs.StunProtoClient.Choice.{supports, takes}
 use Rattle.turn_client_proto_api.specs.StunProtoAuth.declared.feature.Feature.{Feature}
 use Rattle.turn_client_proto_api.specs.StunProtoAuth.declared.feature.Feature.TheVariants.{Auto, Required, Disabled}
@@ -42,10 +42,10 @@ module _ (config : Config) (server : Server) (reported : ChallengeFields) (of : 
 
   module _ (algorithm : IntegrityAlgorithm) (by : IsAnsweredBy config reported algorithm) where
     is_own : supports config.algorithms algorithm ≡ true
-    is_own = first_true (supports config.algorithms algorithm) (takes reported.offered algorithm) by.strongest.common
+    is_own = first_true (supports config.algorithms algorithm) (takes config.hardened (list_for_choice config.hardened reported) algorithm) by.strongest.common
 
     is_other : supports server.algorithms algorithm ≡ true
-    is_other = sym (of.takes_own algorithm) ∙ second_true (supports config.algorithms algorithm) (takes reported.offered algorithm) by.strongest.common
+    is_other = sym (of.takes_own config.hardened algorithm) ∙ second_true (supports config.algorithms algorithm) (takes config.hardened (list_for_choice config.hardened reported) algorithm) by.strongest.common
 
     pub together : AreApart config server → ⊥
     together (inl none) = none algorithm is_own is_other
@@ -55,7 +55,7 @@ module _ (config : Config) (server : Server) (reported : ChallengeFields) (of : 
     strongest_of_both = record {
       is_own = is_own;
       is_other = is_other;
-      greatest = λ other mine theirs. by.strongest.greatest other (both_true (supports config.algorithms other) (takes reported.offered other) mine (of.takes_own other ∙ theirs));
+      greatest = λ other mine theirs. by.strongest.greatest other (both_true (supports config.algorithms other) (takes config.hardened (list_for_choice config.hardened reported) other) mine (of.takes_own config.hardened other ∙ theirs));
     }
 
   -- The list that the challenge announces is there.
@@ -64,6 +64,6 @@ module _ (config : Config) (server : Server) (reported : ChallengeFields) (of : 
   lists true bare = clash (not (lacks_list reported)) (ap not of.listed) bare
 
   pub are_apart : IsBarring config reported → AreApart config server
-  are_apart (inl none) = inl (λ other mine theirs. clash _ (both_true (supports config.algorithms other) (takes reported.offered other) mine (of.takes_own other ∙ theirs)) (none other))
+  are_apart (inl none) = inl (λ other mine theirs. clash _ (both_true (supports config.algorithms other) (takes config.hardened (list_for_choice config.hardened reported) other) mine (of.takes_own config.hardened other ∙ theirs)) (none other))
   are_apart (inr (inl plain)) = inr (must_show config.anonymous_username server.anonymous_username of.hides plain)
   are_apart (inr (inr bare)) = absurd (lists config.hardened bare)

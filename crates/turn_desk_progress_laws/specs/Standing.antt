@@ -1,9 +1,9 @@
 -- The state of the simulation at each position of an honest network.
-use Rattle.std.specs.Prelude.{◌≡◌, ◌⊎◌, ◌++◌, ℕ, false, List, [], ◌∷◌, None, Some}
+use Rattle.std.specs.Prelude.{◌≡◌, ◌⊎◌, ◌++◌, ℕ, Bool, false, List, [], ◌∷◌, None, Some}
 use Rattle.std.specs.declared.net.socket_addr.SocketAddr.{SocketAddr}
 use Rattle.turn_desk_core.specs.StunTypesWire.Grammar.{refusal}
 use Rattle.turn_desk_core.specs.StunTypesWire.declared.algorithm.IntegrityAlgorithm.{IntegrityAlgorithm}
-use Rattle.turn_client_proto_messages.specs.StunProtoClient.Challenges.{ChallengeFields, challenge_visible, lacks_list}
+use Rattle.turn_client_proto_messages.specs.StunProtoClient.Challenges.{ChallengeFields, challenge_visible, lacks_list, list_for_choice}
 use Rattle.turn_client_proto_messages.specs.StunProtoClient.Choice.{supports, takes}
 use Rattle.turn_client_proto_messages.specs.StunProtoClient.Client.{standing_key}
 use Rattle.turn_client_proto_messages.specs.StunProtoClient.Digests.{IsRight}
@@ -30,7 +30,8 @@ use Rattle.turn_desk_progress_laws.specs.Scripts.{Signed, Granted, Done, Barred,
 -- The challenge has the server's realm, announces what the server accepts, and has the list that it announces.
 pub record IsOfSettings (server : Server) (reported : ChallengeFields) : Type 0 where
   pub realm : reported.realm ≡ server.realm
-  pub takes_own : (algorithm : IntegrityAlgorithm) → takes reported.offered algorithm ≡ supports server.algorithms algorithm
+  pub takes_own : (hardened : Bool) (algorithm : IntegrityAlgorithm)
+      → takes hardened (list_for_choice hardened reported) algorithm ≡ supports server.algorithms algorithm
   pub hides : (features_in reported.nonce).anonymous_username ≡ takes_anonymous_username server.anonymous_username
   pub listed : lacks_list reported ≡ false
 

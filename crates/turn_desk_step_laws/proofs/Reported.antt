@@ -8,7 +8,7 @@ use lib.Utf8.{encode}
 use Rattle.rand_core.specs.Stream.{Stream}
 use Rattle.turn_desk_core.specs.StunTypesWrite.Adding.{attr_of}
 use Rattle.turn_desk_core.specs.StunTypesWire.Attributes.{Attr, kind_at}
-use Rattle.turn_desk_core.specs.StunTypesAuthAttributes.Entries.{algorithms_read_refusal, entries, entries_refusal, numbers_decoded}
+use Rattle.turn_desk_core.specs.StunTypesAuthAttributes.Entries.{algorithms_read_refusal, entries, numbers_decoded}
 use Rattle.turn_desk_core.specs.StunTypesAttributes.ErrorCodeReading.{error_decoded}
 use Rattle.turn_desk_core.specs.StunTypesAttributes.ErrorCodes.{CodeAndReason, error_value, reason_for}
 use Rattle.turn_desk_core.specs.StunTypesWire.Grammar.{number_at, visible}
@@ -19,18 +19,19 @@ use Rattle.turn_desk_core.specs.StunTypesWire.declared.class.MessageClass.TheVar
 use Rattle.turn_desk_core.specs.StunTypesWire.MessageReading.{IsReadAs}
 use Rattle.turn_desk_core.specs.StunTypesMessage.Objections.{error_attribute, error_type}
 use Rattle.turn_desk_core.specs.StunTypesWire.declared.error.StunParseError.{StunParseError}
-use Rattle.turn_desk_core.specs.StunTypesAuthAttributes.PasswordAlgorithmNumbers as numbers
 use Rattle.turn_desk_core.specs.StunTypesWire.Registry.{error_code_kind, longest_text, nonce_kind, password_algorithms_kind, realm_kind, stale_nonce_code, unauthorized_code}
 use Rattle.turn_desk_core.specs.StunTypesWire.Types.{class_of, method_of, type_of}
 use Rattle.turn_desk_core.specs.StunTypesWrite.ValueReading.{text_read_refusal, utf8_refusal}
 use Rattle.turn_desk_core.proofs.StunTypesAttributes.Codes.{error_is_accepted, decoded_again}
-use Rattle.turn_desk_core.proofs.StunTypesWrite.Values.{text_is_accepted, value_is_accepted}
+use Rattle.turn_desk_core.proofs.StunTypesWrite.Values.{text_is_accepted}
 use Rattle.turn_client_proto_messages.specs.StunProtoAuth.Addition.{attrs, nonce_of, realm_of}
-use Rattle.turn_client_proto_messages.specs.StunProtoClient.Challenges.{ChallengeFields, asks_again, challenge_visible, is_challenge_code, is_error, decoded_by, reported_of}
-use Rattle.turn_client_proto_messages.specs.StunProtoClient.Choice.{supports, takes}
-use Rattle.turn_client_proto_messages.specs.StunProtoAuth.Claims.{algorithms_decoded, claimed, code_visible, code_decoded, last_of_kind, text_decoded, unless_refused}
+use Rattle.turn_client_proto_messages.specs.StunProtoClient.Challenges.{ChallengeFields, asks_again, challenge_visible, is_challenge_code, is_error, decoded_by, list_for_choice, reported_of}
+use Rattle.turn_client_proto_messages.specs.StunProtoClient.Choice.{offers_to, supports, takes}
+use Rattle.turn_client_proto_messages.specs.StunProtoAuth.Claims.{algorithms_decoded, claimed, code_visible, code_decoded, last_of_kind, list_decoded, text_decoded, unless_refused}
 use Rattle.turn_client_proto_messages.specs.StunProtoAuth.Nonce.{features_in}
+use Rattle.turn_client_proto_messages.specs.StunProtoAuth.Lists.{list_read_refusal}
 use Rattle.turn_client_proto_messages.specs.StunProtoAuth.Offers.{offers}
+use Rattle.turn_client_proto_messages.proofs.StunProtoAuth.KnownLists.{known_is_accepted, known_is_accepted_too, listed_as_offered}
 use Rattle.turn_desk_core.specs.StunProtoVerify.declared.error.LongTermServerAuthError.{LongTermServerAuthError}
 use Rattle.turn_desk_core.specs.StunProtoVerify.declared.error.LongTermServerAuthError.TheVariants.{Unauthorized, IntegrityFailed, BadRequest, StaleNonce, NoMemory}
 use Rattle.turn_desk_core.specs.StunProtoServer.ServerSigning.{Party, list_for}
@@ -57,52 +58,40 @@ offered_as (Sha512 ∷ rest) Sha1 = offered_as rest Sha1
 offered_as (Sha512 ∷ rest) Sha256 = offered_as rest Sha256
 offered_as (Sha512 ∷ rest) Sha512 = refl
 
--- Only the single algorithm Sha1 needs no list.
-taken_by : (lists : Bool) (algorithms : List IntegrityAlgorithm) (algorithm : IntegrityAlgorithm) → lists ≡ needs_password_algorithms algorithms
-    → takes (if lists then Some (list_of algorithms) else None) algorithm ≡ supports algorithms algorithm
-taken_by true algorithms algorithm is = offered_as algorithms algorithm
-taken_by false [] algorithm is = absurd (Prim.cc is)
-taken_by false (Sha1 ∷ []) Sha1 is = refl
-taken_by false (Sha1 ∷ []) Sha256 is = refl
-taken_by false (Sha1 ∷ []) Sha512 is = refl
-taken_by false (Sha256 ∷ []) algorithm is = absurd (Prim.cc is)
-taken_by false (Sha512 ∷ []) algorithm is = absurd (Prim.cc is)
-taken_by false (Sha1 ∷ second ∷ others) algorithm is = absurd (Prim.cc is)
-taken_by false (Sha256 ∷ second ∷ others) algorithm is = absurd (Prim.cc is)
-taken_by false (Sha512 ∷ second ∷ others) algorithm is = absurd (Prim.cc is)
+-- Both readings give the same.
+offered_to_as : (hardened : Bool) (algorithms : List IntegrityAlgorithm) (algorithm : IntegrityAlgorithm) → offers_to hardened (list_of algorithms) algorithm ≡ supports algorithms algorithm
+offered_to_as false algorithms algorithm = offered_as algorithms algorithm
+offered_to_as true algorithms algorithm = listed_as_offered algorithms algorithm ∙ offered_as algorithms algorithm
 
-pub takes_own : (party : Party) (algorithm : IntegrityAlgorithm) → (features_in party.nonce).password_algorithms ≡ needs_password_algorithms party.algorithms
-    → takes (list_offered party) algorithm ≡ supports party.algorithms algorithm
-takes_own party algorithm is = taken_by (features_in party.nonce).password_algorithms party.algorithms algorithm is
+-- Only the single algorithm Sha1 needs no list.
+taken_by : (hardened lists : Bool) (algorithms : List IntegrityAlgorithm) (algorithm : IntegrityAlgorithm) → lists ≡ needs_password_algorithms algorithms
+    → takes hardened (if lists then Some (list_of algorithms) else None) algorithm ≡ supports algorithms algorithm
+taken_by hardened true algorithms algorithm is = offered_to_as hardened algorithms algorithm
+taken_by hardened false [] algorithm is = absurd (Prim.cc is)
+taken_by hardened false (Sha1 ∷ []) Sha1 is = refl
+taken_by hardened false (Sha1 ∷ []) Sha256 is = refl
+taken_by hardened false (Sha1 ∷ []) Sha512 is = refl
+taken_by hardened false (Sha256 ∷ []) algorithm is = absurd (Prim.cc is)
+taken_by hardened false (Sha512 ∷ []) algorithm is = absurd (Prim.cc is)
+taken_by hardened false (Sha1 ∷ second ∷ others) algorithm is = absurd (Prim.cc is)
+taken_by hardened false (Sha256 ∷ second ∷ others) algorithm is = absurd (Prim.cc is)
+taken_by hardened false (Sha512 ∷ second ∷ others) algorithm is = absurd (Prim.cc is)
+
+pub takes_own : (hardened : Bool) (party : Party) (algorithm : IntegrityAlgorithm) → (features_in party.nonce).password_algorithms ≡ needs_password_algorithms party.algorithms
+    → takes hardened (list_offered party) algorithm ≡ supports party.algorithms algorithm
+takes_own hardened party algorithm is = taken_by hardened (features_in party.nonce).password_algorithms party.algorithms algorithm is
+
+-- The list is the same to a hardened client and to any other.
+pub chosen_list : (hardened : Bool) (party : Party) → list_for_choice hardened (challenge_of party) ≡ list_offered party
+chosen_list false party = refl
+chosen_list true party = refl
+
+pub takes_chosen : (hardened : Bool) (party : Party) (algorithm : IntegrityAlgorithm) → (features_in party.nonce).password_algorithms ≡ needs_password_algorithms party.algorithms
+    → takes hardened (list_for_choice hardened (challenge_of party)) algorithm ≡ supports party.algorithms algorithm
+takes_chosen hardened party algorithm is =
+    ap (λ (o : Option (List ℕ)). takes hardened o algorithm) (chosen_list hardened party) ∙ takes_own hardened party algorithm is
 
 -- ---- what is read
-
--- The list has an entry of four bytes for each algorithm.
-list-length : (algorithms : List IntegrityAlgorithm) → length (list_of algorithms) ≡ 4 * length algorithms
-unfolding entries
-list-length [] = refl
-list-length (a ∷ algorithms) = let rest = list-length algorithms in omega (arith, rest)
-
--- The number in each entry is known.
-all_known : (algorithms : List IntegrityAlgorithm) → list_all numbers.is_known (numbers_decoded (list_of algorithms)) ≡ true
-unfolding entries numbers_decoded numbers.is_known
-all_known [] = refl
-all_known (Sha1 ∷ rest) = all_known rest
-all_known (Sha256 ∷ rest) = all_known rest
-all_known (Sha512 ∷ rest) = all_known rest
-
--- A list of one to eight algorithms is read.
-list_accepted : (algorithms : List IntegrityAlgorithm) → algorithms ≢ [] → length algorithms ≤ 8 → algorithms_read_refusal (attr_of password_algorithms_kind (list_of algorithms)) ≡ None
-unfolding algorithms_read_refusal entries_refusal
-list_accepted [] some few = absurd (some refl)
-list_accepted (a ∷ rest) some few =
-    let size = list-length (a ∷ rest) in
-    let value = value_is_accepted password_algorithms_kind 4 32 (list_of (a ∷ rest)) (omega (arith, size)) (omega (arith, size, few)) in
-    let whole : eqb (length (list_of (a ∷ rest)) % 4) 0 ≡ true = fours (length (a ∷ rest)) (length (list_of (a ∷ rest))) size in
-    rw (value, whole, all_known (a ∷ rest)) refl
-  where
-    fours : (n long : ℕ) → long ≡ 4 * n → eqb (long % 4) 0 ≡ true
-    fours n long is = let rest : long % 4 ≡ 0 = omega (arith, is) in rw rest refl
 
 -- The codes of challenges are read.
 record IsReadCode (code : ℕ) : Type 0 where
@@ -152,6 +141,12 @@ unfolding algorithms_decoded
 list_again true algorithms reads = ap (λ (o : Option StunParseError). unless_refused o (list_of algorithms)) reads
 list_again false algorithms reads = refl
 
+listed_again : (lists : Bool) (algorithms : List IntegrityAlgorithm) → list_read_refusal (attr_of password_algorithms_kind (list_of algorithms)) ≡ None
+    → list_decoded (if lists then Some (attr_of password_algorithms_kind (list_of algorithms)) else None) ≡ list_by_bit lists algorithms
+unfolding list_decoded
+listed_again true algorithms reads = ap (λ (o : Option StunParseError). unless_refused o (list_of algorithms)) reads
+listed_again false algorithms reads = refl
+
 -- The list that counts.
 counts : (lists : Bool) (algorithms : List IntegrityAlgorithm) → (if lists then list_by_bit lists algorithms else None) ≡ list_by_bit lists algorithms
 counts true algorithms = refl
@@ -171,15 +166,18 @@ read_by lists code party reply bit read fits class visible_is =
     let nonce_is : (claimed reply).nonce ≡ Some party.nonce =
     ap (text_decoded nonce_kind longest_text) (kind_is nonce_kind ∙ last.nonce_is) ∙ text_again nonce_kind longest_text party.nonce (text_is_accepted nonce_kind longest_text party.nonce fits.nonce fits.nonce_is_text) in
     let list_is : (claimed reply).algorithms ≡ list_by_bit lists party.algorithms =
-    ap algorithms_decoded (kind_is password_algorithms_kind ∙ last.list_is) ∙ list_again lists party.algorithms (list_accepted party.algorithms fits.never_empty fits.algorithms) in
-    let with_list : Option (List ℕ) → ChallengeFields = λ offered. record { realm = party.realm; nonce = party.nonce; offered = offered } in
+    ap algorithms_decoded (kind_is password_algorithms_kind ∙ last.list_is) ∙ list_again lists party.algorithms (known_is_accepted party.algorithms fits.never_empty fits.algorithms) in
+    let listed_is : (claimed reply).listed ≡ list_by_bit lists party.algorithms =
+    ap list_decoded (kind_is password_algorithms_kind ∙ last.list_is) ∙ listed_again lists party.algorithms (known_is_accepted_too party.algorithms fits.never_empty fits.algorithms) in
+    let with_list : Option (List ℕ) → ChallengeFields = λ offered. record { realm = party.realm; nonce = party.nonce; offered = offered; listed = offered } in
     ap (λ (b : Bool). if b then reported_of (claimed reply) else None) asks
-    ∙ (ap (λ (r : Option (List ℕ)). decoded_by r (claimed reply).nonce (claimed reply).algorithms) realm_is
-    ∙ (ap (λ (n : Option (List ℕ)). decoded_by (Some party.realm) n (claimed reply).algorithms) nonce_is
-    ∙ (ap (λ (l : Option (List ℕ)). decoded_by (Some party.realm) (Some party.nonce) l) list_is
+    ∙ (ap (λ (r : Option (List ℕ)). decoded_by r (claimed reply).nonce (claimed reply).algorithms (claimed reply).listed) realm_is
+    ∙ (ap (λ (n : Option (List ℕ)). decoded_by (Some party.realm) n (claimed reply).algorithms (claimed reply).listed) nonce_is
+    ∙ (ap (λ (l : Option (List ℕ)). decoded_by (Some party.realm) (Some party.nonce) l (claimed reply).listed) list_is
+    ∙ (ap (λ (l : Option (List ℕ)). decoded_by (Some party.realm) (Some party.nonce) (list_by_bit lists party.algorithms) l) listed_is
     ∙ (ap (λ (b : Bool). Some (with_list (if b then list_by_bit lists party.algorithms else None))) bit
     ∙ (ap (λ (l : Option (List ℕ)). Some (with_list l)) (counts lists party.algorithms)
-    ∙ ap (λ (b : Bool). Some (with_list (list_by_bit b party.algorithms))) (sym bit))))))
+    ∙ ap (λ (b : Bool). Some (with_list (list_by_bit b party.algorithms))) (sym bit)))))))
 
 -- ---- a challenge of the desk
 

@@ -1,6 +1,6 @@
 -- A client's requests as a server core accepts them.
-use Rattle.std.proofs.Common.{◌≡◌, ℕ, Bool, true, false, List, [], ◌∷◌, Option, Some, None, refl, sym, ap, ◌∙◌, subst, inl, inr}
-use Rattle.std.specs.Prelude.{if◌then◌else◌}
+use Rattle.std.proofs.Common.{◌≡◌, ◌≢◌, ℕ, ◌≤◌, Bool, true, false, List, [], ◌∷◌, length, Option, Some, None, refl, sym, ap, ◌∙◌, subst, inl, inr, arith}
+use Rattle.std.specs.Prelude.{if◌then◌else◌, IfSome}
 use Rattle.std.specs.List.{flat_map, list_any}
 use Rattle.std.specs.Option.{option_map, option_or}
 use Rattle.std.specs.declared.net.socket_addr.SocketAddr.{SocketAddr}
@@ -16,8 +16,8 @@ use Rattle.turn_desk_core.specs.StunTypesAuthAttributes.Userhashes.{userhash_of}
 use Rattle.turn_desk_core.specs.StunTypesBase.declared.family.AddressFamily.{AddressFamily}
 use Rattle.turn_desk_core.specs.StunTypesBase.declared.family.AddressFamily.TheVariants.{IPV4, IPV6}
 use Rattle.turn_desk_core.specs.StunTypesBase.declared.transport.TransportType.{TransportType}
-use Rattle.turn_client_proto_messages.specs.StunProtoAuth.Claims.{Claimed, claimed}
-use Rattle.turn_client_proto_messages.specs.StunProtoClient.Client.{Client, Standing, standing_key}
+use Rattle.turn_client_proto_messages.specs.StunProtoAuth.Claims.{Claimed, algorithms_decoded, claimed, unless_refused}
+use Rattle.turn_client_proto_messages.specs.StunProtoClient.Client.{Challenge, Client, Standing, standing_by, standing_key, standing_of}
 use Rattle.turn_client_proto_messages.specs.StunProtoClient.ClientSigning.{hides_name}
 use Rattle.turn_desk_core.specs.StunProtoVerify.Consistency.{AreConsistent}
 use Rattle.turn_client_proto_messages.specs.StunProtoClient.Digests.{IsRight}
@@ -25,7 +25,11 @@ use Rattle.turn_desk_core.specs.StunProtoVerify.Judgement.{user_key}
 use Rattle.turn_desk_core.specs.StunProtoServer.Server.{Server}
 use Rattle.turn_client_proto_messages.specs.StunProtoAuth.SupportedAlgorithms.{is_same_algorithm, list_of, needs_password_algorithms, number_by}
 use Rattle.turn_desk_core.specs.StunProtoServer.Users.{IsClaimedName}
-use Rattle.turn_client_proto_messages.specs.OwnClaims.{own_claim}
+use Rattle.turn_desk_core.specs.StunTypesWire.declared.error.StunParseError.{StunParseError}
+use Rattle.turn_client_proto_messages.specs.StunTypesIntegrity.Credentials.{NameAndPassword}
+use Rattle.turn_client_proto_messages.specs.ShortTexts.{HasShortTexts, IsShortChallenge}
+use Rattle.turn_client_proto_messages.proofs.StunProtoAuth.KnownLists.{known_is_accepted, list_length}
+use Rattle.turn_client_proto_messages.specs.OwnClaims.{own_claim, returned_list}
 use Rattle.turn_client_proto_messages.specs.Requests.{additional_family, dont_fragment_attribute, families_attributes, lifetime_attribute, allocation_lifetime, request_attributes, request_calls, request_text, request_type, transport_attribute}
 use Rattle.turn_client_proto_messages.specs.declared.request.TurnRequest.{TurnRequest}
 use Rattle.turn_client_proto_messages.specs.declared.request.TurnRequest.TheVariants.{Allocate, FirstAllocate}
@@ -99,17 +103,44 @@ own_choice (Sha1 ∷ b ∷ rest) choice none among = absurd (Prim.cc none)
 own_choice (Sha256 ∷ b ∷ rest) choice none among = absurd (Prim.cc none)
 own_choice (Sha512 ∷ b ∷ rest) choice none among = absurd (Prim.cc none)
 
+-- The list that a server gave, returned as it was received, is decoded as that list.
+given_again : (algorithms : List IntegrityAlgorithm) (choice : IntegrityAlgorithm) (offered : Option (List ℕ)) → offered ≡ Some (list_of algorithms) → list_any (is_same_algorithm choice) algorithms ≡ true
+    → IfSome offered (λ list. length list ≤ 32) → algorithms_decoded (returned_list offered) ≡ Some (list_of algorithms)
+unfolding algorithms_decoded
+given_again algorithms choice offered is among short =
+    let most : length (list_of algorithms) ≤ 32 = subst (λ (o : Option (List ℕ)). IfSome o (λ list. length list ≤ 32)) is short in
+    let size = list_length algorithms in
+    let some : algorithms ≢ [] = λ none. Prim.cc (sym among ∙ ap (list_any (is_same_algorithm choice)) none) in
+    ap (λ (o : Option (List ℕ)). algorithms_decoded (returned_list o)) is
+    ∙ ap (λ (o : Option StunParseError). unless_refused o (list_of algorithms)) (known_is_accepted algorithms some (omega (arith, size, most)))
+
+none_again : (offered : Option (List ℕ)) → offered ≡ None → algorithms_decoded (returned_list offered) ≡ None
+unfolding algorithms_decoded
+none_again offered is = ap (λ (o : Option (List ℕ)). algorithms_decoded (returned_list o)) is
+
 -- What is claimed of algorithms is consistent.
 fits : (algorithms : List IntegrityAlgorithm) (choice : IntegrityAlgorithm) (offered : Option (List ℕ)) (claim : Claimed) (needs : Bool) → needs_password_algorithms algorithms ≡ needs → offered ≡ (if needs then Some (list_of algorithms) else None)
-    → list_any (is_same_algorithm choice) algorithms ≡ true → claim.algorithms ≡ offered → claim.algorithm ≡ option_map (λ (list : List ℕ). number_by choice) offered → AreConsistent algorithms claim choice
-fits algorithms choice offered claim true needs is among list one =
-    inr (record { list = list ∙ is; choice = one ∙ ap (option_map (λ (l : List ℕ). number_by choice)) is; among = among })
-fits algorithms choice offered claim false needs is among list one =
-    inl (record { list = list ∙ is; choice = one ∙ ap (option_map (λ (l : List ℕ). number_by choice)) is; own = own_choice algorithms choice needs among; among = among })
+    → list_any (is_same_algorithm choice) algorithms ≡ true → IfSome offered (λ list. length list ≤ 32) → claim.algorithms ≡ algorithms_decoded (returned_list offered)
+    → claim.algorithm ≡ option_map (λ (list : List ℕ). number_by choice) offered → AreConsistent algorithms claim choice
+fits algorithms choice offered claim true needs is among short list one =
+    inr (record { list = list ∙ given_again algorithms choice offered is among short; choice = one ∙ ap (option_map (λ (l : List ℕ). number_by choice)) is; among = among })
+fits algorithms choice offered claim false needs is among short list one =
+    inl (record { list = list ∙ none_again offered is; choice = one ∙ ap (option_map (λ (l : List ℕ). number_by choice)) is; own = own_choice algorithms choice needs among; among = among })
 
-pub as_requested : (server : Server) (from : SocketAddr) (auth : Client) (s : Standing) (bytes : List ℕ) → claimed bytes ≡ own_claim auth.anonymous_username s → IsRight bytes (standing_key s) → IsOfServer server from s
+-- The list in a challenge that a client remembers is short.
+short_list : (auth : Client) (s : Standing) → HasShortTexts auth → standing_of auth ≡ Some s → IfSome s.challenge.offered (λ list. length list ≤ 32)
+short_list auth s short occurs = by auth.account auth.challenge occurs short.challenge
+  where
+    by : (account : Option NameAndPassword) (challenge : Option Challenge) → standing_by account challenge ≡ Some s → IfSome challenge IsShortChallenge → IfSome s.challenge.offered (λ list. length list ≤ 32)
+    by None challenge is texts = absurd (Prim.cc is)
+    by (Some account) None is texts = absurd (Prim.cc is)
+    by (Some account) (Some challenge) is texts =
+        let same : challenge ≡ s.challenge = Prim.cc is in
+        subst (λ (c : Challenge). IfSome c.offered (λ list. length list ≤ 32)) same texts.offered
+
+pub as_requested : (server : Server) (from : SocketAddr) (auth : Client) (s : Standing) (bytes : List ℕ) → HasShortTexts auth → standing_of auth ≡ Some s → claimed bytes ≡ own_claim auth.anonymous_username s → IsRight bytes (standing_key s) → IsOfServer server from s
     → IsOfUser server s.challenge.nonce bytes (user_of s)
-as_requested server from auth s bytes claims right own =
+as_requested server from auth s bytes short occurs claims right own =
     let hidden = hides_name auth.anonymous_username s.challenge.nonce in
     record {
       present = own.present;
@@ -120,7 +151,7 @@ as_requested server from auth s bytes claims right own =
       realm = s.challenge.realm;
       has_realm = ap (λ (c : Claimed). c.realm) claims;
       has_nonce = ap (λ (c : Claimed). c.nonce) claims;
-      consistent = fits server.algorithms s.challenge.choice s.challenge.offered (claimed bytes) (needs_password_algorithms server.algorithms) refl own.offered own.choice
+      consistent = fits server.algorithms s.challenge.choice s.challenge.offered (claimed bytes) (needs_password_algorithms server.algorithms) refl own.offered own.choice (short_list auth s short occurs)
           (ap (λ (c : Claimed). c.algorithms) claims) (ap (λ (c : Claimed). c.algorithm) claims);
       text = right.text;
       validates = subst (λ (r : List ℕ). Validates bytes (user_key r s.account.username s.account.password s.challenge.choice) s.challenge.choice right.text) own.realm right.validates;

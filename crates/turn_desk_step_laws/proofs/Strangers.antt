@@ -29,7 +29,7 @@ use Rattle.turn_desk_core.specs.Steps.{IsAnswer, IsChallenge, IsVerdict, unvalid
 use Rattle.turn_desk_core.specs.Verdicts.{verdict_on}
 use Rattle.turn_desk_step_laws.specs.Challenged.{HasSameSettings, IsFirstChallenge, challenge_of}
 use Rattle.turn_desk_core.proofs.StunProtoServer.Named.{inside}
-use Rattle.turn_desk_step_laws.proofs.Reported.{challenge_read, takes_own}
+use Rattle.turn_desk_step_laws.proofs.Reported.{challenge_read, chosen_list, takes_chosen}
 
 -- ---- why it is refused
 
@@ -107,8 +107,8 @@ module _ (old new : State) (from : SocketAddr) (bytes reply : List ℕ) (now : �
         number = is.read.number;
         realm = refl;
         features = features;
-        takes_own = λ algorithm. takes_own party algorithm (ap (λ f. f.password_algorithms) features);
-        list = refl;
+        takes_own = λ hardened algorithm. takes_chosen hardened party algorithm (ap (λ f. f.password_algorithms) features);
+        list = λ hardened. chosen_list hardened party;
         stored = stored ∙ ap (λ (n : List ℕ). Some (client_of now n)) same;
         occurs = λ later before.
             ap (λ (o : Option Client). is_standing new.auth.nonce_expiry later o) stored

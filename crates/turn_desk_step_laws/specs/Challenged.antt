@@ -1,10 +1,10 @@
 -- What a client reads in a server core's challenge (RFC 8489, sections 9.2.4, 9.2.5 and 14.11).
-use Rattle.std.specs.Prelude.{◌≡◌, ◌<◌, ℕ, true, if◌then◌else◌, List, Option, Some, None}
+use Rattle.std.specs.Prelude.{◌≡◌, ◌<◌, ℕ, Bool, true, if◌then◌else◌, List, Option, Some, None}
 use Rattle.std.specs.FinMap as map
 use Rattle.std.specs.declared.net.socket_addr.SocketAddr.{SocketAddr}
 use Rattle.turn_desk_core.specs.StunTypesWire.Grammar.{number_at}
 use Rattle.turn_desk_core.specs.StunTypesWire.declared.algorithm.IntegrityAlgorithm.{IntegrityAlgorithm}
-use Rattle.turn_client_proto_messages.specs.StunProtoClient.Challenges.{ChallengeFields, challenge_visible}
+use Rattle.turn_client_proto_messages.specs.StunProtoClient.Challenges.{ChallengeFields, challenge_visible, list_for_choice}
 use Rattle.turn_client_proto_messages.specs.StunProtoClient.Choice.{supports, takes}
 use Rattle.turn_desk_core.specs.StunTypesBase.Times.{time_after}
 use Rattle.turn_client_proto_messages.specs.StunProtoAuth.Nonce.{features_offered, features_in}
@@ -20,7 +20,12 @@ list_offered party =
 
 -- A server's realm, the nonce that it has stored, and that list.
 abbrev pub challenge_of : Party → ChallengeFields
-challenge_of party = record { realm = party.realm; nonce = party.nonce; offered = list_offered party }
+challenge_of party = record {
+  realm = party.realm;
+  nonce = party.nonce;
+  offered = list_offered party;
+  listed = list_offered party;
+}
 
 -- The realm, the users and the settings are unchanged.
 pub record HasSameSettings (old new : Server) : Type 0 where
@@ -35,7 +40,8 @@ pub record HasSameSettings (old new : Server) : Type 0 where
 -- - The reply has the transaction ID of the request, and is read as a challenge with the server core's realm.
 -- - Its nonce announces the features that the server core offers. It is stored for the address as generated
 --   at `now`, so it is valid until it expires.
--- - The challenge accepts exactly the algorithms that the server core supports.
+-- - The challenge accepts exactly the algorithms that the server core supports, for a hardened client and for any
+--   other.
 -- - Nothing is granted, and no user or setting changes.
 pub record IsFirstChallenge (old : State) (from : SocketAddr) (bytes : List ℕ) (now : ℕ) (reply : List ℕ) (new : State)
     : Type 0 where
@@ -44,9 +50,9 @@ pub record IsFirstChallenge (old : State) (from : SocketAddr) (bytes : List ℕ)
   pub number : number_at reply ≡ number_at bytes
   pub realm : reported.realm ≡ old.auth.realm
   pub features : features_in reported.nonce ≡ features_offered old.auth.algorithms old.auth.anonymous_username
-  pub takes_own : (algorithm : IntegrityAlgorithm)
-      → takes reported.offered algorithm ≡ supports old.auth.algorithms algorithm
-  pub list : reported.offered ≡ (if (features_in reported.nonce).password_algorithms
+  pub takes_own : (hardened : Bool) (algorithm : IntegrityAlgorithm)
+      → takes hardened (list_for_choice hardened reported) algorithm ≡ supports old.auth.algorithms algorithm
+  pub list : (hardened : Bool) → list_for_choice hardened reported ≡ (if (features_in reported.nonce).password_algorithms
       then Some (list_of old.auth.algorithms)
       else None)
   pub stored : map.get new.auth.clients from

@@ -1,7 +1,7 @@
 //! What a client reads in a server core's challenge (RFC 8489, sections 9.2.4 and 9.2.5), and which
 //! requests a server core challenges. The functions here do nothing; each contract is a theorem.
 
-ghost use Rattle.std.specs.Prelude.{◌≡◌, ◌≢◌, ℕ, List, Some, None};
+ghost use Rattle.std.specs.Prelude.{◌≡◌, ◌≢◌, ℕ, Bool, List, Some, None};
 ghost use Rattle.std.specs.FinMap as map;
 ghost use Rattle.std.specs.declared.net.socket_addr.SocketAddr.{SocketAddr};
 ghost use Rattle.rand_core.specs.Stream.{Stream};
@@ -24,7 +24,8 @@ ghost use Rattle.turn_desk_step_laws.specs.Challenged.{IsFirstChallenge, challen
 ///   the nonce that is stored for the address, and the list of the server core's algorithms if that
 ///   nonce announces a list.
 /// - `takes`: If the nonce announces a list exactly when the server core has to give one, the
-///   challenge accepts exactly the algorithms that the server core supports.
+///   challenge accepts exactly the algorithms that the server core supports, for a hardened client
+///   and for any other.
 pub fn challenges_are_read()
     ensures read { (old new : State) (from : SocketAddr) (bytes reply : List ℕ) (now : ℕ)
         (stream : Stream)
@@ -32,10 +33,10 @@ pub fn challenges_are_read()
         → (is : IsChallenge old from bytes now stream reply new)
         → is.error ≢ BadRequest
         → challenge_visible reply ≡ Some (challenge_of (unvalidated_party old.auth is.nonce)) }
-    ensures takes { (party : Party) (algorithm : IntegrityAlgorithm)
+    ensures takes { (hardened : Bool) (party : Party) (algorithm : IntegrityAlgorithm)
         → (features_in party.nonce).password_algorithms
         ≡ needs_password_algorithms party.algorithms
-        → takes (list_offered party) algorithm ≡ supports party.algorithms algorithm }
+        → takes hardened (list_offered party) algorithm ≡ supports party.algorithms algorithm }
 {}
 
 /// If a request is served, shows no integrity attribute, and comes from an address for which the

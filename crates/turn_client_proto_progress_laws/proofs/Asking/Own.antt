@@ -6,6 +6,7 @@ use Rattle.turn_client_proto_messages.specs.StunTypesWire.Grammar.{number_at, re
 use Rattle.turn_client_proto_messages.specs.StunTypesWire.declared.class.MessageClass.TheVariants.{Request}
 use Rattle.turn_client_proto_messages.specs.StunTypesWire.Types.{class_of, method_of}
 use Rattle.turn_client_proto_messages.specs.StunProtoAuth.Claims.{claimed}
+use Rattle.turn_client_proto_messages.specs.StunProtoClient.Challenges.{list_for_choice}
 use Rattle.turn_client_proto_messages.specs.StunProtoClient.Client as auth
 use Rattle.turn_client_proto_messages.specs.StunProtoClient.ClientValidation.{going_by}
 use Rattle.turn_client_proto_messages.specs.StunProtoAuth.declared.feature.Feature.{Feature}
@@ -33,11 +34,11 @@ signs_so : (b : Beginning) (c : Choice) → HasShortTexts (signer_by b c) → Ha
 signs_so b c short read = record {
   account = refl;
   hides = refl;
-  challenge = record { realm = c.reported.realm; nonce = c.reported.nonce; offered = c.reported.offered; choice = c.algorithm };
+  challenge = record { realm = c.reported.realm; nonce = c.reported.nonce; offered = list_for_choice b.config.hardened c.reported; choice = c.algorithm };
   stored = refl;
   realm_is = refl;
   short = record { username = short.username; challenge = short.challenge };
-  read = record { username = read.username; challenge = read.challenge };
+  read = record { username = read.username; challenge = read.challenge; known = read.known };
 }
 
 pub holder_speaks : (b : Beginning) (c : Choice) (address : SocketAddr) (lifetime made last : ℕ) (queue : List Queued) (events : List TurnEvent) (p : Protocol) → HasShortTexts (signer_by b c) → HasReadTexts (signer_by b c)

@@ -10,6 +10,7 @@ use Rattle.turn_client_proto_messages.specs.StunTypesWire.Grammar.{number_at}
 use Rattle.turn_client_proto_messages.specs.StunTypesWire.declared.algorithm.IntegrityAlgorithm.{IntegrityAlgorithm}
 use Rattle.turn_client_proto_messages.specs.StunTypesWire.Types.{class_of, method_of}
 use Rattle.turn_client_proto_messages.specs.StunTypesBase.declared.transport.TransportType.{TransportType}
+use Rattle.turn_client_proto_messages.specs.StunProtoClient.Challenges.{list_for_choice}
 use Rattle.turn_client_proto_messages.specs.StunProtoClient.Client as auth
 use Rattle.turn_client_proto_messages.specs.StunProtoClient.declared.error.LongTermClientAuthError.{LongTermClientAuthError}
 use Rattle.turn_client_proto_messages.specs.StunProtoClient.declared.error.LongTermClientAuthError.TheVariants.{Unauthorized, IntegrityFailed, UnsupportedFeature, NoMemory}
@@ -75,7 +76,7 @@ module _ (b : Beginning) (realm message : List ℕ) (decodes : ReportsRealm real
 
   by_verdict : (verdict : Result LongTermClientValidation LongTermClientAuthError) → IsJudged old message verdict new → IsStored
   by_verdict (Ok (ResendRequest choice)) r = record {
-    challenge = record { realm = r.reported.realm; nonce = r.reported.nonce; offered = r.reported.offered; choice = choice };
+    challenge = record { realm = r.reported.realm; nonce = r.reported.nonce; offered = list_for_choice old.hardened r.reported; choice = choice };
     stored = ap (λ (c : auth.Client). c.challenge) r.stored;
     realm_is = decodes r.reported r.visible;
   }

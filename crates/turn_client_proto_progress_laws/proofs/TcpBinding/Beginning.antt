@@ -27,7 +27,7 @@ module _ (b : Beginning) (c : Choice) (address : SocketAddr) (lifetime since las
     over = over;
     relays = relays;
     short = record { username = short.username; challenge = short.challenge };
-    read = record { username = read.username; challenge = read.challenge };
+    read = record { username = read.username; challenge = read.challenge; known = read.known };
     occurs = refl;
     goes_by = refl;
   }

@@ -4,7 +4,7 @@ use Rattle.std.specs.Prelude.{Result, Ok, Err}
 use Rattle.std.specs.declared.net.socket_addr.SocketAddr.{SocketAddr}
 use Rattle.turn_client_proto_messages.specs.StunTypesIntegrity.Credentials.{NameAndPassword}
 use Rattle.turn_client_proto_messages.specs.StunTypesWire.declared.algorithm.IntegrityAlgorithm.{IntegrityAlgorithm}
-use Rattle.turn_client_proto_messages.specs.StunProtoClient.Challenges.{ChallengeFields, challenge_visible, is_anonymous_enough, is_listed_enough}
+use Rattle.turn_client_proto_messages.specs.StunProtoClient.Challenges.{ChallengeFields, challenge_visible, is_anonymous_enough, is_listed_enough, list_for_choice}
 use Rattle.turn_client_proto_messages.specs.StunProtoClient.Choice.{is_common}
 use Rattle.turn_client_proto_messages.specs.StunProtoClient.Client as auth
 use Rattle.turn_client_proto_messages.specs.StunProtoClient.declared.error.LongTermClientAuthError.{LongTermClientAuthError}
@@ -35,7 +35,7 @@ use Rattle.turn_client_proto_progress_laws.proofs.TcpBinding.Bound.{answer_proce
 
 -- A challenge that can be answered isn't one that can't.
 none_barred : {A : Type 0} (client : auth.Client) (reported : ChallengeFields) (choice : IntegrityAlgorithm) → IsAnswerable client reported choice → IsUnanswerable client reported → A
-none_barred client reported choice is (inl none) = clash (is_common client.algorithms reported.offered choice) is.strongest.common (none choice)
+none_barred client reported choice is (inl none) = clash (is_common client.algorithms client.hardened (list_for_choice client.hardened reported) choice) is.strongest.common (none choice)
 none_barred client reported choice is (inr (inl named)) = clash (is_anonymous_enough client.anonymous_username reported.nonce) is.anonymous named
 none_barred client reported choice is (inr (inr bare)) = clash (is_listed_enough client.hardened reported) is.listed bare
 

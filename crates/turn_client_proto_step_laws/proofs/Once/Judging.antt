@@ -1,9 +1,9 @@
 -- The verdict on a message and the authenticator afterwards are determined, unless memory runs out.
-use Rattle.std.proofs.Common.{◌≡◌, ◌≢◌, ℕ, List, Option, Some, Result, Ok, Err, refl, sym, ap, ◌∙◌, subst, inl, inr}
+use Rattle.std.proofs.Common.{◌≡◌, ◌≢◌, ℕ, Bool, List, Option, Some, Result, Ok, Err, refl, sym, ap, ◌∙◌, subst, inl, inr}
 use Rattle.turn_client_proto_timers.specs.StunTypesWire.declared.algorithm.IntegrityAlgorithm.{IntegrityAlgorithm}
 use Rattle.turn_client_proto_timers.specs.StunTypesWire.declared.algorithm.IntegrityAlgorithm.TheVariants.{Sha1, Sha256, Sha512}
 use Rattle.turn_client_proto_recv.proofs.StunTypesMessage.Validating.{none_validates}
-use Rattle.turn_client_proto_recv.specs.StunProtoClient.Challenges.{ChallengeFields}
+use Rattle.turn_client_proto_recv.specs.StunProtoClient.Challenges.{ChallengeFields, list_for_choice}
 use Rattle.turn_client_proto_recv.specs.StunProtoClient.Choice.{IsStrongest}
 use Rattle.turn_client_proto_recv.specs.StunProtoClient.Client.{Client, Standing, standing_key}
 use Rattle.turn_client_proto_recv.specs.StunProtoClient.declared.error.LongTermClientAuthError.{LongTermClientAuthError}
@@ -33,16 +33,16 @@ no_memory = Err NoMemory
 -- ---- what excludes what
 
 -- Two algorithms than which none is stronger are equal.
-strongest_same : (own : List IntegrityAlgorithm) (offered : Option (List ℕ)) (a b : IntegrityAlgorithm) → IsStrongest own offered a → IsStrongest own offered b → a ≡ b
-strongest_same own offered Sha1 Sha1 x y = refl
-strongest_same own offered Sha1 Sha256 x y = absurd (Prim.cc (x.greatest Sha256 y.common))
-strongest_same own offered Sha1 Sha512 x y = absurd (Prim.cc (x.greatest Sha512 y.common))
-strongest_same own offered Sha256 Sha1 x y = absurd (Prim.cc (y.greatest Sha256 x.common))
-strongest_same own offered Sha256 Sha256 x y = refl
-strongest_same own offered Sha256 Sha512 x y = absurd (Prim.cc (x.greatest Sha512 y.common))
-strongest_same own offered Sha512 Sha1 x y = absurd (Prim.cc (y.greatest Sha512 x.common))
-strongest_same own offered Sha512 Sha256 x y = absurd (Prim.cc (y.greatest Sha512 x.common))
-strongest_same own offered Sha512 Sha512 x y = refl
+strongest_same : (own : List IntegrityAlgorithm) (hardened : Bool) (offered : Option (List ℕ)) (a b : IntegrityAlgorithm) → IsStrongest own hardened offered a → IsStrongest own hardened offered b → a ≡ b
+strongest_same own hardened offered Sha1 Sha1 x y = refl
+strongest_same own hardened offered Sha1 Sha256 x y = absurd (Prim.cc (x.greatest Sha256 y.common))
+strongest_same own hardened offered Sha1 Sha512 x y = absurd (Prim.cc (x.greatest Sha512 y.common))
+strongest_same own hardened offered Sha256 Sha1 x y = absurd (Prim.cc (y.greatest Sha256 x.common))
+strongest_same own hardened offered Sha256 Sha256 x y = refl
+strongest_same own hardened offered Sha256 Sha512 x y = absurd (Prim.cc (x.greatest Sha512 y.common))
+strongest_same own hardened offered Sha512 Sha1 x y = absurd (Prim.cc (y.greatest Sha512 x.common))
+strongest_same own hardened offered Sha512 Sha256 x y = absurd (Prim.cc (y.greatest Sha512 x.common))
+strongest_same own hardened offered Sha512 Sha512 x y = refl
 
 -- A challenge can't be both answerable and unanswerable.
 answerable_not : (client : Client) (reported : ChallengeFields) (choice : IntegrityAlgorithm) → IsAnswerable client reported choice → IsUnanswerable client reported → ⊥
@@ -86,8 +86,8 @@ module _ (old : Client) (bytes : List ℕ) (one other : Client) where
   both_resent : (choice again : IntegrityAlgorithm) → IsResent old bytes choice one → IsResent old bytes again other → Agree (resend choice) (resend again)
   both_resent choice again r s =
       let reported : r.reported ≡ s.reported = some_some r.reported s.reported _ r.visible s.visible in
-      let strongest = subst (λ (t : ChallengeFields). IsStrongest old.algorithms t.offered choice) reported r.answerable.strongest in
-      let same : choice ≡ again = strongest_same old.algorithms s.reported.offered choice again strongest s.answerable.strongest in
+      let strongest = subst (λ (t : ChallengeFields). IsStrongest old.algorithms old.hardened (list_for_choice old.hardened t) choice) reported r.answerable.strongest in
+      let same : choice ≡ again = strongest_same old.algorithms old.hardened (list_for_choice old.hardened s.reported) choice again strongest s.answerable.strongest in
       (ap resend same, r.stored ∙ ap (λ (t : ChallengeFields). keeping old t choice) reported ∙ ap (keeping old s.reported) same ∙ sym s.stored)
 
   both_valid : (algorithm again : IntegrityAlgorithm) → IsValidated old bytes algorithm one → IsValidated old bytes again other → Agree (valid algorithm) (valid again)
