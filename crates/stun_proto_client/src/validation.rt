@@ -104,7 +104,11 @@ impl LongTermClientAuth {
         if !is_listed_enough(self.hardened, decoded) {
             return None;
         }
-        strongest(self.supported, self.hardened, decoded.list_for_choice(self.hardened))
+        strongest(
+            self.supported,
+            self.hardened,
+            decoded.list_for_choice(self.hardened),
+        )
     }
 
     /// Validates a message that is not a challenge, and records the algorithm.
