@@ -15,7 +15,7 @@ use rand_core::Rng;
 use std::net::SocketAddr;
 use stun_proto_auth::claim::Claim;
 use stun_proto_verify::error::LongTermServerAuthError;
-use stun_proto_verify::judgement::judge_message;
+use stun_proto_verify::judgement::{judge_claim, judge_user};
 use stun_proto_verify::known::Known;
 use stun_proto_verify::user::ValidatedUser;
 use stun_types_base::instant::Instant;
@@ -38,7 +38,8 @@ impl LongTermServerAuth {
     ///   as absent.
     /// - USERNAME names the user. Without it, USERHASH does, by the hash of name and realm; if
     ///   several users have that hash, the first by name counts. Either costs a search among the
-    ///   users, and no digest.
+    ///   users, and no digest. There is no search for a message that is rejected with errors 1 to
+    ///   6.
     ///
     /// # Errors
     ///
@@ -141,12 +142,11 @@ impl LongTermServerAuth {
             → AcceptsSome self.now from message.now) }
     {
         let claim = Claim::of(message);
-        let known = Known::new(
-            self.realm(),
-            self.supported(),
-            self.nonce_for_client(from),
-            self.user_claimed(&claim),
-        );
-        judge_message(self.alloc(), message, &claim, &known)
+        let (realm, nonce) = (self.realm(), self.nonce_for_client(from));
+        let known = Known::new(realm, self.supported(), nonce, None);
+        let algorithm = judge_claim(&claim, &known)?;
+        // The user is searched for only once nothing else stands against the message.
+        let known_user = known.with_user(self.user_claimed(&claim));
+        judge_user(self.alloc(), message, algorithm, &known_user)
     }
 }

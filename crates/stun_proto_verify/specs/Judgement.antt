@@ -91,12 +91,15 @@ abbrev pub user_refusal : Option Named → Option LongTermServerAuthError
 user_refusal (Some user) = None
 user_refusal None = Some Unauthorized
 
+-- The first error of a claim that is found without its user.
+unfoldable pub unnamed_refusal : Knowledge → Claimed → Option LongTermServerAuthError
+unnamed_refusal known claim =
+    option_or (integrity_refusal claim.integrity) (option_or (parts_refusal claim)
+    (option_or (nonce_refusal claim.nonce known.nonce) (algorithms_refusal claim known.algorithms)))
+
 -- The first error of a claim, without regard to the digest.
 unfoldable pub claim_refusal : Knowledge → Claimed → Option LongTermServerAuthError
-claim_refusal known claim =
-    option_or (integrity_refusal claim.integrity) (option_or (parts_refusal claim)
-    (option_or (nonce_refusal claim.nonce known.nonce)
-    (option_or (algorithms_refusal claim known.algorithms) (user_refusal known.user))))
+claim_refusal known claim = option_or (unnamed_refusal known claim) (user_refusal known.user)
 
 -- The first error of a message, without regard to its digest.
 unfoldable pub judgement : Knowledge → List ℕ → Option LongTermServerAuthError

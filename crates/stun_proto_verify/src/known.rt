@@ -160,6 +160,13 @@ impl<'a> Known<'a> {
         }
     }
 
+    /// Returns what the server knows along with this user, in place of any other.
+    pub fn with_user(self, user: Option<NamedUser<'a>>) -> Known<'a>
+        ensures { result ≡ record self.entry { user = user.entry } }
+    {
+        Known { user, ..self }
+    }
+
     /// Returns the realm.
     pub fn realm(&self) -> &'a str
         ensures { result.now ≡ self.now.realm }
