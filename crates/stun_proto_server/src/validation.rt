@@ -36,8 +36,9 @@ impl LongTermServerAuth {
     ///
     /// - Of several visible attributes of one type the last one counts, and a malformed one counts
     ///   as absent.
-    /// - USERNAME names the user. Without it, USERHASH does, by the hash of name and realm; if
-    ///   several users have that hash, the first by name counts. Either costs a search among the
+    /// - USERNAME names the user. Without it, USERHASH does, by the hash of name and realm, unless
+    ///   `anonymous_username` is `Disabled`; if several users have that hash, the first by name
+    ///   counts. Either costs a search among the
     ///   users, and no digest. There is no search for a message that is rejected with errors 1 to
     ///   6.
     ///
@@ -47,7 +48,8 @@ impl LongTermServerAuth {
     ///    generated.
     /// 2. `NoMemory`: an allocation for a new nonce failed. The server is unchanged.
     /// 3. `Unauthorized`: the message has no visible integrity attribute.
-    /// 4. `BadRequest`: it has neither a user's name nor the hash of one, no realm, or no nonce.
+    /// 4. `BadRequest`: it has neither a user's name nor the hash of one, no realm, or no nonce. A
+    ///    hash counts as absent if `anonymous_username` is `Disabled`.
     /// 5. `StaleNonce`: its nonce is not the valid one for the address.
     /// 6. `BadRequest`: its password algorithms are inconsistent.
     /// 7. `Unauthorized`: it names no user of the server.
@@ -143,7 +145,9 @@ impl LongTermServerAuth {
     {
         let claim = Claim::of(message);
         let (realm, nonce) = (self.realm(), self.nonce_for_client(from));
-        let known = Known::new(realm, self.supported(), nonce, None);
+        let known = Known::new(realm, self.supported(), nonce, None).with_anonymous_username(
+            self.anonymous_username(),
+        );
         let algorithm = judge_claim(&claim, &known)?;
         // The user is searched for only once nothing else stands against the message.
         let known_user = known.with_user(self.user_claimed(&claim));

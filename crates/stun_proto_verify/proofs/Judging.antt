@@ -52,7 +52,7 @@ same_text_of (Some x) None h = absurd (Prim.cc h)
 same_text_of (Some x) (Some y) h = record { text = x; first = refl; second = ap (λ t. Some t) (sym (same_text x y (sym h))) }
 
 pub record Passed (known : Knowledge) (claim : Claimed) : Type 0 where
-  pub named : names_user claim ≡ true
+  pub named : names_user known.anonymous_username claim ≡ true
   pub realm : List ℕ
   pub has_realm : claim.realm ≡ Some realm
   pub nonce : List ℕ
@@ -64,9 +64,9 @@ pub passed : (known : Knowledge) (claim : Claimed) → unnamed_refusal known cla
 unfolding unnamed_refusal
 passed known claim h =
     let one = or_none (integrity_refusal claim.integrity) _ h in
-    let two = or_none (parts_refusal claim) _ one.1 in
+    let two = or_none (parts_refusal known.anonymous_username claim) _ one.1 in
     let three = or_none (nonce_refusal claim.nonce known.nonce) _ two.1 in
-    let parts = both (names_user claim) (is_some claim.realm && is_some claim.nonce) (passes _ BadRequest two.0) in
+    let parts = both (names_user known.anonymous_username claim) (is_some claim.realm && is_some claim.nonce) (passes _ BadRequest two.0) in
     let realm = text_of claim.realm (both (is_some claim.realm) (is_some claim.nonce) parts.1).0 in
     let nonce = same_text_of claim.nonce known.nonce (passes _ StaleNonce three.0) in
     record {

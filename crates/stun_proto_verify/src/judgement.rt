@@ -25,7 +25,8 @@ use stun_types_wire::algorithm::IntegrityAlgorithm;
 /// # Errors
 ///
 /// 1. `Unauthorized`: the message has no visible integrity attribute.
-/// 2. `BadRequest`: it has neither a user's name nor the hash of one, no realm, or no nonce.
+/// 2. `BadRequest`: it has neither a user's name nor the hash of one, no realm, or no nonce. A hash
+///    counts as absent if the server has disabled the feature.
 /// 3. `StaleNonce`: its nonce is not the valid one.
 /// 4. `BadRequest`: its password algorithms are inconsistent.
 /// 5. `Unauthorized`: the user that it names is unknown.
@@ -85,7 +86,8 @@ fn decide(
 /// Those of `judge_message` that precede the user:
 ///
 /// 1. `Unauthorized`: the claim has no integrity attribute.
-/// 2. `BadRequest`: it has neither a user's name nor the hash of one, no realm, or no nonce.
+/// 2. `BadRequest`: it has neither a user's name nor the hash of one, no realm, or no nonce. A hash
+///    counts as absent if the server has disabled the feature.
 /// 3. `StaleNonce`: its nonce is not the valid one.
 /// 4. `BadRequest`: its password algorithms are inconsistent.
 #[tactic(auto, unfolding(crate::specs::Judgement::unnamed_refusal))]
@@ -99,7 +101,7 @@ pub fn judge_claim(
         × (error ≢ LongTermServerAuthError.NoMemory)) }
 {
     let algorithm = check_integrity(claim)?;
-    check_parts(claim)?;
+    check_parts(claim, known)?;
     check_nonce(claim, known)?;
     check_algorithms(claim, known)?;
     Ok(algorithm)

@@ -38,7 +38,7 @@ unsigned_judged : (known : Knowledge) (bytes : List ℕ) → is_response bytes �
 unfolding judgement claim_refusal unnamed_refusal
 unsigned_judged known bytes request unsigned =
     let claim = claimed bytes in
-    let rest = option_or (parts_refusal claim) (option_or (nonce_refusal claim.nonce known.nonce) (algorithms_refusal claim known.algorithms)) in
+    let rest = option_or (parts_refusal known.anonymous_username claim) (option_or (nonce_refusal claim.nonce known.nonce) (algorithms_refusal claim known.algorithms)) in
     ap (λ (b : Bool). option_or (if b then Some BadRequest else None) (claim_refusal known (claimed bytes))) request
     ∙ ap (λ (i : Option IntegrityAlgorithm). option_or (option_or (integrity_refusal i) rest) (user_refusal known.user)) unsigned
 
