@@ -304,7 +304,7 @@ class Server(Section):
         self.drawn(address, now, seed)
         nonce, drawn, _ = self.clients[address]
         user = self.user_named(claim_of(data))
-        taken, refused = judged(data, self.realm, self.algorithms, nonce, user)
+        taken, refused = judged(data, self.realm, self.algorithms, nonce, user, self.anonymity != "Disabled")
         self.clients[address] = nonce, drawn, taken
         return refused or f"Validated({taken[1]})"
 

@@ -220,11 +220,13 @@ def is_signed(data, algorithm, key):
     return hmac_of(algorithm, key, text)[: len(value)] == value
 
 
-def refusal(claim, algorithms, nonce):
-    """Why a server refuses what a message claims before it looks for the user, or None."""
+def refusal(claim, algorithms, nonce, takes_hashes):
+    """Why a server refuses what a message claims before it looks for the user, or None. A server that does not
+    take hashes asks for a USERNAME (RFC 8489, section 9.2.4: "does not contain either" is 400)."""
     if claim.integrity is None:
         return "Unauthorized"
-    if (claim.username is None and claim.user_hash is None) or claim.realm is None or claim.nonce is None:
+    names_nobody = claim.username is None and (claim.user_hash is None or not takes_hashes)
+    if names_nobody or claim.realm is None or claim.nonce is None:
         return "BadRequest"
     if claim.nonce != nonce:
         return "StaleNonce"
@@ -235,11 +237,11 @@ def refusal(claim, algorithms, nonce):
     return None if fits and claim.integrity in algorithms else "BadRequest"
 
 
-def judged(data, realm, algorithms, nonce, user):
+def judged(data, realm, algorithms, nonce, user, takes_hashes=True):
     """What a server makes of a message, of which it knows this user, a name and a password, or nobody: the user
     and the algorithm, or a refusal."""
     claim = claim_of(data)
-    refused = refusal(claim, algorithms, nonce)
+    refused = refusal(claim, algorithms, nonce, takes_hashes)
     if refused:
         return None, refused
     if user is None:

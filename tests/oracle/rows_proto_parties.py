@@ -521,7 +521,11 @@ HASHES = [
             *hashed(listed(FIRST_LIST), chosen(SHA1), name="other", nonce=BOTH), by=SHA1, password="word", name="other"
         ),
     ),
-    ("by a server that doesn't offer it", NO_HASHES, request(*hashed(nonce=PLAIN), by=SHA1)),
+    ("by a server that doesn't take it", NO_HASHES, request(*hashed(nonce=PLAIN), by=SHA1)),
+    ("and under a nonce that is not its own", NO_HASHES, request(*hashed(nonce="n"), by=SHA1)),
+    ("such a server takes a name", NO_HASHES, request(*named(nonce=PLAIN), by=SHA1)),
+    ("also beside the hash", NO_HASHES, request(*named(HASH, nonce=PLAIN), by=SHA1)),
+    ("and wants an integrity attribute first", NO_HASHES, request(*hashed(nonce=PLAIN))),
     ("by one that wants nothing else, a name", OWN_HASHES, FIRST),
     ("and the hash", OWN_HASHES, request(*hashed(), by=SHA1)),
     ("the server's realm counts, whatever REALM is shown", ONLY_SHA1, request(*hashed(realm="other"), by=SHA1)),
@@ -586,6 +590,15 @@ def outcomes():
     s.hear(FIRST)
     s.adds(SHA1)
     s.hear(FIRST)
+    yield s
+    s = Server("hashes are taken no more: the nonce stays, and a name is wanted")
+    own_hash = request(*hashed(), by=SHA1)
+    s.hear(own_hash)
+    s.names("Disabled")
+    s.hear(own_hash)
+    s.hear(FIRST)
+    s.names("Auto")
+    s.hear(own_hash)
     yield s
     s = Server("each address has its own nonce and outcome")
     for address in (FROM, NEXT, SIXTH):

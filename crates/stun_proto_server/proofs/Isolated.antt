@@ -173,6 +173,7 @@ known_alike : (client : SocketAddr) (a b : Server) (found : Option Named) → Sa
 known_alike client a b found same = sym (λ i. record {
   realm = same.realm i;
   algorithms = same.algorithms i;
+  anonymous_username = same.anonymous_username i;
   nonce = option_map (λ (stored : Client). stored.nonce) (same.stored i);
   user = found;
 })

@@ -2,6 +2,7 @@ pub mod Alone
 pub mod Apart
 pub mod Calls
 pub mod Definite
+pub mod Finding
 pub mod Isolated
 pub mod Maps
 pub mod Named

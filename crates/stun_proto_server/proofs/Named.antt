@@ -1,5 +1,5 @@
 -- The decision on a message, by the user that it names.
-use Rattle.std.proofs.Common.{◌≡◌, ℕ, List, Option, Some, None, refl, sym, ap, ◌∙◌, subst}
+use Rattle.std.proofs.Common.{◌≡◌, ℕ, List, Option, Some, None, false, refl, sym, ap, ◌∙◌, subst}
 use Rattle.std.specs.Prelude.{IsSome}
 use Rattle.std.specs.FinMap as map
 use Rattle.std.specs.declared.net.socket_addr.SocketAddr.{SocketAddr}
@@ -7,11 +7,12 @@ use Rattle.stun_types_wire.specs.declared.algorithm.IntegrityAlgorithm.{Integrit
 use Rattle.stun_proto_auth.specs.Claims.{Claimed, claimed}
 use Rattle.stun_proto_verify.specs.declared.error.LongTermServerAuthError.{LongTermServerAuthError}
 use Rattle.stun_proto_verify.specs.Knowledge.{Named}
-use Rattle.stun_proto_verify.specs.Judgement.{IsAccepted, IsRefused, ServerAccepts}
-use Rattle.stun_proto_verify.proofs.Judging.{not_both}
+use Rattle.stun_proto_verify.specs.Judgement.{IsAccepted, IsRefused, ServerAccepts, is_response, unnamed_refusal}
+use Rattle.stun_proto_verify.proofs.Judging.{not_both, refuses_claim}
 use Rattle.stun_proto_server.specs.Server.{Server}
 use Rattle.stun_proto_server.specs.ServerValidation.{Accepts, AcceptsSome, Refuses, known_of}
 use Rattle.stun_proto_server.specs.Users.{HashesDiffer, IsClaimedName, IsFound, IsUser, Names, NamesOne}
+use Rattle.stun_proto_server.proofs.Finding.{decided}
 
 pub inside : {A : Type 0} {x y : A} → Some x ≡ Some y → x ≡ y
 inside p = Prim.cc p
@@ -68,6 +69,24 @@ pub refused : (server : Server) (from : SocketAddr) (bytes : List ℕ) (error : 
     → IsRefused (known_of server from found) bytes error → Refuses server from bytes error
 refused server from bytes error found is judged = record { found = found; is_found = λ _. is; refused = judged }
 
+-- A message that is rejected without its user is rejected by the server, whoever the user is.
+pub refused_unnamed : (server : Server) (from : SocketAddr) (bytes : List ℕ) (error : LongTermServerAuthError) → is_response bytes ≡ false
+    → unnamed_refusal (known_of server from None) (claimed bytes) ≡ Some error → Refuses server from bytes error
+unfolding unnamed_refusal
+refused_unnamed server from bytes error other cause =
+    let one = decided server (claimed bytes) in
+    record {
+      found = one.found;
+      is_found = λ _. one.is;
+      refused = refuses_claim (known_of server from one.found) bytes (claimed bytes) error refl other cause;
+    }
+
+-- A claim that passed without its user still passes with the user that was found.
+pub passed_named : (server : Server) (from : SocketAddr) (claim : Claimed) (found : Option Named) → unnamed_refusal (known_of server from None) claim ≡ None
+    → unnamed_refusal (known_of server from found) claim ≡ None
+unfolding unnamed_refusal
+passed_named server from claim found passed = passed
+
 -- A message accepted as that of some user, with the user that was found, is accepted by the server as that of
 -- some user.
 pub wanted : (server : Server) (from : SocketAddr) (bytes : List ℕ) (found : Option Named) → IsFound server (claimed bytes) found
@@ -79,4 +98,4 @@ wanted server from bytes found is some = record {
 }
 
 -- The cases of the result.
-pub ruleset answers = (accepted, refused, wanted)
+pub ruleset answers = (accepted, refused, refused_unnamed, passed_named, wanted)

@@ -17,6 +17,7 @@ abbrev pub known_of : Server → SocketAddr → Option Named → Knowledge
 known_of server from found = record {
   realm = server.realm;
   algorithms = server.algorithms;
+  anonymous_username = server.anonymous_username;
   nonce = nonce_at server from;
   user = found;
 }

@@ -197,9 +197,10 @@ impl LongTermServerAuth {
         self.anonymous_username
     }
 
-    /// Sets whether clients may send a hash of the user's name in its place. `Required` has the
-    /// same effect as `Auto`. The only effect of `Disabled` is that later nonces do not announce
-    /// the feature.
+    /// Sets whether clients may send a hash of the user's name in its place (RFC 8489, section
+    /// 9.2.4). `Required` has the same effect as `Auto`. With `Disabled` later nonces do not
+    /// announce the feature, and a message that names its user only by a hash is rejected with
+    /// `BadRequest`, also under a nonce that announced the feature.
     pub fn set_anonymous_username(&mut self, feature: Feature)
         ensures { self.new ≡ record self.old { anonymous_username = feature } }
     {

@@ -15,7 +15,7 @@ use rand_core::Rng;
 use std::net::SocketAddr;
 use stun_proto_auth::claim::Claim;
 use stun_proto_verify::error::LongTermServerAuthError;
-use stun_proto_verify::judgement::judge_message;
+use stun_proto_verify::judgement::{judge_claim, judge_user};
 use stun_proto_verify::known::Known;
 use stun_proto_verify::user::ValidatedUser;
 use stun_types_base::instant::Instant;
@@ -36,9 +36,11 @@ impl LongTermServerAuth {
     ///
     /// - Of several visible attributes of one type the last one counts, and a malformed one counts
     ///   as absent.
-    /// - USERNAME names the user. Without it, USERHASH does, by the hash of name and realm; if
-    ///   several users have that hash, the first by name counts. Either costs a search among the
-    ///   users, and no digest.
+    /// - USERNAME names the user. Without it, USERHASH does, by the hash of name and realm, unless
+    ///   `anonymous_username` is `Disabled`; if several users have that hash, the first by name
+    ///   counts. Either costs a search among the
+    ///   users, and no digest. There is no search for a message that is rejected with errors 1 to
+    ///   6.
     ///
     /// # Errors
     ///
@@ -46,7 +48,8 @@ impl LongTermServerAuth {
     ///    generated.
     /// 2. `NoMemory`: an allocation for a new nonce failed. The server is unchanged.
     /// 3. `Unauthorized`: the message has no visible integrity attribute.
-    /// 4. `BadRequest`: it has neither a user's name nor the hash of one, no realm, or no nonce.
+    /// 4. `BadRequest`: it has neither a user's name nor the hash of one, no realm, or no nonce. A
+    ///    hash counts as absent if `anonymous_username` is `Disabled`.
     /// 5. `StaleNonce`: its nonce is not the valid one for the address.
     /// 6. `BadRequest`: its password algorithms are inconsistent.
     /// 7. `Unauthorized`: it names no user of the server.
@@ -141,12 +144,13 @@ impl LongTermServerAuth {
             → AcceptsSome self.now from message.now) }
     {
         let claim = Claim::of(message);
-        let known = Known::new(
-            self.realm(),
-            self.supported(),
-            self.nonce_for_client(from),
-            self.user_claimed(&claim),
+        let (realm, nonce) = (self.realm(), self.nonce_for_client(from));
+        let known = Known::new(realm, self.supported(), nonce, None).with_anonymous_username(
+            self.anonymous_username(),
         );
-        judge_message(self.alloc(), message, &claim, &known)
+        let algorithm = judge_claim(&claim, &known)?;
+        // The user is searched for only once nothing else stands against the message.
+        let known_user = known.with_user(self.user_claimed(&claim));
+        judge_user(self.alloc(), message, algorithm, &known_user)
     }
 }

@@ -17,7 +17,7 @@ use Rattle.stun_proto_verify.specs.AuthErrors.{digest_error}
 use Rattle.stun_proto_auth.specs.Claims.{Claimed, claimed}
 use Rattle.stun_proto_verify.specs.Consistency.{is_consistent}
 use Rattle.stun_proto_verify.specs.Knowledge.{Knowledge, Named, Outcome}
-use Rattle.stun_proto_verify.specs.Judgement.{ServerAccepts, HasWrongDigest, IsAccepted, IsRefused, is_response, is_same_text, names_user, user_key, integrity_refusal, parts_refusal, nonce_refusal, algorithms_refusal, claim_refusal, judgement}
+use Rattle.stun_proto_verify.specs.Judgement.{ServerAccepts, HasWrongDigest, IsAccepted, IsRefused, is_response, is_same_text, names_user, user_key, integrity_refusal, parts_refusal, nonce_refusal, algorithms_refusal, user_refusal, unnamed_refusal, claim_refusal, judgement}
 use Rattle.stun_proto_verify.proofs.Consistent.{both, consistent_by, visible_consistent}
 
 -- ---- the chunks of a claim that is not refused
@@ -52,7 +52,7 @@ same_text_of (Some x) None h = absurd (Prim.cc h)
 same_text_of (Some x) (Some y) h = record { text = x; first = refl; second = ap (λ t. Some t) (sym (same_text x y (sym h))) }
 
 pub record Passed (known : Knowledge) (claim : Claimed) : Type 0 where
-  pub named : names_user claim ≡ true
+  pub named : names_user known.anonymous_username claim ≡ true
   pub realm : List ℕ
   pub has_realm : claim.realm ≡ Some realm
   pub nonce : List ℕ
@@ -60,14 +60,13 @@ pub record Passed (known : Knowledge) (claim : Claimed) : Type 0 where
   pub occurs : known.nonce ≡ Some nonce
   pub consistent : is_consistent known.algorithms claim claim.integrity ≡ true
 
-pub passed : (known : Knowledge) (claim : Claimed) → claim_refusal known claim ≡ None → Passed known claim
-unfolding claim_refusal
+pub passed : (known : Knowledge) (claim : Claimed) → unnamed_refusal known claim ≡ None → Passed known claim
+unfolding unnamed_refusal
 passed known claim h =
     let one = or_none (integrity_refusal claim.integrity) _ h in
-    let two = or_none (parts_refusal claim) _ one.1 in
+    let two = or_none (parts_refusal known.anonymous_username claim) _ one.1 in
     let three = or_none (nonce_refusal claim.nonce known.nonce) _ two.1 in
-    let four = or_none (algorithms_refusal claim known.algorithms) _ three.1 in
-    let parts = both (names_user claim) (is_some claim.realm && is_some claim.nonce) (passes _ BadRequest two.0) in
+    let parts = both (names_user known.anonymous_username claim) (is_some claim.realm && is_some claim.nonce) (passes _ BadRequest two.0) in
     let realm = text_of claim.realm (both (is_some claim.realm) (is_some claim.nonce) parts.1).0 in
     let nonce = same_text_of claim.nonce known.nonce (passes _ StaleNonce three.0) in
     record {
@@ -77,7 +76,7 @@ passed known claim h =
       nonce = nonce.text;
       has_nonce = nonce.first;
       occurs = nonce.second;
-      consistent = passes _ BadRequest four.0;
+      consistent = passes _ BadRequest three.1;
     }
 
 -- ---- a message that is no response
@@ -86,47 +85,66 @@ pub judged_claim : (known : Knowledge) (bytes : List ℕ) (answer : Option LongT
 unfolding judgement
 judged_claim known bytes answer other is = ap (λ (b : Bool). option_or (if b then Some BadRequest else None) (claim_refusal known (claimed bytes))) other ∙ is
 
-pub accepts : (known : Knowledge) (bytes : List ℕ) (claim : Claimed) (algorithm : IntegrityAlgorithm) (name password : List ℕ) → claim ≡ claimed bytes → is_response bytes ≡ false
-    → claim_refusal known claim ≡ None → claim.integrity ≡ Some algorithm → known.user ≡ Some (record { name = name; password = password })
+-- A claim that passed without its user is refused only for the user.
+judged_user : (known : Knowledge) (bytes : List ℕ) → is_response bytes ≡ false → unnamed_refusal known (claimed bytes) ≡ None → judgement known bytes ≡ user_refusal known.user
+unfolding claim_refusal
+judged_user known bytes other none = judged_claim known bytes (user_refusal known.user) other (ap (λ (o : Option LongTermServerAuthError). option_or o (user_refusal known.user)) none)
+
+-- Whatever the user is, a claim that is refused without one is refused.
+judged_unnamed : (known : Knowledge) (bytes : List ℕ) (error : LongTermServerAuthError) → is_response bytes ≡ false → unnamed_refusal known (claimed bytes) ≡ Some error → judgement known bytes ≡ Some error
+unfolding claim_refusal
+judged_unnamed known bytes error other cause = judged_claim known bytes (Some error) other (ap (λ (o : Option LongTermServerAuthError). option_or o (user_refusal known.user)) cause)
+
+pub accepts : (known : Knowledge) (bytes : List ℕ) (algorithm : IntegrityAlgorithm) (name password : List ℕ) → is_response bytes ≡ false
+    → unnamed_refusal known (claimed bytes) ≡ None → (claimed bytes).integrity ≡ Some algorithm → known.user ≡ Some (record { name = name; password = password })
     → (text : List ℕ) × Validates bytes (user_key known.realm name password algorithm) algorithm text → ServerAccepts known bytes algorithm name
-accepts known bytes claim algorithm name password is other none last present valid =
-    let parts = passed known claim none in
+accepts known bytes algorithm name password other none last present valid =
+    let parts = passed known (claimed bytes) none in
     record {
       no_response = other;
-      last = ap (λ (c : Claimed). c.integrity) (sym is) ∙ last;
-      named = ap names_user (sym is) ∙ parts.named;
+      last = last;
+      named = parts.named;
       realm = parts.realm;
-      has_realm = ap (λ (c : Claimed). c.realm) (sym is) ∙ parts.has_realm;
+      has_realm = parts.has_realm;
       nonce = parts.nonce;
-      has_nonce = ap (λ (c : Claimed). c.nonce) (sym is) ∙ parts.has_nonce;
+      has_nonce = parts.has_nonce;
       occurs = parts.occurs;
       consistent = consistent_by known.algorithms (claimed bytes) algorithm
-          ((λ i. is_consistent known.algorithms (sym is i) (Some algorithm))
-          ∙ ap (λ (o : Option IntegrityAlgorithm). is_consistent known.algorithms claim o) (sym last) ∙ parts.consistent);
+          (ap (λ (o : Option IntegrityAlgorithm). is_consistent known.algorithms (claimed bytes) o) (sym last) ∙ parts.consistent);
       password = password;
       present = present;
       text = valid.0;
       validates = valid.1;
     }
 
+refused_by : (known : Knowledge) (bytes : List ℕ) (error cause : LongTermServerAuthError) → judgement known bytes ≡ Some cause → error ≡ cause → IsRefused known bytes error
+refused_by known bytes error cause judged is =
+    subst (λ (o : Option LongTermServerAuthError). MatchOption o (HasWrongDigest known bytes error) (λ c. error ≡ c)) (sym judged) is
+
+-- Refused without its user.
 pub refuses_claim : (known : Knowledge) (bytes : List ℕ) (claim : Claimed) (error : LongTermServerAuthError) → claim ≡ claimed bytes → is_response bytes ≡ false
-    → claim_refusal known claim ≡ Some error → IsRefused known bytes error
+    → unnamed_refusal known claim ≡ Some error → IsRefused known bytes error
 refuses_claim known bytes claim error is other cause =
-    subst (λ (o : Option LongTermServerAuthError). MatchOption o (HasWrongDigest known bytes error) (λ c. error ≡ c))
-    (sym (judged_claim known bytes (Some error) other (ap (claim_refusal known) (sym is) ∙ cause))) refl
+    refused_by known bytes error error (judged_unnamed known bytes error other (ap (unnamed_refusal known) (sym is) ∙ cause)) refl
+
+-- Refused for its user.
+pub refuses_user : (known : Knowledge) (bytes : List ℕ) (error : LongTermServerAuthError) → is_response bytes ≡ false
+    → unnamed_refusal known (claimed bytes) ≡ None → (error ≡ Unauthorized) × (known.user ≡ None) → IsRefused known bytes error
+refuses_user known bytes error other none refused =
+    refused_by known bytes error Unauthorized (judged_user known bytes other none ∙ ap user_refusal refused.1) refused.0
 
 some_same : {A : Type 0} (x y : A) → Some x ≡ Some y → x ≡ y
 some_same x y h = cc
 
-pub refuses_digest : (known : Knowledge) (bytes : List ℕ) (claim : Claimed) (algorithm : IntegrityAlgorithm) (name password : List ℕ) (error : LongTermServerAuthError) → claim ≡ claimed bytes → is_response bytes ≡ false
-    → claim_refusal known claim ≡ None → claim.integrity ≡ Some algorithm → known.user ≡ Some (record { name = name; password = password })
+pub refuses_digest : (known : Knowledge) (bytes : List ℕ) (algorithm : IntegrityAlgorithm) (name password : List ℕ) (error : LongTermServerAuthError) → is_response bytes ≡ false
+    → unnamed_refusal known (claimed bytes) ≡ None → (claimed bytes).integrity ≡ Some algorithm → known.user ≡ Some (record { name = name; password = password })
     → (error ≡ IntegrityFailed algorithm) × ((text : List ℕ) → ¬ Validates bytes (user_key known.realm name password algorithm) algorithm text) → IsRefused known bytes error
-refuses_digest known bytes claim algorithm name password error is other none last present wrong =
+refuses_digest known bytes algorithm name password error other none last present wrong =
     subst (λ (o : Option LongTermServerAuthError). MatchOption o (HasWrongDigest known bytes error) (λ c. error ≡ c))
-    (sym (judged_claim known bytes None other (ap (claim_refusal known) (sym is) ∙ none)))
+    (sym (judged_user known bytes other none ∙ ap user_refusal present))
     (record {
       algorithm = algorithm;
-      last = ap (λ (c : Claimed). c.integrity) (sym is) ∙ last;
+      last = last;
       is = wrong.0;
       wrong = λ user text is-user v.
           let same = some_same user (record { name = name; password = password }) (sym is-user ∙ present) in
@@ -136,7 +154,7 @@ refuses_digest known bytes claim algorithm name password error is other none las
 -- ---- what is accepted is refused for no cause
 
 pub no_cause : (known : Knowledge) (bytes : List ℕ) (algorithm : IntegrityAlgorithm) (name : List ℕ) → ServerAccepts known bytes algorithm name → judgement known bytes ≡ None
-unfolding judgement claim_refusal
+unfolding judgement claim_refusal unnamed_refusal
 no_cause known bytes algorithm name a =
     let same : pointwise nat_eq a.nonce a.nonce ≡ true = nat_list_eq_equiv.refl a.nonce in
     let fits = visible_consistent known.algorithms (claimed bytes) algorithm a.consistent in
@@ -195,13 +213,13 @@ pub accepts_user : (known : Knowledge) (bytes : List ℕ) (algorithm : Integrity
 accepts_user known bytes algorithm name copy user is same a =
     subst (λ (u : Outcome). ServerAccepts known bytes u.algorithm u.name) (sym (is ∙ (λ i. record { name = same i; algorithm = algorithm }))) a
 
-pub digest_refused : (known : Knowledge) (bytes : List ℕ) (claim : Claimed) (algorithm : IntegrityAlgorithm) (name password realm : List ℕ) (result : Result Outcome LongTermServerAuthError) (error : LongTermServerAuthError) → claim ≡ claimed bytes → is_response bytes ≡ false
-    → claim_refusal known claim ≡ None → claim.integrity ≡ Some algorithm → known.user ≡ Some (record { name = name; password = password }) → realm ≡ known.realm
+pub digest_refused : (known : Knowledge) (bytes : List ℕ) (algorithm : IntegrityAlgorithm) (name password realm : List ℕ) (result : Result Outcome LongTermServerAuthError) (error : LongTermServerAuthError) → is_response bytes ≡ false
+    → unnamed_refusal known (claimed bytes) ≡ None → (claimed bytes).integrity ≡ Some algorithm → known.user ≡ Some (record { name = name; password = password }) → realm ≡ known.realm
     → IsErrAnd result (λ e. e ≡ error) → (error ≡ IntegrityFailed algorithm) × ((text : List ℕ) → ¬ Validates bytes (user_key realm name password algorithm) algorithm text)
     → IfErr result (λ e. e ≢ NoMemory → IsRefused known bytes e)
-digest_refused known bytes claim algorithm name password realm (Ok user) error is other none last present own answer wrong = tt
-digest_refused known bytes claim algorithm name password realm (Err e) error is other none last present own answer wrong =
-    λ cause. refuses_digest known bytes claim algorithm name password e is other none last present
+digest_refused known bytes algorithm name password realm (Ok user) error other none last present own answer wrong = tt
+digest_refused known bytes algorithm name password realm (Err e) error other none last present own answer wrong =
+    λ cause. refuses_digest known bytes algorithm name password e other none last present
     (subst (λ (r : List ℕ). (e ≡ IntegrityFailed algorithm) × ((text : List ℕ) → ¬ Validates bytes (user_key r name password algorithm) algorithm text)) own (answer ∙ wrong.0, wrong.1))
 
 -- A wrong digest is not reported as `NoMemory`.
@@ -214,4 +232,4 @@ pub in_realm : (bytes realm own name password : List ℕ) (algorithm : Integrity
 in_realm bytes realm own name password algorithm is valid = (valid.0, subst (λ (r : List ℕ). Validates bytes (user_key r name password algorithm) algorithm valid.0) is valid.1)
 
 -- The cases of the decision.
-pub ruleset judgements = (accepts, refuses_claim, refuses_digest)
+pub ruleset judgements = (accepts, refuses_claim, refuses_user, refuses_digest)

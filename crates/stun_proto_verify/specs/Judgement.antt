@@ -10,6 +10,8 @@ use Rattle.stun_types_integrity.specs.Integrity.{Validates}
 use Rattle.stun_proto_verify.specs.declared.error.LongTermServerAuthError.{LongTermServerAuthError}
 use Rattle.stun_proto_verify.specs.declared.error.LongTermServerAuthError.TheVariants.{Unauthorized, IntegrityFailed, BadRequest, StaleNonce}
 use Rattle.stun_proto_auth.specs.Claims.{Claimed, claimed}
+use Rattle.stun_proto_auth.specs.Nonce.{takes_anonymous_username}
+use Rattle.stun_proto_auth.specs.declared.feature.Feature.{Feature}
 use Rattle.stun_proto_verify.specs.Consistency.{AreConsistent, is_consistent}
 use Rattle.stun_proto_verify.specs.Knowledge.{Knowledge, Named}
 
@@ -27,18 +29,20 @@ abbrev pub full_key : List ℕ → List ℕ → List ℕ → IntegrityAlgorithm 
 full_key realm name password algorithm =
     long_term_key (record { username = name; password = password; realm = realm }) algorithm
 
--- Whether a claim names a user, by name or by the hash of the name.
-abbrev pub names_user : Claimed → Bool
-names_user claim = is_some claim.username || is_some claim.user_hash
+-- Whether a claim names a user, by name or, unless the server has disabled it, by the hash of the name.
+abbrev pub names_user : Feature → Claimed → Bool
+names_user anonymous_username claim =
+    is_some claim.username || (takes_anonymous_username anonymous_username && is_some claim.user_hash)
 
 -- The server accepts a message. It is not a response; its last integrity attribute is of this algorithm; it
--- has a realm, and the nonce that is valid for its address; it names a user that exists; its password
--- algorithms are consistent; and it validates under that user's key in the server's realm.
+-- has a realm, and the nonce that is valid for its address; it names a user that exists, by a hash only if
+-- the server takes hashes; its password algorithms are consistent; and it validates under that user's key in
+-- the server's realm.
 pub record ServerAccepts (known : Knowledge) (bytes : List ℕ) (algorithm : IntegrityAlgorithm)
     (name : List ℕ) : Type 0 where
   pub no_response : is_response bytes ≡ false
   pub last : (claimed bytes).integrity ≡ Some algorithm
-  pub named : names_user (claimed bytes) ≡ true
+  pub named : names_user known.anonymous_username (claimed bytes) ≡ true
   pub realm : List ℕ
   pub has_realm : (claimed bytes).realm ≡ Some realm
   pub nonce : List ℕ
@@ -67,9 +71,10 @@ abbrev pub integrity_refusal : Option IntegrityAlgorithm → Option LongTermServ
 integrity_refusal None = Some Unauthorized
 integrity_refusal (Some algorithm) = None
 
--- Rejects a message with neither a name nor its hash, without a realm, or without a nonce.
-abbrev pub parts_refusal : Claimed → Option LongTermServerAuthError
-parts_refusal claim = if names_user claim && (is_some claim.realm && is_some claim.nonce) then None
+-- Rejects a message that names no user, has no realm, or has no nonce.
+abbrev pub parts_refusal : Feature → Claimed → Option LongTermServerAuthError
+parts_refusal anonymous_username claim =
+    if names_user anonymous_username claim && (is_some claim.realm && is_some claim.nonce) then None
     else Some BadRequest
 
 -- Whether both texts are present and equal.
@@ -91,12 +96,15 @@ abbrev pub user_refusal : Option Named → Option LongTermServerAuthError
 user_refusal (Some user) = None
 user_refusal None = Some Unauthorized
 
+-- The first error of a claim that is found without its user.
+unfoldable pub unnamed_refusal : Knowledge → Claimed → Option LongTermServerAuthError
+unnamed_refusal known claim =
+    option_or (integrity_refusal claim.integrity) (option_or (parts_refusal known.anonymous_username claim)
+    (option_or (nonce_refusal claim.nonce known.nonce) (algorithms_refusal claim known.algorithms)))
+
 -- The first error of a claim, without regard to the digest.
 unfoldable pub claim_refusal : Knowledge → Claimed → Option LongTermServerAuthError
-claim_refusal known claim =
-    option_or (integrity_refusal claim.integrity) (option_or (parts_refusal claim)
-    (option_or (nonce_refusal claim.nonce known.nonce)
-    (option_or (algorithms_refusal claim known.algorithms) (user_refusal known.user))))
+claim_refusal known claim = option_or (unnamed_refusal known claim) (user_refusal known.user)
 
 -- The first error of a message, without regard to its digest.
 unfoldable pub judgement : Knowledge → List ℕ → Option LongTermServerAuthError

@@ -3,6 +3,7 @@
 ghost use Rattle.std.specs.Prelude.{◌≡◌, ◌==◌, Some, None, MatchResult};
 ghost use Rattle.std.specs.Option.{option_copied, option_map};
 ghost use Rattle.stun_types_auth_attributes.specs.PasswordAlgorithmNumbers.{number_of};
+ghost use Rattle.stun_proto_auth.specs.Nonce.{takes_anonymous_username};
 ghost use Rattle.stun_proto_auth.specs.SupportedAlgorithms.{number_by};
 ghost use Rattle.stun_proto_verify.specs.Consistency.{fits_visible, is_consistent};
 ghost use Rattle.stun_proto_verify.specs.Judgement.{algorithms_refusal, integrity_refusal, names_user, nonce_refusal, parts_refusal};
@@ -10,6 +11,7 @@ ghost use Rattle.stun_proto_verify.specs.Judgement.{algorithms_refusal, integrit
 use crate::error::LongTermServerAuthError;
 use crate::known::Known;
 use stun_proto_auth::claim::Claim;
+use stun_proto_auth::feature::Feature;
 use stun_proto_auth::supported::SupportedIntegrity;
 use stun_types_auth_attributes::algorithm::PasswordAlgorithmValue;
 use stun_types_wire::algorithm::IntegrityAlgorithm;
@@ -30,23 +32,41 @@ pub(crate) fn check_integrity(
 }
 
 /// Checks that the attributes required along with an integrity attribute are present: a user's name
-/// or its hash, a realm and a nonce. Fails with `BadRequest`.
-pub(crate) fn check_parts(claim: &Claim<'_>) -> Result<(), LongTermServerAuthError>
-    ensures { MatchResult result (λ _. parts_refusal claim.now ≡ None)
-        (λ error. parts_refusal claim.now ≡ Some error) }
+/// or, unless the server has disabled it, its hash; a realm; and a nonce. Fails with `BadRequest`.
+pub(crate) fn check_parts(
+    claim: &Claim<'_>,
+    known: &Known<'_>,
+) -> Result<(), LongTermServerAuthError>
+    ensures { MatchResult result
+        (λ _. parts_refusal known.now.anonymous_username claim.now ≡ None)
+        (λ error. parts_refusal known.now.anonymous_username claim.now ≡ Some error) }
 {
-    if names_user(claim) && claim.realm().is_some() && claim.nonce().is_some() {
+    if names_user(claim, known.anonymous_username())
+        && claim.realm().is_some()
+        && claim.nonce().is_some()
+    {
         Ok(())
     } else {
         Err(LongTermServerAuthError::BadRequest)
     }
 }
 
-/// Returns whether a claim names a user, by name or by the hash of the name.
-fn names_user(claim: &Claim<'_>) -> bool
-    ensures { result ≡ names_user claim.now }
+/// Returns whether a claim names a user, by name or, unless that is disabled, by the hash of the
+/// name.
+fn names_user(claim: &Claim<'_>, anonymous_username: Feature) -> bool
+    ensures { result ≡ names_user anonymous_username claim.now }
 {
-    claim.username().is_some() || claim.user_hash().is_some()
+    claim.username().is_some() || (takes_hashes(anonymous_username) && claim.user_hash().is_some())
+}
+
+/// Returns whether a server with this setting accepts the hash of a name: unless it is disabled.
+fn takes_hashes(anonymous_username: Feature) -> bool
+    ensures { result ≡ takes_anonymous_username anonymous_username }
+{
+    match anonymous_username {
+        Feature::Auto | Feature::Required => true,
+        Feature::Disabled => false,
+    }
 }
 
 /// Checks that the nonce is the valid one for the address. Fails with `StaleNonce`.

@@ -6,7 +6,7 @@ ghost use Rattle.stun_types_message.specs.MessageValidation.{last_algorithm};
 ghost use Rattle.stun_types_wire.specs.declared.algorithm.IntegrityAlgorithm.{IntegrityAlgorithm as Algorithm};
 ghost use Rattle.stun_types_integrity.specs.Integrity.{Validates};
 ghost use Rattle.stun_proto_auth.specs.Claims.{claimed};
-ghost use Rattle.stun_proto_verify.specs.Judgement.{IsAccepted, IsRefused, ServerAccepts, claim_refusal, is_response, full_key, user_key};
+ghost use Rattle.stun_proto_verify.specs.Judgement.{IsAccepted, IsRefused, ServerAccepts, full_key, is_response, unnamed_refusal, user_key};
 
 use crate::check::{check_algorithms, check_integrity, check_nonce, check_parts};
 use crate::error::LongTermServerAuthError;
@@ -25,7 +25,8 @@ use stun_types_wire::algorithm::IntegrityAlgorithm;
 /// # Errors
 ///
 /// 1. `Unauthorized`: the message has no visible integrity attribute.
-/// 2. `BadRequest`: it has neither a user's name nor the hash of one, no realm, or no nonce.
+/// 2. `BadRequest`: it has neither a user's name nor the hash of one, no realm, or no nonce. A hash
+///    counts as absent if the server has disabled the feature.
 /// 3. `StaleNonce`: its nonce is not the valid one.
 /// 4. `BadRequest`: its password algorithms are inconsistent.
 /// 5. `Unauthorized`: the user that it names is unknown.
@@ -73,7 +74,67 @@ fn decide(
     ensures memory { result ≡ Err LongTermServerAuthError.NoMemory
         → IsAccepted known.now message.now }
 {
-    let pending = check(claim, known)?;
+    let algorithm = judge_claim(claim, known)?;
+    judge_user(alloc, message, algorithm, known)
+}
+
+/// Decides what can be decided about a claim without its user, whom `known` need not have yet.
+/// Returns the algorithm of the last integrity attribute.
+///
+/// # Errors
+///
+/// Those of `judge_message` that precede the user:
+///
+/// 1. `Unauthorized`: the claim has no integrity attribute.
+/// 2. `BadRequest`: it has neither a user's name nor the hash of one, no realm, or no nonce. A hash
+///    counts as absent if the server has disabled the feature.
+/// 3. `StaleNonce`: its nonce is not the valid one.
+/// 4. `BadRequest`: its password algorithms are inconsistent.
+#[tactic(auto, unfolding(crate::specs::Judgement::unnamed_refusal))]
+pub fn judge_claim(
+    claim: &Claim<'_>,
+    known: &Known<'_>,
+) -> Result<IntegrityAlgorithm, LongTermServerAuthError>
+    ensures passed { IfOk result (λ algorithm. (claim.now.integrity ≡ Some algorithm)
+        × (unnamed_refusal known.now claim.now ≡ None)) }
+    ensures refused { IfErr result (λ error. (unnamed_refusal known.now claim.now ≡ Some error)
+        × (error ≢ LongTermServerAuthError.NoMemory)) }
+{
+    let algorithm = check_integrity(claim)?;
+    check_parts(claim, known)?;
+    check_nonce(claim, known)?;
+    check_algorithms(claim, known)?;
+    Ok(algorithm)
+}
+
+/// Decides whether the server accepts a message whose claim `judge_claim` has passed: whether the
+/// user is known, and whether the message validates under the user's key.
+///
+/// # Errors
+///
+/// The remaining ones of `judge_message`:
+///
+/// 1. `Unauthorized`: the user that the message names is unknown.
+/// 2. `IntegrityFailed`: the digest is wrong.
+/// 3. `NoMemory`: the message is accepted, but an allocation for the user's name failed.
+#[tactic(auto, using(crate::proofs::Judging::judgements))]
+pub fn judge_user(
+    alloc: Global,
+    message: &Message<'_>,
+    algorithm: IntegrityAlgorithm,
+    known: &Known<'_>,
+) -> Result<ValidatedUser, LongTermServerAuthError>
+    requires no_response { is_response message.now ≡ false }
+    requires last { (claimed message.now).integrity ≡ Some algorithm }
+    requires passed { unnamed_refusal known.now (claimed message.now) ≡ None }
+    ensures valid { IfOk result (λ user.
+        ServerAccepts known.now message.now user.algorithm user.name) }
+    ensures refused { IfErr result (λ error. error ≢ LongTermServerAuthError.NoMemory
+        → IsRefused known.now message.now error) }
+    ensures memory { result ≡ Err LongTermServerAuthError.NoMemory
+        → IsAccepted known.now message.now }
+{
+    let pending = find_user(algorithm, known)?;
     validate_user(message, &pending, known.realm())?;
     let name = String::from_str(alloc, pending.name)?;
     Ok(ValidatedUser::new(name, pending.algorithm))
@@ -88,25 +149,22 @@ struct Pending<'a> {
     stored: Option<&'a IntegrityKey<'static>>,
 }
 
-/// Checks a claim against what the server knows. Fails as `judge_message` does, except for the
-/// digest.
-#[tactic(auto, unfolding(crate::specs::Judgement::claim_refusal))]
-fn check<'a>(claim: &Claim<'_>, known: &Known<'a>) -> Result<Pending<'a>, LongTermServerAuthError>
-    ensures passed { IfOk result (λ pending. (claim_refusal known.now claim.now ≡ None)
-        × (claim.now.integrity ≡ Some pending.algorithm)
+/// Returns the known user, whose key for an algorithm is to be checked. Fails with `Unauthorized`
+/// if there is none.
+fn find_user<'a>(
+    algorithm: IntegrityAlgorithm,
+    known: &Known<'a>,
+) -> Result<Pending<'a>, LongTermServerAuthError>
+    ensures found { IfOk result (λ pending. (pending.algorithm ≡ algorithm)
         × (known.now.user ≡ Some (record {
           name = pending.name.now;
           password = pending.password.now;
         }))) }
-    ensures refused { IfErr result (λ error. (claim_refusal known.now claim.now ≡ Some error)
-        × (error ≢ LongTermServerAuthError.NoMemory)) }
+    ensures refused { IfErr result (λ error. (error ≡ LongTermServerAuthError.Unauthorized)
+        × (known.now.user ≡ None)) }
     ensures stored { IfOk result (λ pending. IfSome pending.stored (λ key. key.now
         ≡ full_key known.now.realm pending.name.now pending.password.now pending.algorithm)) }
 {
-    let algorithm = check_integrity(claim)?;
-    check_parts(claim)?;
-    check_nonce(claim, known)?;
-    check_algorithms(claim, known)?;
     match known.user() {
         Some(user) => Ok(Pending {
             algorithm,

@@ -3,10 +3,12 @@
 ghost use Rattle.std.specs.Prelude.{◌≡◌, IfSome};
 ghost use Rattle.std.specs.Option.{option_copied};
 ghost use Rattle.stun_types_integrity.specs.Credentials.{long_term_key};
+ghost use Rattle.stun_proto_auth.specs.declared.feature.Feature.TheVariants.{Auto};
 ghost use Rattle.stun_proto_verify.specs.UserKeys.{AreKeysOf};
 
 use crate::keys::UserKeys;
 use std::marker::Model;
+use stun_proto_auth::feature::Feature;
 use stun_proto_auth::supported::SupportedIntegrity;
 use stun_types_integrity::key::IntegrityKey;
 use stun_types_wire::algorithm::IntegrityAlgorithm;
@@ -109,13 +111,14 @@ impl<'a> NamedUser<'a> {
     }
 }
 
-/// What a server knows when it checks a message: its realm, the algorithms that it supports, the
-/// nonce that is valid for the address, and the user that the message names. Contracts see the
-/// record `Knowledge`.
+/// What a server knows when it checks a message: its realm, the algorithms that it supports, whether
+/// it accepts hashed names, the nonce that is valid for the address, and the user that the message
+/// names. Contracts see the record `Knowledge`.
 #[derive(Debug, Drop)]
 pub struct Known<'a> {
     realm: &'a str,
     supported: SupportedIntegrity,
+    anonymous_username: Feature,
     nonce: Option<&'a str>,
     user: Option<NamedUser<'a>>,
 }
@@ -130,14 +133,15 @@ impl<'a> Model for Known<'a> {
         record {
           realm = k.realm.now;
           algorithms = k.supported;
+          anonymous_username = k.anonymous_username;
           nonce = option_copied k.nonce;
           user = k.user;
         } };
 }
 
 impl<'a> Known<'a> {
-    /// Collects what the server knows. The nonce is `None` if none is valid for the address, and
-    /// the user is `None` if the server has no such user.
+    /// Collects what the server knows. It accepts hashed names. The nonce is `None` if none is valid
+    /// for the address, and the user is `None` if the server has no such user.
     pub fn new(
         realm: &'a str,
         supported: SupportedIntegrity,
@@ -148,6 +152,7 @@ impl<'a> Known<'a> {
             ≡ record {
               realm = realm.now;
               algorithms = supported;
+              anonymous_username = Auto;
               nonce = option_copied nonce.entry;
               user = user.entry;
             } }
@@ -155,9 +160,28 @@ impl<'a> Known<'a> {
         Known {
             realm,
             supported,
+            anonymous_username: Feature::Auto,
             nonce,
             user,
         }
+    }
+
+    /// Returns what the server knows, with this setting for hashed names: they are accepted unless
+    /// it is `Disabled`.
+    pub fn with_anonymous_username(self, anonymous_username: Feature) -> Known<'a>
+        ensures { result ≡ record self.entry { anonymous_username = anonymous_username } }
+    {
+        Known {
+            anonymous_username,
+            ..self
+        }
+    }
+
+    /// Returns what the server knows, with this user in place of any other.
+    pub fn with_user(self, user: Option<NamedUser<'a>>) -> Known<'a>
+        ensures { result ≡ record self.entry { user = user.entry } }
+    {
+        Known { user, ..self }
     }
 
     /// Returns the realm.
@@ -172,6 +196,13 @@ impl<'a> Known<'a> {
         ensures { result ≡ self.now.algorithms }
     {
         self.supported
+    }
+
+    /// Returns the setting for hashed names.
+    pub(crate) fn anonymous_username(&self) -> Feature
+        ensures { result ≡ self.now.anonymous_username }
+    {
+        self.anonymous_username
     }
 
     /// Returns the nonce that is valid for the address, if any.

@@ -13,6 +13,7 @@ use Rattle.turn_client_proto_messages.specs.StunProtoClient.Client.{Standing, ac
 use Rattle.turn_desk_core.specs.StunProtoVerify.Knowledge.{Outcome}
 use Rattle.turn_desk_core.specs.StunProtoServer.Server.{Client, Server, set_outcome}
 use Rattle.turn_desk_core.specs.StunProtoServer.ServerSigning.{party_by_client, party_by_password}
+use Rattle.turn_client_proto_api.specs.StunProtoAuth.Nonce.{takes_anonymous_username}
 use Rattle.turn_client_proto_api.specs.StunProtoAuth.SupportedAlgorithms.{list_of}
 use Rattle.turn_desk_core.specs.StunProtoServer.Users.{HashesDiffer}
 use Rattle.std.specs.declared.net.socket_addr.SocketAddr.{SocketAddr}
@@ -77,6 +78,7 @@ module _ (plan : Plan) (old desk : State) where
       nonce = ap (option_map (λ (k : Client). k.nonce)) u.challenge.stored ∙ ap (λ (t : ChallengeFields). Some t.nonce) u.reported_is;
       offered = sym (ap (λ (t : ChallengeFields). list_for_choice plan.client.config.hardened t) u.reported_is) ∙ given;
       choice = ap (λ (l : List IntegrityAlgorithm). supports l c.algorithm) u.challenge.settings.algorithms ∙ chosen_supported;
+      hashes = λ announced. ap takes_anonymous_username u.challenge.settings.anonymous_username ∙ sym (of_settings c.reported u).hides ∙ announced;
     }
 
 -- ---- the key

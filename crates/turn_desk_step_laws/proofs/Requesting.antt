@@ -23,6 +23,9 @@ use Rattle.turn_desk_core.specs.StunProtoVerify.Consistency.{AreConsistent}
 use Rattle.turn_client_proto_messages.specs.StunProtoClient.Digests.{IsRight}
 use Rattle.turn_desk_core.specs.StunProtoVerify.Judgement.{user_key}
 use Rattle.turn_desk_core.specs.StunProtoServer.Server.{Server}
+use Rattle.turn_client_proto_messages.specs.StunProtoAuth.Nonce.{features_in}
+use Rattle.turn_client_proto_messages.specs.StunProtoAuth.declared.feature.Feature.{Feature}
+use Rattle.turn_client_proto_messages.specs.StunProtoAuth.declared.feature.Feature.TheVariants.{Auto, Required, Disabled}
 use Rattle.turn_client_proto_messages.specs.StunProtoAuth.SupportedAlgorithms.{is_same_algorithm, list_of, needs_password_algorithms, number_by}
 use Rattle.turn_desk_core.specs.StunProtoServer.Users.{IsClaimedName}
 use Rattle.turn_desk_core.specs.StunTypesWire.declared.error.StunParseError.{StunParseError}
@@ -91,6 +94,16 @@ named : (realm name : List ℕ) (hidden : Bool) → IsClaimedName realm (if hidd
 named realm name true = refl
 named realm name false = refl
 
+if_hidden : (name : List ℕ) (hidden : Bool) → (if hidden then None else Some name) ≡ None → hidden ≡ true
+if_hidden name true none = refl
+if_hidden name false none = absurd (Prim.cc none)
+
+-- If it hides its name, the nonce announces that hashed names are taken.
+announced : (anonymous : Feature) (nonce name : List ℕ) → (if hides_name anonymous nonce then None else Some name) ≡ None → (features_in nonce).anonymous_username ≡ true
+announced Auto nonce name none = if_hidden name (features_in nonce).anonymous_username none
+announced Required nonce name none = if_hidden name (features_in nonce).anonymous_username none
+announced Disabled nonce name none = absurd (Prim.cc none)
+
 -- If the algorithms need no list, the only one is Sha1, and so is the choice.
 own_choice : (algorithms : List IntegrityAlgorithm) (choice : IntegrityAlgorithm) → needs_password_algorithms algorithms ≡ false → list_any (is_same_algorithm choice) algorithms ≡ true → choice ≡ Sha1
 own_choice [] choice none among = absurd (Prim.cc among)
@@ -148,6 +161,7 @@ as_requested server from auth s bytes short occurs claims right own =
       named = subst (λ (c : Claimed). IsClaimedName server.realm c.username c.user_hash s.account.username) (sym claims)
           (subst (λ (r : List ℕ). IsClaimedName r (if hidden then None else Some s.account.username) (if hidden then Some (userhash_of s.account.username s.challenge.realm) else None) s.account.username) own.realm
           (named s.challenge.realm s.account.username hidden));
+      hash_taken = λ none. own.hashes (announced auth.anonymous_username s.challenge.nonce s.account.username (ap (λ (c : Claimed). c.username) (sym claims) ∙ none));
       realm = s.challenge.realm;
       has_realm = ap (λ (c : Claimed). c.realm) claims;
       has_nonce = ap (λ (c : Claimed). c.nonce) claims;

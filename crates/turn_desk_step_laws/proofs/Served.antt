@@ -1,5 +1,5 @@
 -- A request of a user, signed as a server core requires, is answered by the decision.
-use Rattle.std.specs.Prelude.{◌||◌, is_some, IsSome}
+use Rattle.std.specs.Prelude.{◌&&◌, ◌||◌, is_some, IsSome}
 use Rattle.std.proofs.Common.{◌≡◌, ℕ, ◌<◌, ◌^◌, Bool, true, if◌then◌else◌, List, [], ◌∷◌, ◌++◌, Option, Some, None, refl, sym, ap, ◌∙◌, subst, inl, inr}
 use Rattle.std.specs.FinMap as map
 use Rattle.std.specs.List.{AllByRecursion, filter}
@@ -16,6 +16,8 @@ use Rattle.turn_desk_core.specs.StunTypesWire.Types.{class_of, is_response_class
 use Rattle.turn_desk_core.specs.StunTypesAttributes.Xor.{xored}
 use Rattle.turn_desk_core.specs.StunTypesBase.declared.transport.TransportType.{TransportType}
 use Rattle.turn_client_proto_messages.specs.StunProtoAuth.Claims.{claimed}
+use Rattle.turn_client_proto_messages.specs.StunProtoAuth.Nonce.{takes_anonymous_username}
+use Rattle.turn_client_proto_messages.specs.StunProtoAuth.declared.feature.Feature.{Feature}
 use Rattle.turn_desk_core.specs.StunProtoVerify.Knowledge.{Named}
 use Rattle.turn_desk_core.specs.StunProtoServer.Server.{Server, has_standing_nonce, nonce_at, refreshed, with_new_nonce}
 use Rattle.turn_desk_core.specs.StunProtoServer.ServerValidation.{Accepts}
@@ -45,9 +47,10 @@ use Rattle.turn_desk_step_laws.proofs.Replies.{allocated_addresses, allocated_li
 -- ---- it is accepted
 
 -- A claim that names someone has a user name or a hash.
-names_someone : (realm : List ℕ) (username hash : Option (List ℕ)) (name : List ℕ) → IsClaimedName realm username hash name → (is_some username || is_some hash) ≡ true
-names_someone realm (Some visible) hash name named = refl
-names_someone realm None hash name named = ap is_some named
+names_someone : (realm : List ℕ) (anonymous : Feature) (username hash : Option (List ℕ)) (name : List ℕ) → IsClaimedName realm username hash name → (username ≡ None → takes_anonymous_username anonymous ≡ true)
+    → (is_some username || (takes_anonymous_username anonymous && is_some hash)) ≡ true
+names_someone realm anonymous (Some visible) hash name named taken = refl
+names_someone realm anonymous None hash name named taken = λ i. taken refl i && is_some (named i)
 
 module _ (server : Server) (from : SocketAddr) (bytes nonce : List ℕ) (user : Signatory) (served : IsServed bytes) (stored : nonce_at server from ≡ Some nonce) (is : IsOfUser server nonce bytes user) where
   abbrev someone : Named
@@ -60,7 +63,7 @@ module _ (server : Server) (from : SocketAddr) (bytes nonce : List ℕ) (user : 
     judged = record {
       no_response = ap is_response_class served.request;
       last = is.last;
-      named = names_someone server.realm (claimed bytes).username (claimed bytes).user_hash user.name is.named;
+      named = names_someone server.realm server.anonymous_username (claimed bytes).username (claimed bytes).user_hash user.name is.named is.hash_taken;
       realm = is.realm;
       has_realm = is.has_realm;
       nonce = nonce;

@@ -13,7 +13,7 @@ use Rattle.turn_desk_core.specs.StunTypesBase.SocketAddrs.{socket_addr_cmp, sock
 use Rattle.turn_desk_core.specs.StunTypesWire.Types.{is_response_class}
 use Rattle.turn_client_proto_messages.proofs.StunProtoAuth.NonceLemmas.{features_in-nonce_text}
 use Rattle.turn_client_proto_messages.specs.StunProtoAuth.Claims.{claimed}
-use Rattle.turn_desk_core.specs.StunProtoVerify.Judgement.{HasWrongDigest, IsRefused, algorithms_refusal, claim_refusal, integrity_refusal, is_response, judgement, nonce_refusal, parts_refusal, user_refusal}
+use Rattle.turn_desk_core.specs.StunProtoVerify.Judgement.{HasWrongDigest, IsRefused, algorithms_refusal, claim_refusal, integrity_refusal, is_response, judgement, nonce_refusal, parts_refusal, unnamed_refusal, user_refusal}
 use Rattle.turn_desk_core.specs.StunProtoVerify.Knowledge.{Knowledge}
 use Rattle.turn_desk_core.specs.StunTypesBase.Times.{time_after}
 use Rattle.turn_client_proto_messages.specs.StunProtoAuth.Nonce.{features_offered, features_in}
@@ -35,12 +35,12 @@ use Rattle.turn_desk_step_laws.proofs.Reported.{challenge_read, chosen_list, tak
 
 -- A request without an integrity attribute is unauthorized, whatever is known.
 unsigned_judged : (known : Knowledge) (bytes : List ℕ) → is_response bytes ≡ false → (claimed bytes).integrity ≡ None → judgement known bytes ≡ Some Unauthorized
-unfolding judgement claim_refusal
+unfolding judgement claim_refusal unnamed_refusal
 unsigned_judged known bytes request unsigned =
     let claim = claimed bytes in
-    let rest = option_or (parts_refusal claim) (option_or (nonce_refusal claim.nonce known.nonce) (option_or (algorithms_refusal claim known.algorithms) (user_refusal known.user))) in
+    let rest = option_or (parts_refusal known.anonymous_username claim) (option_or (nonce_refusal claim.nonce known.nonce) (algorithms_refusal claim known.algorithms)) in
     ap (λ (b : Bool). option_or (if b then Some BadRequest else None) (claim_refusal known (claimed bytes))) request
-    ∙ ap (λ (i : Option IntegrityAlgorithm). option_or (integrity_refusal i) rest) unsigned
+    ∙ ap (λ (i : Option IntegrityAlgorithm). option_or (option_or (integrity_refusal i) rest) (user_refusal known.user)) unsigned
 
 unauthorized : (known : Knowledge) (bytes : List ℕ) (error : LongTermServerAuthError) → IsServed bytes → (claimed bytes).integrity ≡ None → IsRefused known bytes error → error ≡ Unauthorized
 unauthorized known bytes error served unsigned is =

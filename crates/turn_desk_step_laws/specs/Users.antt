@@ -1,6 +1,6 @@
 -- What a server core answers to a request of one of its users (RFC 8489, section 9.2.4; RFC 8656, sections
 -- 7.2 and 7.3).
-use Rattle.std.specs.Prelude.{◌≡◌, ℕ, List, [], ◌∷◌, ◌++◌, Some, None, IsSome}
+use Rattle.std.specs.Prelude.{◌≡◌, ℕ, true, List, [], ◌∷◌, ◌++◌, Some, None, IsSome}
 use Rattle.std.specs.FinMap as map
 use Rattle.std.specs.List.{AllByRecursion}
 use Rattle.std.specs.declared.net.socket_addr.SocketAddr.{SocketAddr}
@@ -15,6 +15,7 @@ use Rattle.turn_desk_core.specs.StunTypesWire.Text.{message_text}
 use Rattle.turn_desk_core.specs.StunTypesWire.Types.{class_of, method_of}
 use Rattle.turn_desk_core.specs.StunTypesBase.declared.transport.TransportType.{TransportType}
 use Rattle.turn_client_proto_messages.specs.StunProtoAuth.Claims.{claimed}
+use Rattle.turn_client_proto_messages.specs.StunProtoAuth.Nonce.{takes_anonymous_username}
 use Rattle.turn_desk_core.specs.StunProtoVerify.Consistency.{AreConsistent}
 use Rattle.turn_desk_core.specs.StunProtoVerify.Judgement.{user_key}
 use Rattle.turn_desk_core.specs.StunProtoServer.Server.{Server, with_outcome}
@@ -37,12 +38,13 @@ abbrev pub key_of : Server → Signatory → List ℕ
 key_of server user = user_key server.realm user.name user.password user.algorithm
 
 -- The message is what a server requires of this user, under this nonce. The server has the user. The message
--- names the user, shows a realm, this nonce and consistent algorithms, and validates under the user's key;
--- its last integrity attribute is of the user's algorithm.
+-- names the user, by a hash only if the server takes hashes; it shows a realm, this nonce and consistent
+-- algorithms, and validates under the user's key; its last integrity attribute is of the user's algorithm.
 pub record IsOfUser (server : Server) (nonce bytes : List ℕ) (user : Signatory) : Type 0 where
   pub present : map.get server.users user.name ≡ Some user.password
   pub last : (claimed bytes).integrity ≡ Some user.algorithm
   pub named : IsClaimedName server.realm (claimed bytes).username (claimed bytes).user_hash user.name
+  pub hash_taken : (claimed bytes).username ≡ None → takes_anonymous_username server.anonymous_username ≡ true
   pub realm : List ℕ
   pub has_realm : (claimed bytes).realm ≡ Some realm
   pub has_nonce : (claimed bytes).nonce ≡ Some nonce
