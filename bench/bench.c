@@ -1,6 +1,7 @@
 // Times the library through the static library bench_codec, and counts what it allocates. `run` builds
 // and runs it, and reads what it prints; docs/SPEED.md says what the lines mean.
 #include <float.h>
+#include <malloc.h>
 #include <stdio.h>
 #include <stdlib.h>
 #include <string.h>
@@ -73,23 +74,52 @@ size_t stun_bench_write_channel(uint16_t id, SLICE(data), OUT);
 size_t stun_bench_feed(SLICE(bytes), size_t size);
 size_t stun_bench_check_types(SLICE(bytes), OUT);
 
-// ---- what is counted: the linker sends each call of malloc and realloc here (--wrap)
+// ---- what is counted: the linker sends each call of malloc, realloc and free here (--wrap)
 
-size_t allocations, allocated_bytes;
+size_t allocations, allocated_bytes, held_bytes, most_held_bytes;
+bool counts_held;
 
 void *__real_malloc(size_t size);
 void *__real_realloc(void *at, size_t size);
+void __real_free(void *at);
+
+static void hold(void *at) {
+    held_bytes += malloc_usable_size(at);
+    most_held_bytes = held_bytes > most_held_bytes ? held_bytes : most_held_bytes;
+}
+
+static void release(void *at) {
+    held_bytes -= malloc_usable_size(at);
+}
 
 void *__wrap_malloc(size_t size) {
     allocations++;
     allocated_bytes += size;
-    return __real_malloc(size);
+    void *at = __real_malloc(size);
+    if (counts_held) {
+        hold(at);
+    }
+    return at;
 }
 
 void *__wrap_realloc(void *at, size_t size) {
     allocations++;
     allocated_bytes += size;
-    return __real_realloc(at, size);
+    if (counts_held) {
+        release(at);
+    }
+    void *moved = __real_realloc(at, size);
+    if (counts_held) {
+        hold(moved);
+    }
+    return moved;
+}
+
+void __wrap_free(void *at) {
+    if (counts_held) {
+        release(at);
+    }
+    __real_free(at);
 }
 
 // ---- what is given

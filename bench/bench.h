@@ -47,6 +47,9 @@ void tell(const char *name, double wanted, double measured);
 void write_short(uint8_t *bytes, unsigned value);
 // how many calls of malloc and realloc there were, and how many bytes they were for
 extern size_t allocations, allocated_bytes;
+// while `counts_held`: how many bytes are allocated that aren't freed yet, and how many were at most
+extern bool counts_held;
+extern size_t held_bytes, most_held_bytes;
 
 // what a key saves that is kept (kept.c)
 void time_kept(unsigned rounds);

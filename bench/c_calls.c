@@ -1,9 +1,9 @@
 /* c_calls.c: how long the calls of turn_client.h take, and how many allocations each makes: of exchanges with a server
- * whose bytes are stored (tests/c/samples.h, `timed`). Each time is the least mean of the rounds, the clock's own taken
- * off.
+ * whose bytes are stored (tests/c/samples.h, `timed`), and of attempts of peers (attempts.c). Each time is the least
+ * mean of the rounds, the clock's own taken off.
  *
- *     cc -std=c11 -O2 -Wall -Wextra c_calls.c ../tests/c/steps.c $(pkg-config --cflags --libs turn_client) \
- *         -Wl,--wrap=malloc,--wrap=realloc -o c_calls && ./c_calls [ROUNDS]
+ *     cc -std=c11 -O2 -Wall -Wextra c_calls.c attempts.c ../tests/c/steps.c ../tests/fuzz/sign.c \
+ *         $(pkg-config --cflags --libs turn_client) -Wl,--wrap=malloc,--wrap=realloc -o c_calls && ./c_calls [ROUNDS]
  *
  * `c_calls.py` does that, and can write results/speed.md.
  *
@@ -11,6 +11,7 @@
  * differs. */
 #define _GNU_SOURCE
 #include "../tests/c/steps.h"
+#include "c_calls.h"
 
 #include <stdio.h>
 #include <stdlib.h>
@@ -21,7 +22,7 @@ enum { STEPS_MAX = 64, TURNS = 500 };
 
 /* ---- what is counted */
 
-static size_t allocations;
+size_t allocations;
 
 void *__real_malloc(size_t size);
 void *__real_realloc(void *block, size_t size);
@@ -40,7 +41,7 @@ void *__wrap_realloc(void *block, size_t size)
     return __real_realloc(block, size);
 }
 
-static uint64_t clock_now(void)
+uint64_t clock_now(void)
 {
     struct timespec now;
     clock_gettime(CLOCK_MONOTONIC, &now);
@@ -116,13 +117,18 @@ static void time_round(const struct exchange *exchange, bool is_first, struct ti
     }
 }
 
+void print_time(const char *name, double nanoseconds, size_t taken)
+{
+    printf("  %-42s %8.0f ns  %zu allocations\n", name, nanoseconds, taken);
+}
+
 static void print_times(const struct exchange *exchange, const struct times *times)
 {
     printf("%s\n", exchange->name);
     for (size_t k = 0; k < exchange->parts[0].count; k++) {
         const char *name = exchange->parts[0].steps[k].name;
         if (name != NULL)
-            printf("  %-42s %8.0f ns  %zu allocations\n", name, times->least[k], times->allocations[k]);
+            print_time(name, times->least[k], times->allocations[k]);
     }
 }
 
@@ -139,5 +145,6 @@ int main(int argc, char **argv)
             time_round(&timed[i], round == 0, &times);
         print_times(&timed[i], &times);
     }
+    tell_attempts();
     return 0;
 }

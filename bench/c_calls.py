@@ -1,5 +1,5 @@
 #!/usr/bin/env python3
-"""Measures the calls of turn_client.h: builds c_calls.c over the library, and runs it (docs/SPEED.md).
+"""Measures the calls of turn_client.h: builds c_calls.c and attempts.c over the library, and runs it (docs/SPEED.md).
 
     bench/c_calls.py [ROUNDS] [--runs N] [--results FILE] [--note TEXT]
 
@@ -23,6 +23,7 @@ sys.path.insert(0, str(TOP / "tools"))
 import released  # noqa: E402
 import results  # noqa: E402
 
+FILES = ("bench/c_calls.c", "bench/attempts.c", "tests/c/steps.c", "tests/fuzz/sign.c")
 SECTION = "Calls from C"
 TIMED = re.compile(r"^  (\S.*?) +(-?\d+) ns +(\d+) allocations$")
 
@@ -30,7 +31,7 @@ TIMED = re.compile(r"^  (\S.*?) +(-?\d+) ns +(\d+) allocations$")
 def build(folder):
     """Builds the program: its path."""
     library = os.environ.get("TURN_CLIENT_LIB") or str(released.DIST)
-    files = [str(TOP / it) for it in ("bench/c_calls.c", "tests/c/steps.c")]
+    files = [str(TOP / it) for it in FILES]
     words = [os.environ.get("CC", "cc"), "-std=c11", "-O2", "-Wall", "-Wextra", f"-I{library}", *files]
     words += [f"{library}/libturn_client.a", "-Wl,--wrap=malloc,--wrap=realloc", "-o", f"{folder}/c_calls"]
     subprocess.run(words, check=True)

@@ -1,5 +1,5 @@
 // What a request costs a server core with many users, by a user's name and by its hash, and what it
-// allocates for a new address.
+// allocates and holds for a new address.
 #include <float.h>
 #include <string.h>
 
@@ -92,15 +92,31 @@ static struct costs time_requests(uint32_t users, const struct request *hashed, 
     return (struct costs){(by_hash - none) / USER_ROUNDS, (by_name - none) / USER_ROUNDS};
 }
 
-// bytes that a request from a new address allocates, more than one from an address that sent one before
-static double of_new_address(const struct request *request) {
+// has a new server core handle a request so many times
+typedef size_t serving(uint32_t times, SLICE(bytes));
+
+static size_t serve_one_address(uint32_t times, SLICE(bytes)) {
+    return stun_bench_users(0, times, bytes, bytes_len);
+}
+
+struct bytes {
+    double allocated, most_held;
+};
+
+static struct bytes bytes_of(serving *serve, const struct request *request) {
     size_t before = allocated_bytes;
-    must(stun_bench_addresses(ADDRESSES, request->bytes, request->size) == ADDRESSES, "replies to addresses");
-    size_t by_new = allocated_bytes - before;
-    before = allocated_bytes;
-    must(stun_bench_users(0, ADDRESSES, request->bytes, request->size) == ADDRESSES, "replies to an address");
-    size_t by_same = allocated_bytes - before;
-    return ((double)by_new - (double)by_same) / ADDRESSES;
+    held_bytes = most_held_bytes = 0;
+    counts_held = true;
+    must(serve(ADDRESSES, request->bytes, request->size) == ADDRESSES, "replies to addresses");
+    counts_held = false;
+    return (struct bytes){(double)(allocated_bytes - before), (double)most_held_bytes};
+}
+
+// what a request from a new address takes, more than one from an address that sent one before
+static struct bytes of_new_address(serving *serve, const struct request *request) {
+    struct bytes by_new = bytes_of(serve, request), by_same = bytes_of(serve_one_address, request);
+    return (struct bytes){(by_new.allocated - by_same.allocated) / ADDRESSES,
+                          (by_new.most_held - by_same.most_held) / ADDRESSES};
 }
 
 void tell_users(void) {
@@ -116,5 +132,7 @@ void tell_users(void) {
     tell("a server core handles a request with USERHASH, 100,000 users, ns", NO_BOUND, many.by_hash);
     tell("  to one with 1000 users", MOST_OF_FEW, many.by_hash / few.by_hash);
     tell("  to one with USERNAME", MOST_OF_NAME, many.by_hash / many.by_name);
-    tell("bytes that a server core allocates for a new address", MOST_OF_ADDRESS, of_new_address(&named));
+    struct bytes by_address = of_new_address(stun_bench_addresses, &named);
+    tell("bytes that a server core allocates for a new address", MOST_OF_ADDRESS, by_address.allocated);
+    tell("bytes that a server core holds for each of 20,000 addresses", MOST_OF_ADDRESS, by_address.most_held);
 }

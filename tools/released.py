@@ -19,8 +19,8 @@ PROGRAMS = {"turn-replay": "turn_replay", "stun-inspect": "stun_inspect", "trace
 LIBRARY_CRATE = "turn_client_c"
 # each other released file, and what it is made of beside the crate: scripts that build it, or the file that it copies
 LIBRARIES = {
-    "libturn_client.a": ("bindings/c/build",),
-    "libturn_client.so": ("bindings/c/build", "bindings/python/build"),
+    "libturn_client.a": ("bindings/c/build", "bindings/c/wiping.c"),
+    "libturn_client.so": ("bindings/c/build", "bindings/c/wiping.c", "bindings/python/build"),
 }
 COPIES = {
     "turn_client.h": ("bindings/c/include/turn_client.h",),

@@ -623,6 +623,46 @@ class GatePage(PageFile):
         self.assertTrue(results.TIME.search(found))
 
 
+class Fuzzed(unittest.TestCase):
+    """The part `fuzz` of ./test."""
+
+    def fuzzed(self, is_proved, compiler="true", has_archive=True, failed=0):
+        """What the part comes to, the scripts that it calls, and what is printed, with this in place of a compiler."""
+        gate, called = script(TOP / "test"), []
+
+        def command(*words):
+            called.append([str(it) for it in words])
+            return gate.Result(1 - failed, failed, "", 1.0)
+
+        with (
+            tempfile.TemporaryDirectory() as room, mock.patch.object(gate, "command", command),
+            mock.patch.dict("os.environ", {"CC": compiler}), contextlib.redirect_stdout(io.StringIO()) as told,
+        ):
+            if has_archive:
+                Path(room, "libturn_client.a").touch()
+            part = next(it for it in gate.parts(lambda: Path(room), is_proved) if it.name == "fuzz")
+            counts = gate.run(part._replace(wants=()), False)
+        return counts, [it[0] for it in called], told.getvalue()
+
+    def test_both_run_of_what_was_proved(self):
+        counts, called, _ = self.fuzzed(True)
+        self.assertEqual((counts, called), ((3, 0, 0), ["tests/fuzz/run", "tools/archive", "tests/fuzz/run"]))
+
+    def test_one_runs_of_what_was_released(self):
+        counts, called, _ = self.fuzzed(False)
+        self.assertEqual((counts, called), ((1, 0, 0), ["tests/fuzz/run"]))
+
+    def test_what_is_found_fails(self):
+        counts, called, _ = self.fuzzed(True, failed=1)
+        self.assertEqual((counts, called), ((0, 1, 0), ["tests/fuzz/run"]))
+
+    def test_it_is_skipped_without_libfuzzer_and_without_a_proved_library(self):
+        for how, why in (({"compiler": "false"}, "libFuzzer"), ({"has_archive": False}, "isn't proved")):
+            counts, called, told = self.fuzzed(False, **how)
+            self.assertEqual((counts, called), ((0, 0, 1), []))
+            self.assertIn(why, told)
+
+
 class Measured(unittest.TestCase):
     """How scripts read what their programs print."""
 

@@ -1,8 +1,8 @@
 /* steps.h: exchanges of a client with a server as tables, one step for each call of turn_client.h: what the call is
- * given, and what is wanted of it. samples.py writes the tables (samples.h); exchange.c, refused.c and bench/c_calls.c
- * walk them by what is declared here and stands in steps.c.
+ * given, and what is wanted of it. samples.py writes the tables (samples.h); exchange.c, refused.c, wiped.c and
+ * bench/c_calls.c walk them by what is declared here and stands in steps.c.
  *
- * Built with each of these three, as `check` does: cc -I../../bindings/c/include exchange.c steps.c ... */
+ * Built with each of these, as `check` does: cc -I../../bindings/c/include exchange.c steps.c ... */
 #ifndef STEPS_H
 #define STEPS_H
 

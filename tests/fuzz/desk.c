@@ -5,18 +5,14 @@
  * its source, its choice of a decision and of time, its form and method, and the number of bytes. The form is raw
  * bytes; or a request with attributes made from the bytes, that is unsigned, signed by the user's key, or signed
  * wrongly. The signatures and what is wanted of a reply are written here anew, from RFC 8489 and RFC 8656. */
-#include <stdbool.h>
-#include <stdint.h>
 #include <stdio.h>
-#include <stdlib.h>
 #include <string.h>
 
 #include "memory.h"
+#include "report.h"
 #include "sign.h"
 
-int LLVMFuzzerInitialize(int *argc, char ***argv);
 int LLVMFuzzerTestOneInput(const uint8_t *data, size_t size);
-void check(bool holds, const char *what);
 size_t stun_fuzz_desk(const uint8_t *input, size_t input_len, uint8_t *out, size_t out_len);
 
 enum {
@@ -35,38 +31,20 @@ static const uint8_t key[16] = {0x84, 0x93, 0xfb, 0xc5, 0x3b, 0xa5, 0x82, 0xfb,
                                 0x4c, 0x04, 0x4c, 0x45, 0x6b, 0xdc, 0x40, 0xeb};
 static unsigned long inputs, reached[REACHES];
 
-/* ---- what is told, and what the fuzzer takes for new */
+/* ---- what is told */
 
-static void print_counts(void)
+void print_counts(void)
 {
     fprintf(stderr, "count: inputs %lu\n", inputs);
     for (int i = 0; i < REACHES; i++)
         fprintf(stderr, "count: reached %s %lu\n", reach_names[i], reached[i]);
 }
 
-void check(bool holds, const char *what)
-{
-    if (holds)
-        return;
-    fprintf(stderr, "FOUND: %s\n", what);
-    print_counts();
-    abort();
-}
+static size_t last_datagram;
 
-int LLVMFuzzerInitialize(int *argc, char ***argv)
+void print_last(void)
 {
-    (void)argc, (void)argv;
-    atexit(print_counts);
-    return 0;
-}
-
-enum { FEATURES = 1 << 12 };
-__attribute__((section("__libfuzzer_extra_counters"))) static uint8_t features[FEATURES];
-
-static void note(uint32_t one, uint32_t other, uint32_t third)
-{
-    const uint32_t hash = (one * 2654435761u) ^ (other * 2246822519u) ^ (third * 3266489917u);
-    features[(hash ^ hash >> 15) % FEATURES] = 1;
+    fprintf(stderr, " (datagram %zu)", last_datagram + 1);
 }
 
 /* ---- the datagrams: what the server core reads, and the form of each */
@@ -248,6 +226,7 @@ static void check_replies(size_t end, bool may_fail)
     size_t at = 0;
     uint8_t grants = 0;
     for (size_t i = 0; i < script.count; i++) {
+        last_datagram = i;
         const uint8_t *request = script.bytes + script.at[i] + HEAD, *entry = replies + at;
         check(at + HEAD <= end, "each datagram has a result");
         const size_t length = short_at(entry + 2);

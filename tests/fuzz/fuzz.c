@@ -8,13 +8,11 @@
 #include "fuzz.h"
 
 #include <stdio.h>
-#include <stdlib.h>
 #include <string.h>
 
 #include "memory.h"
 #include "rooms.h"
 
-int LLVMFuzzerInitialize(int *argc, char ***argv);
 int LLVMFuzzerTestOneInput(const uint8_t *data, size_t size);
 
 /* ---- what is told of the inputs */
@@ -35,7 +33,7 @@ void reach(enum reach what)
     is_reached[what] = true;
 }
 
-static void print_counts(void)
+void print_counts(void)
 {
     fprintf(stderr, "count: inputs %lu\ncount: exact steps %lu\n", inputs, walked);
     for (int i = 0; i < REACHES; i++)
@@ -44,33 +42,9 @@ static void print_counts(void)
         fprintf(stderr, "count: call %s %lu\n", call_names[i], calls[i]);
 }
 
-void check(bool holds, const char *what)
+void print_last(void)
 {
-    if (holds)
-        return;
-    fprintf(stderr, "FOUND: %s (%s answered %d)\n", what, call_names[last_call], last_answer);
-    print_counts();
-    abort();
-}
-
-int LLVMFuzzerInitialize(int *argc, char ***argv)
-{
-    (void)argc, (void)argv;
-    atexit(print_counts);
-    return 0;
-}
-
-/* What the fuzzer takes for new, since the archive isn't instrumented: an answer of a call in a state of the client,
- * and how far an exchange came. */
-enum { FEATURES = 1 << 14 };
-__attribute__((section("__libfuzzer_extra_counters"))) static uint8_t features[FEATURES];
-
-static void note(uint32_t one, uint32_t other, uint32_t third)
-{
-    const uint32_t hash = (one * 2654435761u) ^ (other * 2246822519u) ^ (third * 3266489917u);
-    uint8_t *feature = &features[(hash ^ hash >> 15) % FEATURES];
-    if (*feature < UINT8_MAX)
-        (*feature)++;
+    fprintf(stderr, " (%s answered %d)", call_names[last_call], last_answer);
 }
 
 /* ---- the script */
@@ -182,6 +156,7 @@ static bool is_harmless(const struct step *s, int32_t answer)
         || (s->call == CALL_FEED && answer == TURN_IGNORED && is_foreign);
 }
 
+/* What is new: an answer of a call in a state of the client, and how far an exchange came (`walk`). */
 static void note_answer(const struct step *s, int32_t answer)
 {
     uint32_t state = 0;

@@ -2,10 +2,8 @@
 #ifndef FUZZ_H
 #define FUZZ_H
 
+#include "report.h"
 #include "steps.h"
-
-/* Ends the program where a thing doesn't hold that turn_client.h says; the fuzzer keeps the input then. */
-void check(bool holds, const char *what);
 
 /* The last call of the library and its answer, for what is told then. */
 extern enum call last_call;

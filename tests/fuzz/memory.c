@@ -5,7 +5,7 @@
 #include <stdlib.h>
 #include <string.h>
 
-#include "fuzz.h"
+#include "report.h"
 
 enum { HEAD = 16, TAIL = 16, TAIL_BYTE = 0xc5, FRESH_BYTE = 0xa7 };
 
