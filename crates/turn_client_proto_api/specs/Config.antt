@@ -1,5 +1,5 @@
 -- The settings of a TURN client as contracts see them (RFC 8656, sections 7.1, 18.6, 18.8 and 18.11).
-use Rattle.std.specs.Prelude.{Bool, false, List, [], ◌∷◌}
+use Rattle.std.specs.Prelude.{ℕ, Bool, false, List, [], ◌∷◌, Option, None}
 use Rattle.turn_types_attributes.specs.StunTypesIntegrity.Credentials.{NameAndPassword}
 use Rattle.stun_types_wire.specs.declared.algorithm.IntegrityAlgorithm.{IntegrityAlgorithm}
 use Rattle.stun_types_wire.specs.declared.algorithm.IntegrityAlgorithm.TheVariants.{Sha1}
@@ -14,7 +14,8 @@ use Rattle.stun_proto_agent.specs.State.{default_waits}
 
 -- The settings: the user's name and password; the transport of the requested allocation, and the families of
 -- its addresses, in order; the supported integrity algorithms, in order; whether the name is hidden; whether the
--- client is hardened; and how long a request waits for its response.
+-- client is hardened; how many connections may wait while it accepts a further one of a peer; and how long a
+-- request waits for its response.
 pub record Config : Type 0 where
   pub credentials : NameAndPassword
   pub transport : TransportType
@@ -22,10 +23,11 @@ pub record Config : Type 0 where
   pub algorithms : List IntegrityAlgorithm
   pub anonymous_username : Feature
   pub hardened : Bool
+  pub max_connection_attempts : Option ℕ
   pub waits : Waits
 
 -- The settings of a new client: an allocation over UDP, of one IPv4 address; `Sha1`; the name is hidden if the
--- server supports it; not hardened; the waits of a new agent.
+-- server supports it; not hardened; no limit on connections of peers; the waits of a new agent.
 abbrev pub default_config : NameAndPassword → Config
 default_config credentials = record {
   credentials = credentials;
@@ -34,5 +36,6 @@ default_config credentials = record {
   algorithms = Sha1 ∷ [];
   anonymous_username = Auto;
   hardened = false;
+  max_connection_attempts = None;
   waits = default_waits;
 }

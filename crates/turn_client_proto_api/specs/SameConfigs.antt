@@ -1,8 +1,9 @@
 -- Equality of settings.
 use Rattle.std.specs.Prelude.{◌≡◌, refl, Bool, true, false, not, nat_eq}
 use Rattle.std.specs.Ordering.{on, eq_of_both}
-use Rattle.std.specs.Cmp.{IsEquivalence, on_equiv, and_equiv}
-use Rattle.std.specs.Cmp.Lexicographic.{pointwise, nat_list_eq_equiv}
+use Rattle.std.specs.Cmp.{IsEquivalence, on_equiv, and_equiv, nat_eq_equiv}
+use Rattle.std.specs.Cmp.Lexicographic.{pointwise, nat_list_eq_equiv, options_equiv}
+use Rattle.std.specs.Option.{option_eq}
 use Rattle.turn_types_attributes.specs.StunTypesIntegrity.Credentials.{NameAndPassword}
 use Rattle.stun_types_base.specs.contracts.transport.TransportTypePartialEq.TheImpl as transport
 use Rattle.stun_types_base.specs.contracts.transport.TransportTypeEq.TheImpl.Laws as transport_laws
@@ -56,7 +57,8 @@ same_config = eq_of_both (on (λ (c : Config). c.credentials) same_account)
     (eq_of_both (on (λ (c : Config). c.algorithms) (supported.eq-value).it)
     (eq_of_both (on (λ (c : Config). c.anonymous_username) (feature.eq-value).it)
     (eq_of_both (on (λ (c : Config). c.hardened) same_bool)
-    (on (λ (c : Config). c.waits) same_waits))))))
+    (eq_of_both (on (λ (c : Config). c.max_connection_attempts) (option_eq nat_eq))
+    (on (λ (c : Config). c.waits) same_waits)))))))
 
 pub same_config_equiv : IsEquivalence same_config
 same_config_equiv = and_equiv (on_equiv (λ (c : Config). c.credentials) same_account_equiv)
@@ -65,4 +67,5 @@ same_config_equiv = and_equiv (on_equiv (λ (c : Config). c.credentials) same_ac
     (and_equiv (on_equiv (λ (c : Config). c.algorithms) supported_laws.laws-law)
     (and_equiv (on_equiv (λ (c : Config). c.anonymous_username) feature_laws.laws-law)
     (and_equiv (on_equiv (λ (c : Config). c.hardened) same_bool_equiv)
-    (on_equiv (λ (c : Config). c.waits) same_waits_equiv))))))
+    (and_equiv (on_equiv (λ (c : Config). c.max_connection_attempts) (options_equiv nat_eq_equiv))
+    (on_equiv (λ (c : Config). c.waits) same_waits_equiv)))))))

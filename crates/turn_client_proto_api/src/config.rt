@@ -1,9 +1,10 @@
 //! The settings of a TURN client.
 
-ghost use Rattle.std.specs.Prelude.{◌≡◌, ◌≢◌, [], ◌∷◌, Some, None, IfOk};
+ghost use Rattle.std.specs.Prelude.{◌≡◌, ◌≢◌, [], ◌∷◌, Some, None, IfOk, nat_eq};
 ghost use Rattle.std.specs.FinMap as finite;
 ghost use Rattle.std.specs.Duration.{as_nanos};
 ghost use Rattle.std.specs.List.{IsDistinct};
+ghost use Rattle.std.specs.Option.{option_eq};
 ghost use Rattle.stun_proto_auth.specs.SupportedAlgorithms.{is_same_algorithm, with_algorithm};
 ghost use Rattle.turn_client_proto_api.specs.Config.{default_config};
 ghost use Rattle.turn_client_proto_api.specs.Families.{is_same_family, with_family};
@@ -30,6 +31,7 @@ use turn_types_attributes::credentials::TurnCredentials;
 /// - the credentials of its user;
 /// - the allocation that it requests (RFC 8656, section 7.1);
 /// - what it supports and requests when it signs (RFC 8489, section 9.2);
+/// - against which messages it is hardened, and how many connections of peers may wait;
 /// - how long it waits for responses.
 ///
 /// The lists of families and of algorithms are never empty and have no duplicates. In contracts it
@@ -42,6 +44,7 @@ pub struct TurnConfig {
     supported: SupportedIntegrity,
     anonymous_username: Feature,
     hardened: bool,
+    max_connection_attempts: Option<usize>,
     waits: Option<SetWaits>,
 }
 
@@ -58,6 +61,7 @@ impl Model for TurnConfig {
       algorithms = c.supported;
       anonymous_username = c.anonymous_username;
       hardened = c.hardened;
+      max_connection_attempts = c.max_connection_attempts;
       waits = waits_of c.waits;
     } };
 }
@@ -65,8 +69,8 @@ impl Model for TurnConfig {
 impl TurnConfig {
     /// Creates the settings of a client with these credentials, which it takes. They request an
     /// allocation over UDP of one IPv4 address, with `Sha1` as the only algorithm. The name is
-    /// hidden if the server supports it. The client is not hardened. The waits are those of a new
-    /// agent.
+    /// hidden if the server supports it. The client is not hardened, and any number of
+    /// connections that peers open may wait. The waits are those of a new agent.
     pub fn new(credentials: TurnCredentials) -> TurnConfig
         ensures { result ≡ default_config credentials }
     {
@@ -77,6 +81,7 @@ impl TurnConfig {
             supported: SupportedIntegrity::only(IntegrityAlgorithm::Sha1),
             anonymous_username: Feature::Auto,
             hardened: false,
+            max_connection_attempts: None,
             waits: None,
         }
     }
@@ -98,6 +103,7 @@ impl TurnConfig {
             supported: self.supported,
             anonymous_username: self.anonymous_username,
             hardened: self.hardened,
+            max_connection_attempts: self.max_connection_attempts,
             waits: self.waits,
         })
     }
@@ -233,6 +239,31 @@ impl TurnConfig {
         self.hardened = hardened;
     }
 
+    /// Returns the limit on connections that peers open (`set_max_connection_attempts`), or `None`
+    /// if there is none.
+    pub fn max_connection_attempts(&self) -> Option<usize>
+        ensures { result ≡ self.now.max_connection_attempts }
+    {
+        self.max_connection_attempts
+    }
+
+    /// Limits what the server's CONNECTION_ATTEMPT requests (RFC 6062, section 4.4) make the client
+    /// store. `None` is no limit. With `Some(limit)`
+    ///
+    /// - while an allocation has that many connections that wait for their socket, requested by the
+    ///   client or opened by peers, a further one that a peer opens is rejected with error 447;
+    /// - while that many messages wait to be sent, a CONNECTION_ATTEMPT that would be rejected is
+    ///   ignored, as if it had not come.
+    ///
+    /// With `Some(0)` no connection of a peer is accepted, and no CONNECTION_ATTEMPT is answered.
+    pub fn set_max_connection_attempts(&mut self, max_connection_attempts: Option<usize>)
+        ensures { self.new ≡ record self.old {
+          max_connection_attempts = max_connection_attempts;
+        } }
+    {
+        self.max_connection_attempts = max_connection_attempts;
+    }
+
     /// Sets how long each request waits for its response (RFC 8489, section 6.2.1).
     ///
     /// - `initial`: the wait after the first transmission. Each further wait is twice as long.
@@ -303,6 +334,17 @@ fn is_same_account(one: &TurnCredentials, other: &TurnCredentials) -> bool
     one.username() == other.username() && one.password() == other.password()
 }
 
+/// Returns whether two limits are equal.
+fn is_same_limit(one: Option<usize>, other: Option<usize>) -> bool
+    ensures { result ≡ option_eq nat_eq one other }
+{
+    match (one, other) {
+        (Some(one), Some(other)) => one == other,
+        (None, None) => true,
+        _ => false,
+    }
+}
+
 /// Settings are equal if each of their fields is.
 impl PartialEq for TurnConfig {
     ghost use Rattle.std.specs.Cmp.{partial_equiv_from_equiv};
@@ -319,6 +361,7 @@ impl PartialEq for TurnConfig {
             && self.supported == other.supported
             && self.anonymous_username == other.anonymous_username
             && self.hardened == other.hardened
+            && is_same_limit(self.max_connection_attempts, other.max_connection_attempts)
             && is_same(self.waits, other.waits)
     }
 }

@@ -30,5 +30,6 @@ pub record IsNew (transport : TransportType) (here server : SocketAddr) (config 
   pub last_send : p.last_send ≡ None
   pub events : p.events ≡ []
   pub closing : p.closing ≡ []
+  pub max_connection_attempts : p.max_connection_attempts ≡ config.max_connection_attempts
   pub resends : p.resends ≡ 0
   pub rng : p.rng ≡ of_seed seed

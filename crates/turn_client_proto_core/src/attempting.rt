@@ -1,7 +1,7 @@
 //! Handling of the server's own requests: a peer opened a connection (RFC 6062, section 4.4).
 
 ghost use Rattle.std.specs.Prelude.{◌≡◌, IfOk, OnErr, OnOk, true};
-ghost use Rattle.turn_client_proto_core.specs.Attempting.{IsAttemptTaken, after_attempt, answering, is_attempt};
+ghost use Rattle.turn_client_proto_core.specs.Attempting.{IsAttemptTaken, after_attempt, answering, is_attempt, is_at_limit, rejecting};
 
 use crate::protocol::Protocol;
 use stun_types_base::family::AddressFamily;
@@ -15,6 +15,17 @@ use turn_client_proto_messages::queued::Queued;
 use turn_client_proto_messages::reported::{connection_reported, peer_reported};
 use turn_client_proto_peers::permission::asking::index_of;
 use turn_types_attributes::registry::CONNECTION_ATTEMPT;
+
+/// Returns whether there are as many as the limit allows, or more. Without a limit there never are.
+#[tactic(auto, unfolding(crate::specs::Attempting::is_at_limit))]
+fn is_at_limit(limit: Option<usize>, count: usize) -> bool
+    ensures { result ≡ is_at_limit limit count }
+{
+    match limit {
+        Some(limit) => limit <= count,
+        None => false,
+    }
+}
 
 impl Protocol {
     /// Queues the response to the server's request with this transaction ID. After an error nothing
@@ -56,25 +67,52 @@ impl Protocol {
     ///
     /// - with error 400 if it names no connection or no peer, or if there is no such allocation;
     /// - with error 446 if that allocation has a connection to the peer, or one that waits for its
-    ///   socket.
+    ///   socket;
+    /// - with error 447 if as many connections as the client's limit allows wait for their socket
+    ///   in that allocation.
+    ///
+    /// If as many messages as the limit allows wait to be sent, what would be rejected is ignored:
+    /// nothing changes.
     fn take_attempt(&mut self, message: &Message<'_>) -> Result<(), NoMemory>
         ensures ok { OnOk result (self.new ≡ after_attempt message.now self.old) }
         ensures err { OnErr result (self.new ≡ self.old) }
     {
         let number = message.transaction_id();
         let Some(connection) = connection_reported(message) else {
-            return self.answer_attempt(number, AttemptAnswer::BadRequest);
+            return self.reject_attempt(number, AttemptAnswer::BadRequest);
         };
         let Some(peer) = peer_reported(message) else {
-            return self.answer_attempt(number, AttemptAnswer::BadRequest);
+            return self.reject_attempt(number, AttemptAnswer::BadRequest);
         };
         let (transport, family) = (self.agent.transport(), AddressFamily::from(&peer));
         let Some(index) = index_of(self.allocations.as_slice(), transport, family) else {
-            return self.answer_attempt(number, AttemptAnswer::BadRequest);
+            return self.reject_attempt(number, AttemptAnswer::BadRequest);
         };
         if is_joining(&self.allocations.as_slice()[index], peer) {
-            return self.answer_attempt(number, AttemptAnswer::AlreadyExists);
+            return self.reject_attempt(number, AttemptAnswer::AlreadyExists);
+        }
+        let waiting = self.allocations.as_slice()[index].waiting.len();
+        if is_at_limit(self.max_connection_attempts, waiting) {
+            return self.reject_attempt(number, AttemptAnswer::Failed);
         }
         begin(&mut self.allocations, index, connection, peer, number)
+    }
+
+    /// Queues the response that rejects the server's request with this transaction ID, unless as
+    /// many messages as the client's limit allows wait to be sent: then nothing changes. After an
+    /// error nothing has changed.
+    #[tactic(auto, unfolding(crate::specs::Attempting::rejecting))]
+    fn reject_attempt(
+        &mut self,
+        transaction_id: TransactionId,
+        answer: AttemptAnswer,
+    ) -> Result<(), NoMemory>
+        ensures ok { OnOk result (self.new ≡ rejecting answer transaction_id self.old) }
+        ensures err { OnErr result (self.new ≡ self.old) }
+    {
+        if is_at_limit(self.max_connection_attempts, self.queue.len()) {
+            return Ok(());
+        }
+        self.answer_attempt(transaction_id, answer)
     }
 }

@@ -36,6 +36,7 @@ impl Protocol {
             .build();
         let allocates = config.allocation_transport();
         let families = config.requested_families();
+        let max_connection_attempts = config.max_connection_attempts();
         Protocol {
             alloc,
             server: remote,
@@ -49,6 +50,7 @@ impl Protocol {
             last_send: None,
             events: QueueOf::new(alloc),
             closing: QueueOf::new(alloc),
+            max_connection_attempts,
             resends: 0,
             rng: ChaCha20Rng::from_seed(seed),
         }

@@ -79,6 +79,8 @@ pub struct Protocol {
     pub events: QueueOf<TurnEvent>,
     /// The local addresses of the data connections that the caller has to close.
     pub closing: QueueOf<SocketAddr>,
+    /// The limit on connections of peers (`TurnConfig::set_max_connection_attempts`).
+    pub max_connection_attempts: Option<usize>,
     /// The count of challenges answered since a response was last accepted.
     pub resends: u32,
     /// The generator of the transaction IDs.

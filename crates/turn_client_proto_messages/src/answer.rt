@@ -31,7 +31,8 @@ pub enum AttemptAnswer {
     /// Error 446: the client already has a connection to the peer, or one that waits for its
     /// socket.
     AlreadyExists,
-    /// Error 447: the caller has no socket for the connection.
+    /// Error 447: the caller has no socket for the connection, or too many connections wait for
+    /// theirs.
     Failed,
 }
 
