@@ -229,7 +229,11 @@ class TurnConfig:
     """What a client asks for, and how. allocation_transport is the one between the server and peers: TCP wants TCP to
     the server, too (RFC 6062). Without request_retransmits waits are those of RFC 8489. A hardened client ignores
     responses to no request of its own, refuses a challenge that lacks the list of algorithms which its nonce announces,
-    and ignores what doesn't validate while it allocates."""
+    and ignores what doesn't validate while it allocates.
+
+    If max_connection_attempts connections of an allocation wait for their socket, one more that a peer opens gets error
+    447 (RFC 6062); while as many messages wait to be sent, an attempt that would get an error is ignored. 0 is 64, or
+    no limit if the client isn't hardened."""
 
     username: str
     password: str = field(repr=False)
@@ -239,6 +243,7 @@ class TurnConfig:
     anonymous_username: Anonymous = Anonymous.AUTO
     request_retransmits: RequestRetransmits | None = None
     hardened: bool = True
+    max_connection_attempts: int = 0
 
 
 # ---- answers
@@ -408,6 +413,7 @@ class _Settings(ctypes.Structure):
         ("peers", ctypes.c_uint32), ("families", ctypes.c_uint32), ("integrity", ctypes.c_uint32),
         ("anonymous", ctypes.c_uint32), ("sends", ctypes.c_uint32), ("first_wait", ctypes.c_uint32),
         ("most_wait", ctypes.c_uint32), ("last_wait", ctypes.c_uint32), ("compatible", ctypes.c_uint32),
+        ("max_connection_attempts", ctypes.c_size_t),
     ]
 
 
@@ -578,6 +584,10 @@ def _word(value: int) -> int:
     return _number(value, 0xFFFFFFFF, "number of 32 bits")
 
 
+def _size(value: int) -> int:
+    return _number(value, ctypes.c_size_t(-1).value, "size")
+
+
 def _bytes(data: Buffer) -> bytes:
     """The bytes, or a copy where they may be changed later."""
     return data if isinstance(data, bytes) else memoryview(data).tobytes()
@@ -649,7 +659,8 @@ class TurnClient:
             peers=_word(config.allocation_transport), families=_word(config.address_families),
             integrity=_word(config.supported_integrity), anonymous=_word(config.anonymous_username),
             sends=_word(waits.sends), first_wait=_word(waits.first_wait), most_wait=_word(waits.most_wait),
-            last_wait=_word(waits.last_wait), compatible=int(not config.hardened))
+            last_wait=_word(waits.last_wait), compatible=int(not config.hardened),
+            max_connection_attempts=_size(config.max_connection_attempts))
         name, password = (it.encode("utf-8", "surrogatepass") for it in (config.username, config.password))
         self._status("open", settings, name, len(name), password, len(password), _Seed.from_buffer_copy(seed))
 

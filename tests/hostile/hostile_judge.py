@@ -86,7 +86,7 @@ class Judge:
             if words[0] == "client":
                 _, self.own, self.local, self.remote, self.transport, *_ = words
                 self.name, self.password, self.seed = words[8], words[9], int(words[10])
-                is_hardened = words[11:] == ["hardened"]
+                is_hardened = words[11:12] == ["hardened"]
         self.grants = Grants((self.name, self.realm, self.password), self.own == "tcp")
         self.hardened = Hardened(self.name, self.password, self.own == "tcp") if is_hardened else None
 

@@ -41,10 +41,10 @@ class Settings:
     def __init__(self, name, password, changes):
         self.account = name or "-", password or "-"
         self.transport, self.families, self.algorithms = "UDP", ("IPV4",), ("Sha1",)
-        self.anonymity, self.is_hardened, self.waits = "Auto", False, None
+        self.anonymity, self.is_hardened, self.attempts, self.waits = "Auto", False, None, None
         self.words = []
         for it in changes:
-            self.words += ["waits", *it] if isinstance(it, tuple) else [it]
+            self.words += ["waits", *it] if isinstance(it, tuple) else it.split(" ")
             self.change(it)
 
     def change(self, it):
@@ -53,6 +53,9 @@ class Settings:
             return
         if it in ("hardened", "softened"):
             self.is_hardened = it == "hardened"
+            return
+        if it.startswith("attempts ") or it == "unlimited":
+            self.attempts = None if it == "unlimited" else it.split(" ")[1]
             return
         how = "+" if "+" in it else "="
         kind, name = it.split(how)
@@ -66,7 +69,7 @@ class Settings:
             self.anonymity = name.capitalize()
 
     def told(self):
-        last = ["hardened"] * self.is_hardened
+        last = ["hardened"] * self.is_hardened + ([] if self.attempts is None else ["attempts", self.attempts])
         return [*self.account, self.transport, *self.families, *self.algorithms, self.anonymity, *last]
 
     def schedule(self):
@@ -412,6 +415,23 @@ def hardened():
     settings("hardened")
 
 
+def limited():
+    part("settings with a limit on connections of peers equal their copy, and none with another limit or none")
+    for limit in ("0", "1", "64", "18446744073709551615"):
+        assert settings(f"attempts {limit}") == [len(KEPT) - 1]
+        assert settings("hardened", f"attempts {limit}") == [len(KEPT) - 1]
+    part("what was set last counts")
+    assert len(settings("attempts 1", "attempts 64")) == 2
+    assert settings("attempts 1", "unlimited") == settings()[:-1]
+    for others in (*([it] for it in OTHERS), OTHERS):
+        first, last = settings("attempts 2", *others), settings(*others, "attempts 2")
+        assert last[:-1] == first and not {*last} & {*settings(*others)}
+    part("words that mean no such change")
+    bad = ("attempts", "attempts many", "attempts -1", f"attempts {2**64}", "Attempts 1", "unlimited 1")
+    for word in bad:
+        row("settings", "user", "pass", *word.split(" "))("bad line")
+
+
 def debugs():
     part("what credentials are printed as for who looks for a fault: no password is")
     for name, password, realm in (("user", "pass", "realm"), ("", "", ""), ("a\"b", "secret", "r")):
@@ -425,7 +445,7 @@ def debugs():
 
 
 def main():
-    for made in (no_settings, lists, kinds, agents, errors, payloads, sends, debugs, bad_lines, hardened):
+    for made in (no_settings, lists, kinds, agents, errors, payloads, sends, debugs, bad_lines, hardened, limited):
         made()
     write(CRATE)
 

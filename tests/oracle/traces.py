@@ -567,6 +567,7 @@ def each_setting():
 
 def good_traces():
     # they take their words from this file
+    from traces_attempt_limits import limited_traces
     from traces_attempt_timing import attempt_traces
     from traces_bound_connections import bound_traces
     from traces_channel_lifetimes import channel_traces
@@ -590,7 +591,8 @@ def good_traces():
         *refreshes_answered(), stale_refresh(), stale_refresh_lost(), stale_deletion(),
         mismatched_deletion(), *each_setting(), *stranger_traces(), *permission_traces(), *channel_traces(),
         *payload_traces(), *stream_traces(), *connection_traces(), *socket_traces(),
-        *bound_traces(), *attempt_traces(), *unanswered_traces(), *hardened_traces(honest_traces()),
+        *bound_traces(), *attempt_traces(), *limited_traces(), *unanswered_traces(),
+        *hardened_traces(honest_traces()),
     )
 
 
@@ -641,6 +643,15 @@ def bad_traces():
         ("and a word behind it", "hardened 0"), ("behind an empty one", " hardened"), ("that is a number", "1"),
     ):
         yield f"A client with the word that hardens it, {remark}", f"{MADE[:-1]} {words}\n", "", 2
+    for remark, words in (
+        ("alone", "attempts"), ("with a word that is no number", "attempts many"),
+        ("with a negative number", "attempts -1"), ("with a number of 33 bits", "attempts 4294967296"),
+        ("with two numbers", "attempts 1 1"), ("twice", "attempts 1 attempts 1"),
+        ("before the word that hardens it", "attempts 1 hardened"), ("spelled otherwise", "Attempts 1"),
+        ("alone behind the word that hardens it", "hardened attempts"),
+        ("behind the word that hardens it, with two numbers", "hardened attempts 1 1"),
+    ):
+        yield f"A client with the word of its limit, {remark}", f"{MADE[:-1]} {words}\n", "", 2
     yield "A client with the word that hardens it in the place of its seed", MADE[:-3] + " hardened\n", "", 2
     yield "A client with the word that hardens it before its seed", MADE[:-3] + " hardened 0\n", "", 2
     yield "A client over TCP with the word that hardens it twice", TCP[:-1] + " hardened hardened\n", "", 2

@@ -45,18 +45,18 @@ def unreached(t, now, k, peer):
     decided(t, now, connect(k, peer), "refuse 447", error(CONNECT, k, code(447, b"Connection Timeout or Failure")))
 
 
-def permitted(kind=Piped):
+def permitted(kind=Piped, **how):
     """A client with an allocation over TCP and a permission for a peer, granted at 100 ms."""
-    t = of_tcp(kind=kind)
+    t = of_tcp(kind=kind, **how)
     t.permission(50 * MS, PEER_3, transport="tcp")
     decided(t, 100 * MS, create_permission(2, PEER_3), "grant", success(CREATE_PERMISSION, 2))
     t.event(f"PermissionCreated tcp {PEER_3}")
     return t
 
 
-def asking(*peers):
+def asking(*peers, **how):
     """It asks for a connection to each of these peers."""
-    t = permitted()
+    t = permitted(**how)
     for peer in peers:
         asks(t, 100 * MS, peer)
     return t

@@ -363,9 +363,9 @@ def forged_grant():
 # ---- an allocation over TCP
 
 
-def of_tcp(seconds=600, kind=Piped):
+def of_tcp(seconds=600, kind=Piped, **how):
     """A client that is granted an allocation over TCP."""
-    t = over("tcp", kind)
+    t = over("tcp", kind, **how)
     asked = message(ALLOCATE, number(0), [lifetime(1800), OVER_TCP, (DONT_FRAGMENT, b"")])
     drawn = t.draw(0, asked)
     line = t.ask(0, f"@{drawn}", "refuse 400", challenge(0))

@@ -185,10 +185,14 @@ typedef struct turn_settings {
     uint32_t compatible;     /* 0: the client is hardened. It ignores responses to no request of its own, refuses a
                               * challenge that lacks the list of algorithms which its nonce announces, and ignores what
                               * does not validate while it allocates. 1: it takes these as the RFCs allow */
+    size_t max_connection_attempts;
+                             /* if as many connections of an allocation wait for their socket, one more that a peer
+                              * opens gets error 447 (RFC 6062); while as many messages wait to be drawn, an attempt
+                              * that would get an error is ignored. 0: 64, or no limit if compatible is 1 */
 } turn_settings;
 
 /* Settings of this size, and otherwise zero: turn_settings settings = TURN_SETTINGS_INIT; */
-#define TURN_SETTINGS_INIT {sizeof(turn_settings), {{0}, 0, 0}, {{0}, 0, 0}, 0, 0, 0, 0, 0, 0, 0, 0, 0, 0}
+#define TURN_SETTINGS_INIT {sizeof(turn_settings), {{0}, 0, 0}, {{0}, 0, 0}, 0, 0, 0, 0, 0, 0, 0, 0, 0, 0, 0}
 
 /* 32 random bytes, see above. */
 typedef struct turn_seed {

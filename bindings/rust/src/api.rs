@@ -110,6 +110,7 @@ pub struct TurnConfig {
     anonymous_username: Feature,
     retransmits: Option<Retransmits>,
     is_hardened: bool,
+    max_connection_attempts: usize,
 }
 
 impl TurnConfig {
@@ -125,6 +126,7 @@ impl TurnConfig {
             anonymous_username: Feature::Auto,
             retransmits: None,
             is_hardened: true,
+            max_connection_attempts: 0,
         }
     }
 
@@ -199,6 +201,18 @@ impl TurnConfig {
         self.is_hardened
     }
 
+    /// Sets how many connections of an allocation may wait for their socket while the client accepts one more that a
+    /// peer opens (RFC 6062); the next gets error 447. While as many messages wait to be sent, an attempt that would
+    /// get an error is ignored. 0 is 64, or no limit if the client isn't hardened.
+    pub fn set_max_connection_attempts(&mut self, max_connection_attempts: usize) {
+        self.max_connection_attempts = max_connection_attempts;
+    }
+
+    /// How many connections may wait, as it was set: 0 is the default.
+    pub fn max_connection_attempts(&self) -> usize {
+        self.max_connection_attempts
+    }
+
     /// Sets how requests are sent again over UDP: the wait behind the first, which each next one doubles, the longest
     /// wait between two, how often a request is sent in all, and the wait behind the last. Where `retransmits` is
     /// 0, all of it is as RFC 8489 says. Waits count in milliseconds, rounded up. Over TCP a request is sent once, and
@@ -236,6 +250,7 @@ impl TurnConfig {
                 .fold(0, |bits, it| bits | bit_of_integrity(*it)),
             anonymous: told_feature(self.anonymous_username),
             compatible: u32::from(!self.is_hardened),
+            max_connection_attempts: self.max_connection_attempts,
             ..sys::Settings::default()
         };
         if let Some(waits) = self.retransmits {
@@ -533,6 +548,10 @@ mod tests {
         assert_eq!(compatible(&config), 0);
         config.set_hardened(false);
         assert_eq!(compatible(&config), 1);
+        let attempts = |config: &TurnConfig| config.told(TransportType::Udp, local, server).max_connection_attempts;
+        assert_eq!(attempts(&config), 0);
+        config.set_max_connection_attempts(7);
+        assert_eq!((attempts(&config), config.max_connection_attempts()), (7, 7));
         config.set_address_family(AddressFamily::IPV6);
         config.set_supported_integrity(IntegrityAlgorithm::Sha256);
         assert_eq!(bits(&config), (2, 2));

@@ -77,6 +77,7 @@ pub struct Settings {
     pub most_wait: u32,
     pub last_wait: u32,
     pub compatible: u32,
+    pub max_connection_attempts: usize,
 }
 
 #[repr(C)]
@@ -291,7 +292,7 @@ mod tests {
             turn_address = Address { ip, port, family }
             turn_settings = Settings {
                 size, local, server, transport, peers, families, integrity, anonymous, sends, first_wait, most_wait,
-                last_wait, compatible
+                last_wait, compatible, max_connection_attempts
             }
             turn_seed = Seed { bytes }
             turn_transmit = Transmit { size, transport, from, to }

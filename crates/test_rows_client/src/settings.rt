@@ -52,6 +52,8 @@ fn change(line: &mut Line<'_>, config: &mut TurnConfig) {
         "family+v6" => config.add_address_family(AddressFamily::IPV6),
         "hardened" => config.set_hardened(true),
         "softened" => config.set_hardened(false),
+        "attempts" => config.set_max_connection_attempts(Some(line.value(0usize))),
+        "unlimited" => config.set_max_connection_attempts(None),
         "waits" => wait(line, config),
         word => sign(line, config, word),
     }
@@ -81,7 +83,7 @@ fn sign(line: &mut Line<'_>, config: &mut TurnConfig, word: &str) {
     }
 }
 
-/// Prints settings, and `hardened` last if they are.
+/// Prints settings, `hardened` if they are, and `attempts` with the limit if they have one.
 fn show(line: &mut Line<'_>, config: &TurnConfig) {
     line.say_text(config.credentials().username());
     line.say_text(config.credentials().password());
@@ -96,6 +98,10 @@ fn show(line: &mut Line<'_>, config: &TurnConfig) {
     let _ = write!(line.answer, " {anonymity:?}");
     if config.is_hardened() {
         line.say(&"hardened");
+    }
+    if let Some(limit) = config.max_connection_attempts() {
+        line.say(&"attempts");
+        line.say(&limit);
     }
 }
 

@@ -19,7 +19,7 @@ use Rattle.turn_client_c_types.specs.declared.settings.TurnSettings.{TurnSetting
 
 -- The size of the settings in bytes.
 abbrev pub settings_size : ℕ
-settings_size = 88
+settings_size = 96
 
 -- The settings state this size.
 abbrev pub has_size : TurnSettings → Bool
@@ -91,6 +91,16 @@ waits_of s first = if s.sends == 0 then first else record {
   final = s.last_wait * millisecond;
 }
 
+-- The limit on connections of peers of a hardened client that states none.
+abbrev pub default_attempts : ℕ
+default_attempts = 64
+
+-- The limit on connections of peers, if they state this number. If it is 0, a client that is not hardened has
+-- none.
+abbrev pub attempts_of : TurnSettings → Option ℕ
+attempts_of s = if not (s.max_connection_attempts == 0) then Some s.max_connection_attempts
+    else if s.compatible == 1 then None else Some default_attempts
+
 -- The settings of a client of this user, whose allocation is over this transport. It is hardened unless they say
 -- otherwise.
 abbrev pub config_of : TurnSettings → TransportType → NameAndPassword → Config
@@ -100,5 +110,6 @@ config_of s peers user = record (default_config user) {
   algorithms = algorithms_of s.integrity (default_config user).algorithms;
   anonymous_username = anonymous_of s.anonymous (default_config user).anonymous_username;
   hardened = not (s.compatible == 1);
+  max_connection_attempts = attempts_of s;
   waits = waits_of s (default_config user).waits;
 }

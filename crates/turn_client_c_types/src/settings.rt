@@ -2,7 +2,7 @@
 
 ghost use Rattle.std.specs.Prelude.{◌≡◌, ◌<◌, IfOk, IfSome};
 ghost use Rattle.stun_types_base.specs.declared.transport.TransportType.TheVariants.{Udp};
-ghost use Rattle.turn_client_c_types.specs.Settings.{algorithms_of, anonymous_of, config_of, families_of, has_bit, has_size, is_zero_seed, transport_set, transports_of, waits_of};
+ghost use Rattle.turn_client_c_types.specs.Settings.{algorithms_of, anonymous_of, attempts_of, config_of, families_of, has_bit, has_size, is_zero_seed, transport_set, transports_of, waits_of};
 
 use crate::address::{TurnAddress, transport_of};
 use std::alloc::Global;
@@ -41,6 +41,9 @@ const ANONYMOUS_DISABLED: u32 = 2;
 
 /// The client is not hardened.
 const COMPATIBLE: u32 = 1;
+
+/// The limit on connections of peers of a hardened client that states none.
+const DEFAULT_ATTEMPTS: usize = 64;
 
 /// The size of the settings, in bytes.
 const SETTINGS_SIZE: usize = size_of::<TurnSettings>();
@@ -81,6 +84,9 @@ pub struct TurnSettings {
     pub last_wait: u32,
     /// 0: the client is hardened (`TurnConfig::set_hardened`). 1: it is not.
     pub compatible: u32,
+    /// The limit on connections of peers (`TurnConfig::set_max_connection_attempts`). 0 is 64, or
+    /// none if the client is not hardened.
+    pub max_connection_attempts: usize,
 }
 
 /// The seed of the generator of a client's transaction IDs.
@@ -171,8 +177,22 @@ impl TurnSettings {
         self.set_integrity(&mut config);
         self.set_anonymous(&mut config);
         config.set_hardened(self.compatible != COMPATIBLE);
+        config.set_max_connection_attempts(self.attempts());
         self.set_waits(&mut config);
         Ok(config)
+    }
+
+    /// Returns the limit on connections of peers.
+    fn attempts(&self) -> Option<usize>
+        ensures { result ≡ attempts_of self.now }
+    {
+        if self.max_connection_attempts != 0 {
+            Some(self.max_connection_attempts)
+        } else if self.compatible == COMPATIBLE {
+            None
+        } else {
+            Some(DEFAULT_ATTEMPTS)
+        }
     }
 
     /// Sets the families.

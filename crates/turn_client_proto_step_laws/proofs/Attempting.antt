@@ -1,6 +1,6 @@
 -- A request of the server's that announces a connection which a peer opened is a step of a run (RFC 6062,
 -- section 4.4).
-use Rattle.std.proofs.Common.{◌≡◌, ℕ, ◌==◌, Bool, true, false, List, [], ◌∷◌, ◌++◌, Option, Some, None, if◌then◌else◌, refl, sym, subst, arith, inl, inr}
+use Rattle.std.proofs.Common.{◌≡◌, ℕ, ◌==◌, Bool, true, false, List, [], ◌∷◌, ◌++◌, length, Option, Some, None, if◌then◌else◌, refl, sym, subst, arith, inl, inr}
 use Rattle.std.proofs.lemmas.Bool.{eqb-true}
 use Rattle.std.specs.List.{find}
 use Rattle.std.specs.declared.net.socket_addr.SocketAddr.{SocketAddr}
@@ -22,7 +22,7 @@ use Rattle.turn_client_proto_timers.specs.Messages.declared.answer.AttemptAnswer
 use Rattle.turn_client_proto_timers.specs.Messages.Reported.{connection_reported, peer_reported}
 use Rattle.turn_client_proto_timers.specs.TurnRuns.Steps.{ClientStep, IsTried}
 use Rattle.turn_client_proto_timers.specs.TurnRuns.StunWire.{decoded_by}
-use Rattle.turn_client_proto_timers.specs.Core.Attempting.{IsAttemptTaken, after_attempt, after_attempt_in, after_attempt_of, answering, is_attempt, may_join, queued_answer}
+use Rattle.turn_client_proto_timers.specs.Core.Attempting.{IsAttemptTaken, after_attempt, after_attempt_in, after_attempt_of, answering, is_at_limit, is_attempt, may_join, queued_answer, rejecting}
 use Rattle.turn_client_proto_timers.specs.Core.Responding.{judged}
 use Rattle.turn_client_proto_timers.specs.Messages.Waiting.{Queued}
 use Rattle.turn_client_proto_timers.specs.Core.declared.protocol.Protocol.{Protocol}
@@ -174,18 +174,32 @@ module _ (c : Client) (signer : signers.Client) (bytes : List ℕ) (message : re
         takes is c.core.queue left (λ m h. h) (stored_joining none_connects (begins connection peer number) (parts_of c.core) left are)
         (joining_orderly none_connects (begins connection peer number) (parts_of mid) left are (λ k h. absurd h) (λ k h. absurd h) distinct under_way.orderly)
 
+    -- The request is rejected, or ignored.
+    rejects : (answer : AttemptAnswer) → IsRunStep c (bytes ∷ []) None [] (rejecting answer number mid)
+    unfolding rejecting
+    rejects answer =
+        elim (is_at_limit mid.max_connection_attempts (length mid.queue)) as (λ (b : Bool). IsRunStep c (bytes ∷ []) None [] (if b then mid else answering answer number mid)) [
+          | true ↦ done c (bytes ∷ []) mid mid under_way refl
+          | false ↦ answers answer
+        ]
+
     by_allocation : (found : Option Allocation) (connection : ℕ) (peer : SocketAddr) → IsRunStep c (bytes ∷ []) None [] (after_attempt_in found connection peer number mid)
-    by_allocation None connection peer = answers BadRequest
+    by_allocation None connection peer = rejects BadRequest
     by_allocation (Some a) connection peer =
-        elim (is_joining peer a) as (λ (b : Bool). IsRunStep c (bytes ∷ []) None [] (if b then answering AlreadyExists number mid
-        else record mid { allocations = change_first (may_join peer mid) (attempted connection peer number) mid.allocations })) [
-          | true ↦ answers AlreadyExists
-          | false ↦ begins_one connection peer
+        let begun : Protocol = record mid { allocations = change_first (may_join peer mid) (attempted connection peer number) mid.allocations } in
+        let full : Bool = is_at_limit mid.max_connection_attempts (length a.waiting) in
+        elim (is_joining peer a) as (λ (b : Bool). IsRunStep c (bytes ∷ []) None [] (if b then rejecting AlreadyExists number mid
+        else if full then rejecting Failed number mid else begun)) [
+          | true ↦ rejects AlreadyExists
+          | false ↦ elim full as (λ (b : Bool). IsRunStep c (bytes ∷ []) None [] (if b then rejecting Failed number mid else begun)) [
+            | true ↦ rejects Failed
+            | false ↦ begins_one connection peer
+          ]
         ]
 
     by_names : (connection : Option ℕ) (peer : Option SocketAddr) → IsRunStep c (bytes ∷ []) None [] (after_attempt_of connection peer number mid)
-    by_names None peer = answers BadRequest
-    by_names (Some connection) None = answers BadRequest
+    by_names None peer = rejects BadRequest
+    by_names (Some connection) None = rejects BadRequest
     by_names (Some connection) (Some peer) = by_allocation (find (may_join peer mid) mid.allocations) connection peer
 
   pub attempt_step : (handled : Bool) (new : Protocol) → IsAttemptTaken mid bytes handled new → IsRunStep c (bytes ∷ []) None [] new

@@ -32,6 +32,7 @@ pub mod Joined
 pub mod Joining
 pub mod Leaving
 pub mod Lessening
+pub mod Limits
 pub mod Lists
 pub mod Numbers
 pub mod Once

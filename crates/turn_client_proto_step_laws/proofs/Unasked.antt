@@ -1,6 +1,6 @@
 -- What becomes of a client's items, by the outcome of a message: nothing is there that wasn't before; or the
 -- message was awaited and accepted, and no transaction ID was generated.
-use Rattle.std.proofs.Common.{◌≡◌, ◌⊎◌, ℕ, ◌==◌, Bool, true, false, ◌&&◌, List, [], map, Option, Some, None, Ok, Err, if◌then◌else◌, refl, sym, ap, ◌∙◌, subst, inl, inr}
+use Rattle.std.proofs.Common.{◌≡◌, ◌⊎◌, ℕ, ◌==◌, Bool, true, false, ◌&&◌, List, [], length, map, Option, Some, None, Ok, Err, if◌then◌else◌, refl, sym, ap, ◌∙◌, subst, inl, inr}
 use Rattle.std.specs.Bool.{MatchBool}
 use Rattle.std.specs.List.{find, list_any}
 use Rattle.std.specs.declared.net.socket_addr.SocketAddr.{SocketAddr}
@@ -37,11 +37,11 @@ use Rattle.turn_client_proto_timers.specs.TurnRuns.Indications.{is_indication}
 use Rattle.turn_client_proto_timers.specs.Messages.Reported.{connection_reported, lifetime_reported, peer_reported}
 use Rattle.turn_client_proto_timers.specs.Messages.Judging.{IsJudged}
 use Rattle.turn_client_proto_timers.specs.Messages.declared.answer.AttemptAnswer.{AttemptAnswer}
-use Rattle.turn_client_proto_timers.specs.Messages.declared.answer.AttemptAnswer.TheVariants.{AlreadyExists, BadRequest}
+use Rattle.turn_client_proto_timers.specs.Messages.declared.answer.AttemptAnswer.TheVariants.{AlreadyExists, BadRequest, Failed}
 use Rattle.turn_client_proto_recv.specs.Sockets.{binding_time}
 use Rattle.turn_client_proto_timers.specs.Core.Allocating.{IsAllocatedFor, allocated, brought}
 use Rattle.turn_client_proto_timers.specs.Core.Asking.{requested}
-use Rattle.turn_client_proto_timers.specs.Core.Attempting.{IsAttemptTaken, after_attempt, after_attempt_in, after_attempt_of, answering, is_attempt, may_join}
+use Rattle.turn_client_proto_timers.specs.Core.Attempting.{IsAttemptTaken, after_attempt, after_attempt_in, after_attempt_of, answering, is_at_limit, is_attempt, may_join, rejecting}
 use Rattle.turn_client_proto_timers.specs.Core.Authenticating.{IsAccepted, IsAllocateAnswered, IsAllocatingAgain, IsChallenged, IsErrorAnswered, IsFirstJudged, IsSignedJudged, IsUnauthenticated, allocates_again, allocates_other, ends_unsigned, family_left}
 use Rattle.turn_client_proto_timers.specs.Core.Binding.{IsBindResponded, IsBoundFor, IsUnboundFor, bound, expires_due, permission_with, renews_channels, unbound}
 use Rattle.turn_client_proto_timers.specs.Core.Deleting.{is_authenticated}
@@ -422,19 +422,32 @@ module _ (Signed : Type 0) (bytes : List ℕ) (now : ℕ) where
   unfolding answering
   answer_more answer p = same_more p.allocations
 
+  reject_more : (answer : AttemptAnswer) (p : Protocol) → NoMore p.allocations (rejecting answer (number_at bytes) p).allocations
+  unfolding rejecting
+  reject_more answer p =
+      elim (is_at_limit p.max_connection_attempts (length p.queue)) as (λ (b : Bool). NoMore p.allocations (if b then p else answering answer (number_at bytes) p).allocations) [
+        | true ↦ same_more p.allocations
+        | false ↦ answer_more answer p
+      ]
+
   attempt_in : (found : Option Allocation) (connection : ℕ) (peer : SocketAddr) (p : Protocol) → NoMore p.allocations (after_attempt_in found connection peer (number_at bytes) p).allocations
-  attempt_in None connection peer p = answer_more BadRequest p
+  attempt_in None connection peer p = reject_more BadRequest p
   attempt_in (Some a) connection peer p =
       let change = attempted connection peer (number_at bytes) in
-      elim (is_joining peer a) as (λ (b : Bool). NoMore p.allocations (if b then answering AlreadyExists (number_at bytes) p
-      else record p { allocations = change_first (may_join peer p) change p.allocations }).allocations) [
-        | true ↦ answer_more AlreadyExists p
-        | false ↦ first_more change (attempt_more connection peer (number_at bytes)) (may_join peer p) p.allocations
+      let begun : Protocol = record p { allocations = change_first (may_join peer p) change p.allocations } in
+      let full : Bool = is_at_limit p.max_connection_attempts (length a.waiting) in
+      elim (is_joining peer a) as (λ (b : Bool). NoMore p.allocations (if b then rejecting AlreadyExists (number_at bytes) p
+      else if full then rejecting Failed (number_at bytes) p else begun).allocations) [
+        | true ↦ reject_more AlreadyExists p
+        | false ↦ elim full as (λ (b : Bool). NoMore p.allocations (if b then rejecting Failed (number_at bytes) p else begun).allocations) [
+          | true ↦ reject_more Failed p
+          | false ↦ first_more change (attempt_more connection peer (number_at bytes)) (may_join peer p) p.allocations
+        ]
       ]
 
   attempt_of : (connection : Option ℕ) (peer : Option SocketAddr) (p : Protocol) → NoMore p.allocations (after_attempt_of connection peer (number_at bytes) p).allocations
-  attempt_of None peer p = answer_more BadRequest p
-  attempt_of (Some connection) None p = answer_more BadRequest p
+  attempt_of None peer p = reject_more BadRequest p
+  attempt_of (Some connection) None p = reject_more BadRequest p
   attempt_of (Some connection) (Some peer) p = attempt_in (find (may_join peer p) p.allocations) connection peer p
 
   attempt_keeps : (p : Protocol) → Keeps Signed bytes p (IsAttemptTaken p bytes)

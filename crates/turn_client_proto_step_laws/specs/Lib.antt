@@ -3,6 +3,7 @@ pub mod Held
 pub mod ClientWords
 pub mod Sound
 pub mod Beginning
+pub mod Bounds
 pub mod RunSteps
 pub mod Adding
 pub mod Cuts

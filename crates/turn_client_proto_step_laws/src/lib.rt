@@ -15,6 +15,8 @@
 //! - a message that answers no outstanding request (`unasked_adds_nothing`),
 //! - a call that handles no message (`calls_add_nothing`).
 //!
+//! What the server's own requests make a client store is bounded ([`bounds`]).
+//!
 //! # Each call is a step ([`steps`])
 //!
 //! A client is there the record `Client`: the `core` of its state, its credentials, the random
@@ -56,6 +58,7 @@
 #![tactic(auto)]
 
 pub mod added;
+pub mod bounds;
 pub mod definite;
 pub mod framed;
 pub mod reported;

@@ -1,5 +1,5 @@
 -- The setup lines of a trace.
-use Rattle.std.specs.Prelude.{ℕ, ◌≡◌, ◌≤◌, ◌*◌, ◌==◌, Bool, true, false, List, [], ◌∷◌, length, codes, Some}
+use Rattle.std.specs.Prelude.{ℕ, ◌≡◌, ◌≤◌, ◌*◌, ◌==◌, Bool, true, false, List, [], ◌∷◌, length, codes, Option, Some, None}
 use Rattle.std.specs.Duration.{as_nanos}
 use Rattle.std.specs.List.{slice_split}
 use Rattle.std.specs.Option.{option_map}
@@ -80,11 +80,20 @@ abbrev pub IsRto : List (List ℕ) → Setup → Type 0
 IsRto (initial ∷ most ∷ rest) setup = IsRtoWith initial most rest setup
 IsRto words setup = ⊥
 
--- The words after the seed: none, or the one that hardens a client.
-abbrev pub IsHardening : List (List ℕ) → Bool → Type 0
-IsHardening [] hardened = hardened ≡ false
-IsHardening (word ∷ []) hardened = (word ≡ codes "hardened") × (hardened ≡ true)
-IsHardening words hardened = ⊥
+-- The word spells the limit on connections of peers.
+abbrev pub IsLimit : List ℕ → Option ℕ → Type 0
+IsLimit word None = ⊥
+IsLimit word (Some limit) = IsU32 word limit
+
+-- The words after the seed: `hardened` or not, and behind it `attempts` and the limit on connections of peers, or
+-- not.
+abbrev pub AreOptions : List (List ℕ) → (hardened : Bool) → (attempts : Option ℕ) → Type 0
+AreOptions [] hardened attempts = (hardened ≡ false) × (attempts ≡ None)
+AreOptions (word ∷ []) hardened attempts = (word ≡ codes "hardened") × (hardened ≡ true) × (attempts ≡ None)
+AreOptions (word ∷ limit ∷ []) hardened attempts = (word ≡ codes "attempts") × (hardened ≡ false) × IsLimit limit attempts
+AreOptions (first ∷ word ∷ limit ∷ []) hardened attempts =
+    (first ≡ codes "hardened") × (word ≡ codes "attempts") × (hardened ≡ true) × IsLimit limit attempts
+AreOptions words hardened attempts = ⊥
 
 -- The words spell the settings of a client with those addresses.
 pub record IsClientOf (local remote families algorithms anonymity name password seed : List ℕ)
@@ -98,7 +107,7 @@ pub record IsClientOf (local remote families algorithms anonymity name password 
   pub bound : length name ≤ MAX_USERNAME
   pub secret : client.password.now ≡ password
   pub transmitted : seed_of seed ≡ Some client.seed
-  pub hardening : IsHardening more client.hardened
+  pub options : AreOptions more client.hardened client.attempts
 
 -- The first five words and the words after them spell the settings of a client.
 abbrev pub IsClientWith : List ℕ → List ℕ → List ℕ → List ℕ → List ℕ → List (List ℕ) → ClientSetup → Type 0

@@ -1,13 +1,13 @@
 //! Setup lines: the lines before the events.
 
-ghost use Rattle.std.specs.Prelude.{◌≡◌, ◌≢◌, Bool, MatchOption, map};
+ghost use Rattle.std.specs.Prelude.{◌≡◌, ◌≢◌, ℕ, Bool, MatchOption, Option, map};
 ghost use Rattle.std.specs.declared.time.Duration.{Duration};
 ghost use Rattle.stun_proto_auth.specs.declared.feature.Feature.{Feature};
 ghost use Rattle.stun_types_base.specs.declared.transport.TransportType.{TransportType};
 ghost use Rattle.turn_desk_trace.specs.declared.setup.Client.{Client};
 ghost use Rattle.turn_desk_trace.specs.declared.setup.Families.{Families};
 ghost use Rattle.turn_desk_trace.specs.declared.setup.Setup.{Setup};
-ghost use Rattle.turn_desk_trace.specs.Setup.{anonymity_word, AreTransports, families_word, IsClient, IsClientAt, IsClientOf, IsClientWith, IsDesk, IsHardening, IsMillis, IsRto, IsRtoOf, IsRtoWith, IsSetup, IsUser};
+ghost use Rattle.turn_desk_trace.specs.Setup.{anonymity_word, AreOptions, AreTransports, families_word, IsClient, IsClientAt, IsClientOf, IsClientWith, IsDesk, IsMillis, IsRto, IsRtoOf, IsRtoWith, IsSetup, IsUser};
 
 use crate::address::{read_address, read_transport};
 use crate::algorithms::read_algorithms;
@@ -59,6 +59,8 @@ pub struct Client<'a> {
     pub seed: [u8; SEED_LENGTH],
     /// Whether it is hardened.
     pub hardened: bool,
+    /// Its limit on connections of peers (`TurnConfig::set_max_connection_attempts`).
+    pub attempts: Option<u32>,
 }
 
 /// A line that comes before the events.
@@ -91,8 +93,8 @@ pub enum Setup<'a> {
         /// The timeout after the last transmission, in whole milliseconds.
         last: Duration,
     },
-    /// `client BY LOCAL REMOTE OVER FAMILIES ALGS ANON NAME PASSWORD SEED`, and `hardened` or nothing:
-    /// adds a client.
+    /// `client BY LOCAL REMOTE OVER FAMILIES ALGS ANON NAME PASSWORD SEED`, then `hardened` or
+    /// nothing, then `attempts LIMIT` or nothing: adds a client.
     Client {
         /// The transport between the client and the server.
         by: TransportType,
@@ -293,6 +295,7 @@ fn client_of<'a>(
     if name.len() > MAX_USERNAME {
         return None;
     }
+    let (hardened, attempts) = read_options(more)?;
     Some(Client {
         local: read_address(local)?,
         remote: read_address(remote)?,
@@ -302,19 +305,24 @@ fn client_of<'a>(
         name,
         password,
         seed: read_seed(seed)?,
-        hardened: read_hardening(more)?,
+        hardened,
+        attempts,
     })
 }
 
-/// Reads the words after a client's seed: none, or `hardened`. Returns `None` for any other words.
-fn read_hardening(words: &[&str]) -> Option<bool>
-    ensures { MatchOption result ((h : Bool)
-        → ¬ (IsHardening (map (λ x. x.now) words.entry.now) h))
-        (IsHardening (map (λ x. x.now) words.entry.now)) }
+/// Reads the words after a client's seed: `hardened` or nothing, then `attempts` and a limit or
+/// nothing. Returns whether the client is hardened, and its limit on connections of peers; `None`
+/// for any other words.
+fn read_options(words: &[&str]) -> Option<(bool, Option<u32>)>
+    ensures { MatchOption result ((h : Bool) (a : Option ℕ)
+        → ¬ (AreOptions (map (λ x. x.now) words.entry.now) h a))
+        (λ read. AreOptions (map (λ x. x.now) words.entry.now) read.0 read.1) }
 {
     match words {
-        [] => Some(false),
-        ["hardened"] => Some(true),
+        [] => Some((false, None)),
+        ["hardened"] => Some((true, None)),
+        ["attempts", limit] => Some((false, Some(read_u32(limit)?))),
+        ["hardened", "attempts", limit] => Some((true, Some(read_u32(limit)?))),
         _ => None,
     }
 }

@@ -58,6 +58,7 @@ config_of over client rto =
       algorithms = client.algorithms;
       anonymous_username = client.anonymity;
       hardened = client.hardened;
+      max_connection_attempts = client.attempts;
     })
 
 -- A new client over a transport, with these settings. Over TCP its stream has received nothing.

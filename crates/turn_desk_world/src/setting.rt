@@ -136,8 +136,19 @@ fn config_of(
     offer(&mut config, settings.algorithms.as_slice());
     config.set_anonymous_username(settings.anonymity);
     config.set_hardened(settings.hardened);
+    config.set_max_connection_attempts(limit_of(settings.attempts));
     wait(&mut config, rto);
     Ok(config)
+}
+
+/// Returns the same limit as a count.
+fn limit_of(limit: Option<u32>) -> Option<usize>
+    ensures { result ≡ limit }
+{
+    match limit {
+        Some(limit) => Some(limit as usize),
+        None => None,
+    }
 }
 
 /// Sets the retransmission timeouts of a client's requests, if there are any to set.

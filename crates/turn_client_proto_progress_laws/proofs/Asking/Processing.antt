@@ -1,5 +1,5 @@
 -- An established client stays so when it handles a message, if that is no challenge of another realm.
-use Rattle.std.proofs.Common.{◌≡◌, ℕ, zero, suc, Bool, List, map, Option, Some, None, refl, sym, ap, ◌∙◌, subst, inl, inr}
+use Rattle.std.proofs.Common.{◌≡◌, ℕ, zero, suc, Bool, List, length, map, Option, Some, None, refl, sym, ap, ◌∙◌, subst, inl, inr}
 use Rattle.std.specs.Prelude.{◌==◌, ◌&&◌, nat_le, Result, Ok, Err, find}
 use Rattle.std.specs.List.{list_any}
 use Rattle.std.specs.declared.net.ip_addr.IpAddr.{IpAddr}
@@ -31,7 +31,7 @@ use Rattle.turn_client_proto_messages.specs.Allocation.declared.pending.PendingR
 use Rattle.turn_client_proto_step_laws.specs.Connection.Attempts.{attempted, is_joining}
 use Rattle.turn_client_proto_step_laws.specs.Connection.Reported.{answered as connections_answered, connected, given_up}
 use Rattle.turn_client_proto_handshake_laws.specs.Core.Asking.{requested}
-use Rattle.turn_client_proto_handshake_laws.specs.Core.Attempting.{IsAttemptTaken, after_attempt_in, after_attempt_of, answering, is_attempt, may_join}
+use Rattle.turn_client_proto_handshake_laws.specs.Core.Attempting.{IsAttemptTaken, after_attempt_in, after_attempt_of, answering, is_at_limit, is_attempt, may_join, rejecting}
 use Rattle.turn_client_proto_handshake_laws.specs.Core.Binding as binding
 use Rattle.turn_client_proto_handshake_laws.specs.Core.Binding.{IsBindResponded, IsBoundFor, IsUnboundFor, expires_due, permission_with, permitted_with, renews_channels, rejected_with, unbound}
 use Rattle.turn_client_proto_handshake_laws.specs.Core.Ending.{ended}
@@ -43,7 +43,7 @@ use Rattle.turn_client_proto_handshake_laws.specs.Core.Responding.{accepted, cha
 use Rattle.turn_client_proto_handshake_laws.specs.Core.Standing.{IsRequestedAgain, IsConnectResponded, IsJudgedStanding, IsRechallenged, IsRequestAnswered, IsSentAgain, IsTakenUp, after_connect, after_refresh, asks_again, deallocated, is_refreshed, refreshed}
 use Rattle.turn_client_proto_messages.specs.Judging.{IsJudged}
 use Rattle.turn_client_proto_messages.specs.declared.answer.AttemptAnswer.{AttemptAnswer}
-use Rattle.turn_client_proto_messages.specs.declared.answer.AttemptAnswer.TheVariants.{AlreadyExists, BadRequest}
+use Rattle.turn_client_proto_messages.specs.declared.answer.AttemptAnswer.TheVariants.{AlreadyExists, BadRequest, Failed}
 use Rattle.turn_client_proto_messages.specs.Reported.{connection_reported, lifetime_reported, peer_reported}
 use Rattle.turn_client_proto_handshake_laws.specs.Core.declared.protocol.Phase.{Phase}
 use Rattle.turn_client_proto_handshake_laws.specs.Core.declared.protocol.Phase.TheVariants.{Initial, InitialSent, Authenticating, Authenticated, Ended}
@@ -338,18 +338,28 @@ module _ (b : Beginning) (realm : List ℕ) (address : SocketAddr) where
     unfolding answering
     answers_so ret number = with_allocations (answering ret number p) (own_agent b realm address p is) refl refl refl refl refl is.one
 
+    rejects_so : (ret : AttemptAnswer) (number : ℕ) → Speaking (rejecting ret number p)
+    unfolding rejecting
+    rejects_so ret number = elim (cases_Bool (is_at_limit p.max_connection_attempts (length p.queue))) [
+      | inl full ↦ rw full is
+      | inr room ↦ rw room (answers_so ret number)
+    ]
+
     attempt_in : (found : Option Allocation) (connection : ℕ) (peer : SocketAddr) (number : ℕ) → Speaking (after_attempt_in found connection peer number p)
-    attempt_in None connection peer number = answers_so BadRequest number
+    attempt_in None connection peer number = rejects_so BadRequest number
     attempt_in (Some a) connection peer number = elim (cases_Bool (is_joining peer a)) [
-      | inl joining ↦ rw joining (answers_so AlreadyExists number)
-      | inr new ↦ rw new (with_allocations (record p { allocations = change_first (may_join peer p) (attempted connection peer number) p.allocations }) (own_agent b realm address p is) refl refl refl refl refl
+      | inl joining ↦ rw joining (rejects_so AlreadyExists number)
+      | inr new ↦ elim (cases_Bool (is_at_limit p.max_connection_attempts (length a.waiting))) [
+        | inl full ↦ rw (new, full) (rejects_so Failed number)
+        | inr room ↦ rw (new, room) (with_allocations (record p { allocations = change_first (may_join peer p) (attempted connection peer number) p.allocations }) (own_agent b realm address p is) refl refl refl refl refl
           (most_changed b address (may_join peer p) (attempted connection peer number) (λ x. record { transport = refl; address = refl }) p.allocations is.one))
+      ]
     ]
 
     attempt_of : (connection : Option ℕ) (peer : Option SocketAddr) (number : ℕ) → Speaking (after_attempt_of connection peer number p)
     attempt_of (Some connection) (Some peer) number = attempt_in (find (may_join peer p) p.allocations) connection peer number
-    attempt_of (Some connection) None number = answers_so BadRequest number
-    attempt_of None peer number = answers_so BadRequest number
+    attempt_of (Some connection) None number = rejects_so BadRequest number
+    attempt_of None peer number = rejects_so BadRequest number
 
     attempt_taken : (bytes : List ℕ) (handled : Bool) (q : Protocol) → IsAttemptTaken p bytes handled q → Speaking q
     attempt_taken bytes handled q r = tested (is_attempt bytes) (λ _ x. handled_so _ handled q (attempt_of (connection_reported bytes) (peer_reported bytes) (number_at bytes)) x) (λ _ x. ignored_so p handled q is x) r

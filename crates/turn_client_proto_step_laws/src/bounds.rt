@@ -1,0 +1,31 @@
+//! What the server's own requests make a client store. The function does nothing; its contract is a
+//! theorem.
+
+ghost use Rattle.std.specs.Prelude.{◌≡◌, ◌≤◌, ℕ, Bool, List, Some, length};
+ghost use Rattle.turn_client_proto_timers.specs.Core.Attempting.{IsAttemptTaken};
+ghost use Rattle.turn_client_proto_timers.specs.Core.declared.protocol.Protocol.{Protocol};
+ghost use Rattle.turn_client_proto_step_laws.specs.Bounds.{WaitAtMost};
+
+/// What a validated request of the server adds stays within the client's limit
+/// (`TurnConfig::set_max_connection_attempts`; RFC 6062, section 4.4).
+///
+/// - `limit`: the limit itself stays.
+/// - `waiting`: if in each allocation at most that many connections waited for their socket that
+///   the server had announced, this is so afterwards.
+/// - `queued`: if at most that many messages waited to be sent, this is so afterwards.
+pub fn attempts_are_bounded()
+    ensures limit { (limit : ℕ) (old new : Protocol) (bytes : List ℕ) (handled : Bool)
+        → old.max_connection_attempts ≡ Some limit
+        → IsAttemptTaken old bytes handled new
+        → new.max_connection_attempts ≡ Some limit }
+    ensures waiting { (limit : ℕ) (old new : Protocol) (bytes : List ℕ) (handled : Bool)
+        → old.max_connection_attempts ≡ Some limit
+        → IsAttemptTaken old bytes handled new
+        → WaitAtMost limit old.allocations
+        → WaitAtMost limit new.allocations }
+    ensures queued { (limit : ℕ) (old new : Protocol) (bytes : List ℕ) (handled : Bool)
+        → old.max_connection_attempts ≡ Some limit
+        → IsAttemptTaken old bytes handled new
+        → length old.queue ≤ limit
+        → length new.queue ≤ limit }
+{}
