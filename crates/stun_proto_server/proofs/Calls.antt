@@ -212,7 +212,6 @@ called_alike address a b new (call.SetExpiry expiry) answer same is called = rec
   alike = left_so address a new (record a { nonce_expiry = expiry }) (record b { nonce_expiry = expiry })
       called.2 ((sets_alike address a b same).expiry_set expiry);
 }
-
 called_alike address a b new call.LimitRequested answer same is called =
     decoded_alike address a b same call.LimitRequested answer _ _ new (ap (λ (n : Option ℕ). call.Limit n) (sym same.max_clients)) called (λ x. x)
 called_alike address a b new (call.SetLimit most) answer same is called = record {

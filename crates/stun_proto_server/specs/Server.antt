@@ -70,8 +70,19 @@ server_code =
     (coded× (coded_list coded_ℕ) (coded× users_code (coded× clients_code
     (coded× coded_ℕ (coded× (coded_list algorithm.the_row.coded)
     (coded× feature.the_row.coded (coded_option coded_ℕ)))))))
-    (λ s. (s.realm, (s.users, (s.clients, (s.nonce_expiry,
-    (s.algorithms, (s.anonymous_username, s.max_clients)))))))
+    (λ s. (
+      s.realm,
+      (
+        s.users,
+        (
+          s.clients,
+          (
+            s.nonce_expiry,
+            (s.algorithms, (s.anonymous_username, s.max_clients)),
+          ),
+        ),
+      ),
+    ))
     (λ p. record {
       realm = p.0;
       users = p.1.0;
