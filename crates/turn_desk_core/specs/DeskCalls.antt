@@ -1,11 +1,11 @@
 -- Runs of a server core's calls that don't run out of memory, with their results, and the part of a run that
 -- concerns one address (RFC 8489, section 9.2; RFC 8656, section 5).
-use Rattle.std.specs.Prelude.{◌≡◌, ◌≢◌, ◌↔◌, ℕ, Bool, List, [], ◌∷◌, ◌++◌, filter, map}
+use Rattle.std.specs.Prelude.{◌≡◌, ◌≢◌, ◌↔◌, ℕ, Bool, false, List, [], ◌∷◌, ◌++◌, filter, map}
 use Rattle.std.specs.declared.net.socket_addr.SocketAddr.{SocketAddr}
 use Rattle.rand_core.specs.Stream.{Stream}
 use Rattle.stun_proto_server.specs.AuthCalls.{AuthAnswer, AuthCall, IsCalled, Validate}
-use Rattle.stun_proto_server.specs.AuthRuns.{EachNamesOne, concerns as concerns_auth, is_same_address}
-use Rattle.stun_proto_server.specs.Server.{SameFor, Server}
+use Rattle.stun_proto_server.specs.AuthRuns.{CallMakesNoRoom, EachNamesOne, concerns as concerns_auth, is_same_address}
+use Rattle.stun_proto_server.specs.Server.{SameFor, Server, makes_room}
 use Rattle.turn_desk_core.specs.Requests.{IsServed}
 use Rattle.turn_desk_core.specs.declared.decision.Decision.{Decision}
 use Rattle.turn_desk_core.specs.declared.grant.Grant as granted
@@ -34,7 +34,8 @@ pub record IsHandled (old : State) (bytes : List ℕ) (from : SocketAddr) (now :
   pub answer : IsAnswer old from bytes now stream decision reply new
   pub grants : (g : granted.Grant)
       → (new.grants ≡ old.grants ++ g ∷ []) ↔ IsGranted old from bytes now stream decision reply g
-  pub others : (other : SocketAddr) → other ≢ from → SameFor other old.auth new.auth
+  pub others : (other : SocketAddr) → other ≢ from → makes_room old.auth from ≡ false
+      → SameFor other old.auth new.auth
 
 -- The server core replied; or the bytes are not a request that it serves, and nothing changed, as the clauses
 -- `none` and `answer` of `handle` say for a call that returns no reply.
@@ -67,6 +68,19 @@ IsServerRun old (pair ∷ pairs) new = (next : State) × IsServerCalled pair.0 p
 abbrev pub concerns : SocketAddr → ServerCall → Bool
 concerns address (Handle bytes from now decision stream) = is_same_address address from
 concerns address (Auth one) = concerns_auth address one
+
+-- A call generates no nonce for which room has to be made.
+abbrev pub ServerMakesNoRoom : State → ServerCall → Type 0
+ServerMakesNoRoom old (Handle bytes from now decision stream) = makes_room old.auth from ≡ false
+ServerMakesNoRoom old (Auth one) = CallMakesNoRoom old.auth one
+
+-- In a run, no call that does not concern an address makes room. It holds of each run without a limit.
+unfoldable pub MakeNoRoom : SocketAddr → (old : State) (pairs : List (ServerCall × ServerAnswer)) (new : State)
+    → IsServerRun old pairs new → Type 0
+unfolding IsServerRun
+MakeNoRoom address old [] new run = Unit {0}
+MakeNoRoom address old (pair ∷ pairs) new run =
+    (concerns address pair.0 ≡ false → ServerMakesNoRoom old pair.0) × MakeNoRoom address run.0 pairs new run.2
 
 -- The calls that concern an address, in order, each with its result.
 abbrev pub concerning : SocketAddr → List (ServerCall × ServerAnswer) → List (ServerCall × ServerAnswer)

@@ -8,7 +8,7 @@ ghost use Rattle.turn_desk_core.specs.declared.decision.Decision.{Decision};
 ghost use Rattle.turn_desk_core.specs.Requests.{IsServed};
 ghost use Rattle.turn_desk_core.specs.State.{State};
 ghost use Rattle.turn_desk_core.specs.Steps.{IsAnswer};
-ghost use Rattle.turn_desk_core.specs.DeskCalls.{AreAlike, AreAnsweredAlike, IsServerRun, NameOneUser, ServerAnswer, ServerCall, IsIsolated, calls_concerning};
+ghost use Rattle.turn_desk_core.specs.DeskCalls.{AreAlike, AreAnsweredAlike, IsServerRun, MakeNoRoom, NameOneUser, ServerAnswer, ServerCall, IsIsolated, calls_concerning};
 ghost use Rattle.turn_desk_core.specs.DeskIsolation.{IsAnsweredAlike};
 ghost use Rattle.turn_desk_core.specs.DeskSteps.{DeskStep};
 ghost use Rattle.stun_proto_server.specs.Server.{SameFor};
@@ -45,8 +45,9 @@ pub fn desks_answer_alike()
 
 /// Non-interference for whole runs: whatever other addresses do between an address's own calls, the
 /// results for this address stay equal. A run is a sequence of requests and authenticator calls of
-/// which none ran out of memory. The calls that concern an address are its own and those on users
-/// and settings.
+/// which none ran out of memory, and none for another address makes room (`set_max_clients`), as
+/// none does without a limit. The calls that concern an address are its own and those on users and
+/// settings.
 ///
 /// - `alone`: delete from a run all calls that don't concern the address. Any server core that the
 ///   address can't distinguish from the run's first one can give the remaining calls equal results.
@@ -60,13 +61,16 @@ pub fn addresses_are_isolated()
     ensures alone { (address : SocketAddr) (old other new : State)
         (pairs : List (ServerCall × ServerAnswer))
         → AreAlike address old other
-        → IsServerRun old pairs new
+        → (run : IsServerRun old pairs new)
+        → MakeNoRoom address old pairs new run
         → IsIsolated address other pairs new }
     ensures fixed { (address : SocketAddr) (old other new left : State)
         (pairs others : List (ServerCall × ServerAnswer))
         → AreAlike address old other
-        → IsServerRun old pairs new
-        → IsServerRun other others left
+        → (run : IsServerRun old pairs new)
+        → MakeNoRoom address old pairs new run
+        → (again : IsServerRun other others left)
+        → MakeNoRoom address other others left again
         → calls_concerning address pairs ≡ calls_concerning address others
         → NameOneUser old.auth (calls_concerning address pairs)
         → AreAnsweredAlike address pairs others new left }

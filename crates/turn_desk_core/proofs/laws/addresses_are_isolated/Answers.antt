@@ -3,8 +3,8 @@ use Rattle.turn_desk_core.proofs.DeskFixed.{answers_are_fixed}
 use Rattle.turn_desk_core.proofs.laws.addresses_are_isolated.Goals as goal
 
 pub returns-clause-alone : goal.returns-clause-alone
-returns-clause-alone c = λ address old other new pairs same run. is_isolated address pairs old other new same run
+returns-clause-alone c = λ address old other new pairs same run none. is_isolated address pairs old other new same run none
 
 pub returns-clause-fixed : goal.returns-clause-fixed
-returns-clause-fixed c = λ address old other new left pairs others same run again calls each.
-    answers_are_fixed address old other new left pairs others same run again calls each
+returns-clause-fixed c = λ address old other new left pairs others same run none again none_again calls each.
+    answers_are_fixed address old other new left pairs others same run none again none_again calls each
