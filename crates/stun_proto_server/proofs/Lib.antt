@@ -9,6 +9,8 @@ pub mod Maps
 pub mod Named
 pub mod Naming
 pub mod Registered
+pub mod StoredBefore
+pub mod Unlimited
 pub mod WithRoom
 pub mod Signed
 pub mod Texts

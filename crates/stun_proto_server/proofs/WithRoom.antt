@@ -25,7 +25,7 @@ use Rattle.stun_types_base.proofs.MapView.{get-finite_map, insert-finite_map}
 -- ---- what is retained
 
 -- What is found for an address among clients that are retained by a test of addresses.
-get-retained : (clients : Clients) (p : SocketAddr → Bool) (q : SocketAddr) → map.get (map.retain_keys clients p) q ≡ cond (p q) (map.get clients q) None
+pub get-retained : (clients : Clients) (p : SocketAddr → Bool) (q : SocketAddr) → map.get (map.retain_keys clients p) q ≡ cond (p q) (map.get clients q) None
 get-retained clients p q = map.get-retain_keys clients p q (λ x tie. ap p (sym (socket_addr_cmp-IsAntisymmetric q x tie)))
 
 get-clients_of : (stored : BTreeMap SocketAddr ClientRecord) (q : SocketAddr) → map.get (clients_of stored) q ≡ option_map client_of (tree.get socket_addr_cmp stored q)

@@ -1,10 +1,11 @@
 -- Runs of a server core's calls that don't run out of memory, with their results, and the part of a run that
 -- concerns one address (RFC 8489, section 9.2; RFC 8656, section 5).
 use Rattle.std.specs.Prelude.{◌≡◌, ◌≢◌, ◌↔◌, ℕ, Bool, false, List, [], ◌∷◌, ◌++◌, filter, map}
+use Rattle.std.specs.List.{AllByRecursion}
 use Rattle.std.specs.declared.net.socket_addr.SocketAddr.{SocketAddr}
 use Rattle.rand_core.specs.Stream.{Stream}
 use Rattle.stun_proto_server.specs.AuthCalls.{AuthAnswer, AuthCall, IsCalled, Validate}
-use Rattle.stun_proto_server.specs.AuthRuns.{CallMakesNoRoom, EachNamesOne, concerns as concerns_auth, is_same_address}
+use Rattle.stun_proto_server.specs.AuthRuns.{CallMakesNoRoom, CallSetsNoLimit, EachNamesOne, concerns as concerns_auth, is_same_address}
 use Rattle.stun_proto_server.specs.Server.{SameFor, Server, makes_room}
 use Rattle.turn_desk_core.specs.Requests.{IsServed}
 use Rattle.turn_desk_core.specs.declared.decision.Decision.{Decision}
@@ -74,7 +75,7 @@ abbrev pub ServerMakesNoRoom : State → ServerCall → Type 0
 ServerMakesNoRoom old (Handle bytes from now decision stream) = makes_room old.auth from ≡ false
 ServerMakesNoRoom old (Auth one) = CallMakesNoRoom old.auth one
 
--- In a run, no call that does not concern an address makes room. It holds of each run without a limit.
+-- In a run, no call that does not concern an address makes room.
 unfoldable pub MakeNoRoom : SocketAddr → (old : State) (pairs : List (ServerCall × ServerAnswer)) (new : State)
     → IsServerRun old pairs new → Type 0
 unfolding IsServerRun
@@ -114,6 +115,10 @@ pub record IsIsolated (address : SocketAddr) (old : State) (pairs : List (Server
 abbrev pub auth_call : ServerCall → AuthCall
 auth_call (Handle bytes from now decision stream) = Validate bytes from now stream
 auth_call (Auth one) = one
+
+-- No call sets a limit on addresses.
+abbrev pub SetNoLimit : List (ServerCall × ServerAnswer) → Type 0
+SetNoLimit pairs = AllByRecursion (λ pair. CallSetsNoLimit (auth_call pair.0)) pairs
 
 -- None of the bytes that are handled name two of the users known at that time, by a hash that both have.
 abbrev pub NameOneUser : Server → List ServerCall → Type 0

@@ -83,8 +83,8 @@ settings_stay : (old new : Server) (from : SocketAddr) (now : ℕ) (stream : Str
 settings_stay old new from now stream is =
     subst (λ (s : Server). HasSameSettings old s) (sym is)
     (elim (has_standing_nonce old from now) as (λ b. HasSameSettings old (with_outcome (if b then old else with_new_nonce old from now stream) from None)) [
-      | true ↦ record { realm = refl; users = refl; nonce_expiry = refl; algorithms = refl; anonymous_username = refl }
-      | false ↦ record { realm = refl; users = refl; nonce_expiry = refl; algorithms = refl; anonymous_username = refl }
+      | true ↦ record { realm = refl; users = refl; nonce_expiry = refl; algorithms = refl; anonymous_username = refl; max_clients = refl }
+      | false ↦ record { realm = refl; users = refl; nonce_expiry = refl; algorithms = refl; anonymous_username = refl; max_clients = refl }
     ])
 
 -- ---- the challenge
