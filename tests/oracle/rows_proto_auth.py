@@ -242,6 +242,7 @@ class Server(Section):
         super().__init__(f"server realm={realm}")
         self.remark(what)
         self.realm, self.users, self.clients = realm, {}, {}
+        self.limit = None
         self.expiry, self.algorithms, self.anonymity = 3600 * SECOND, [SHA1], "Auto"
         for user in users:
             self.user(*user)
@@ -262,6 +263,10 @@ class Server(Section):
 
     adds, sets, names = Client.adds, Client.sets, Client.names
 
+    def limits(self, most):
+        self.limit = most
+        self.ask("ok", "limit", length=most)
+
     def expires(self, nanos):
         if nanos >= 30 * SECOND:
             self.expiry = nanos
@@ -281,6 +286,10 @@ class Server(Section):
     def drawn(self, address, now, seed):
         """A nonce is drawn for an address where none stands."""
         kept = self.clients.get(address)
+        if kept is None and self.limit is not None and len(self.clients) >= self.limit:
+            self.clients = {it: stored for it, stored in self.clients.items() if stored[2] is not None}
+            if 2 * len(self.clients) > self.limit:
+                self.clients = {}
         if kept is None or now >= min(kept[1] + self.expiry, 2**64 - 1):
             nonce = nonce_of(offered(self.algorithms, self.anonymity), words(seed))
             self.clients[address] = nonce, now, None

@@ -600,6 +600,39 @@ def outcomes():
     s.names("Auto")
     s.hear(own_hash)
     yield s
+    s = Server("two addresses at most: a third one makes room")
+    s.limits(2)
+    for at, address in enumerate((FROM, NEXT, SIXTH)):
+        s.refresh(address, 0, at)
+    s.kept(FROM, NEXT, SIXTH)
+    yield s
+    s = Server("one whose message was validated stays")
+    s.limits(2)
+    s.hear(FIRST, FROM)
+    s.refresh(NEXT, 0, 1)
+    s.refresh(SIXTH, 0, 2)
+    s.kept(FROM, NEXT, SIXTH)
+    yield s
+    s = Server("more than half were validated: all go")
+    s.limits(2)
+    s.hear(FIRST, FROM)
+    s.hear(FIRST, NEXT)
+    s.refresh(SIXTH, 0, 2)
+    s.kept(FROM, NEXT, SIXTH)
+    yield s
+    s = Server("an address for which something is stored makes no room")
+    s.limits(2)
+    s.refresh(FROM, 0, 0)
+    s.refresh(NEXT, 3600 * SECOND, 1)
+    s.refresh(FROM, 3600 * SECOND, 2)
+    s.kept(FROM, NEXT)
+    yield s
+    s = Server("without a limit none makes room")
+    many = [f"10.0.{it // 250}.{it % 250}:7" for it in range(1000)]
+    for address in many:
+        s.refresh(address, 0, 0)
+    s.kept(*many)
+    yield s
     s = Server("each address has its own nonce and outcome")
     for address in (FROM, NEXT, SIXTH):
         s.hear(FIRST, address, 0, 0 if address != NEXT else 1)

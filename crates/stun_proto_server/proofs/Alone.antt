@@ -9,7 +9,7 @@ use Rattle.stun_proto_verify.specs.Knowledge.{Outcome}
 use Rattle.stun_proto_server.specs.declared.validation.LongTermServerValidation.TheVariants.{Validated}
 use Rattle.stun_proto_server.specs.AuthCalls.{AuthAnswer, AuthCall, IsCalled, IsJudged}
 use Rattle.stun_proto_server.specs.AuthCalls as call
-use Rattle.stun_proto_server.specs.AuthRuns.{AreAnsweredAlike, CallNamesOne, EachNamesOne, IsAuthRun, IsIsolated, calls_concerning, concerning, concerns, with_users_of}
+use Rattle.stun_proto_server.specs.AuthRuns.{AreAnsweredAlike, CallNamesOne, EachNamesOne, IsAuthRun, IsIsolated, MakeNoRoom, calls_concerning, concerning, concerns, with_users_of}
 use Rattle.stun_proto_server.specs.Server.{SameFor, Server, has_standing_nonce, refreshed, with_new_nonce, with_outcome}
 use Rattle.stun_proto_server.specs.ServerValidation.{after_refusal}
 use Rattle.stun_proto_server.specs.Users.{NamesOne}
@@ -40,22 +40,22 @@ test address = λ pair. concerns address pair.0
 
 -- From a server that an address can't distinguish from the run's, the calls that concern the address return
 -- the same results.
-pub is_isolated : (address : SocketAddr) (pairs : List (AuthCall × AuthAnswer)) (a b new : Server) → SameFor address a b → IsAuthRun a pairs new → IsIsolated address b pairs new
-unfolding IsAuthRun
-is_isolated address [] a b new same run = record { left = b; run = refl; alike = subst (λ (s : Server). SameFor address s b) (sym run) same }
-is_isolated address (pair ∷ pairs) a b new same run =
+pub is_isolated : (address : SocketAddr) (pairs : List (AuthCall × AuthAnswer)) (a b new : Server) → SameFor address a b → (run : IsAuthRun a pairs new) → MakeNoRoom address a pairs new run → IsIsolated address b pairs new
+unfolding IsAuthRun MakeNoRoom
+is_isolated address [] a b new same run none = record { left = b; run = refl; alike = subst (λ (s : Server). SameFor address s b) (sym run) same }
+is_isolated address (pair ∷ pairs) a b new same run none =
     elim (bool_is (concerns address pair.0)) [
       | inl is ↦ (
           let step = called_alike address a b run.0 pair.0 pair.1 same is run.1 in
-          let rest = is_isolated address pairs run.0 step.left new step.alike run.2 in
+          let rest = is_isolated address pairs run.0 step.left new step.alike run.2 none.1 in
           record {
             left = rest.left;
             run = subst (λ (list : List (AuthCall × AuthAnswer)). IsAuthRun b list rest.left) (sym (filter_yes (test address) pair pairs is)) (step.left, step.called, rest.run);
             alike = rest.alike;
           })
       | inr isnt ↦ (
-          let unseen = called_unseen address a run.0 pair.0 pair.1 isnt run.1 in
-          let rest = is_isolated address pairs run.0 b new (same_for-then address run.0 a b (turned address a run.0 unseen) same) run.2 in
+          let unseen = called_unseen address a run.0 pair.0 pair.1 isnt (none.0 isnt) run.1 in
+          let rest = is_isolated address pairs run.0 b new (same_for-then address run.0 a b (turned address a run.0 unseen) same) run.2 none.1 in
           record {
             left = rest.left;
             run = subst (λ (list : List (AuthCall × AuthAnswer)). IsAuthRun b list rest.left) (sym (filter_no (test address) pair pairs isnt)) rest.run;
@@ -121,6 +121,8 @@ called_users (call.AddAlgorithm algorithm) answer old new is = record { users = 
 called_users (call.SetAlgorithm algorithm) answer old new is = record { users = ap (λ (s : Server). s.users) is.1; realm = ap (λ (s : Server). s.realm) is.1 }
 called_users call.AnonymityRequested answer old new is = unchanged old new is.1
 called_users (call.SetAnonymity feature) answer old new is = record { users = ap (λ (s : Server). s.users) is.1; realm = ap (λ (s : Server). s.realm) is.1 }
+called_users call.LimitRequested answer old new is = unchanged old new is.1
+called_users (call.SetLimit most) answer old new is = record { users = ap (λ (s : Server). s.users) is.2; realm = ap (λ (s : Server). s.realm) is.2 }
 called_users (call.SetExpiry expiry) answer old new is = record { users = ap (λ (s : Server). s.users) is.2; realm = ap (λ (s : Server). s.realm) is.2 }
 
 -- If a claim does not name two users of a server, it does not name two of a server with the same users.
@@ -169,11 +171,11 @@ only_run (pair ∷ pairs) (other ∷ others) old new left a b same each =
     ((λ i. (heads i, answers i) ∷ rest.0 i), rest.1)
 
 -- Two runs from servers that an address can't distinguish return it the same results for the same calls.
-pub answers_are_fixed : (address : SocketAddr) (old other new left : Server) (pairs others : List (AuthCall × AuthAnswer)) → SameFor address old other → IsAuthRun old pairs new → IsAuthRun other others left
+pub answers_are_fixed : (address : SocketAddr) (old other new left : Server) (pairs others : List (AuthCall × AuthAnswer)) → SameFor address old other → (run : IsAuthRun old pairs new) → MakeNoRoom address old pairs new run → (again : IsAuthRun other others left) → MakeNoRoom address other others left again
     → calls_concerning address pairs ≡ calls_concerning address others → EachNamesOne old (calls_concerning address pairs) → AreAnsweredAlike address pairs others new left
-answers_are_fixed address old other new left pairs others same run again calls each =
-    let one = is_isolated address pairs old old new (same_for-refl address old old refl) run in
-    let two = is_isolated address others other old left (turned address old other same) again in
+answers_are_fixed address old other new left pairs others same run none again none_again calls each =
+    let one = is_isolated address pairs old old new (same_for-refl address old old refl) run none in
+    let two = is_isolated address others other old left (turned address old other same) again none_again in
     let both = only_run (concerning address pairs) (concerning address others) old one.left two.left one.run two.run calls each in
     record {
       answers = both.0;

@@ -1,5 +1,6 @@
 -- A change for one address is not visible to another.
-use Rattle.std.proofs.Common.{◌≡◌, ◌≢◌, ℕ, true, false, Option, Some, None, refl, ap, ◌∙◌, cond}
+use Rattle.std.proofs.Common.{◌≡◌, ◌≢◌, ℕ, Bool, true, false, Option, Some, None, refl, ap, ◌∙◌, cond}
+use Rattle.std.specs.Prelude.{if◌then◌else◌}
 use Rattle.std.specs.FinMap as map
 use Rattle.std.specs.Ordering.{is_eq, eq_by_cmp}
 use Rattle.std.specs.declared.cmp.Ordering.{Ordering}
@@ -7,7 +8,7 @@ use Rattle.std.specs.declared.cmp.Ordering.TheVariants.{Less, Equal, Greater}
 use Rattle.std.specs.declared.net.socket_addr.SocketAddr.{SocketAddr}
 use Rattle.rand_core.specs.Stream.{Stream}
 use Rattle.stun_proto_verify.specs.Knowledge.{Outcome}
-use Rattle.stun_proto_server.specs.Server.{Client, Server, set_outcome, with_new_nonce, with_outcome, SameFor}
+use Rattle.stun_proto_server.specs.Server.{Client, Server, makes_room, room_for, set_outcome, staying_by, with_new_nonce, with_outcome, SameFor}
 use Rattle.stun_types_base.specs.SocketAddrs.{socket_addr_cmp, socket_addr_cmp_total, socket_addr_cmp-IsAntisymmetric}
 
 -- A comparison that tests as equal is `Equal`.
@@ -44,6 +45,7 @@ same_for-refl client old new same = record {
   nonce_expiry = ap (λ s. s.nonce_expiry) same;
   algorithms = ap (λ s. s.algorithms) same;
   anonymous_username = ap (λ s. s.anonymous_username) same;
+  max_clients = ap (λ s. s.max_clients) same;
   stored = ap (λ s. map.get s.clients client) same;
 }
 
@@ -56,6 +58,7 @@ same_for-is client old middle new is same = record {
   nonce_expiry = ap (λ s. s.nonce_expiry) is ∙ same.nonce_expiry;
   algorithms = ap (λ s. s.algorithms) is ∙ same.algorithms;
   anonymous_username = ap (λ s. s.anonymous_username) is ∙ same.anonymous_username;
+  max_clients = ap (λ s. s.max_clients) is ∙ same.max_clients;
   stored = ap (λ s. map.get s.clients client) is ∙ same.stored;
 }
 
@@ -67,18 +70,21 @@ removed_others old new client other is different = same_for-is other old (record
   nonce_expiry = refl;
   algorithms = refl;
   anonymous_username = refl;
+  max_clients = refl;
   stored = get-remove-other old.clients client other different;
 })
 
--- Generating a nonce for an address is not visible to other addresses.
-pub generated_others : (old new : Server) (from other : SocketAddr) (now : ℕ) (stream : Stream) → new ≡ with_new_nonce old from now stream → other ≢ from → SameFor other old new
-generated_others old new from other now stream is different = same_for-is other old (with_new_nonce old from now stream) new is (record {
+-- If no room is made for it, generating a nonce for an address is not visible to other addresses.
+pub generated_others : (old new : Server) (from other : SocketAddr) (now : ℕ) (stream : Stream) → new ≡ with_new_nonce old from now stream → other ≢ from → makes_room old from ≡ false → SameFor other old new
+generated_others old new from other now stream is different none = same_for-is other old (with_new_nonce old from now stream) new is (record {
   realm = refl;
   users = refl;
   nonce_expiry = refl;
   algorithms = refl;
   anonymous_username = refl;
-  stored = get-insert-other old.clients from other _ different;
+  max_clients = refl;
+  stored = get-insert-other (room_for old.max_clients old.clients from) from other _ different
+      ∙ ap (λ (b : Bool). map.get (if b then staying_by old.max_clients old.clients else old.clients) other) none;
 })
 
 -- Indistinguishability for an address is transitive.
@@ -89,6 +95,7 @@ same_for-then client old middle new first second = record {
   nonce_expiry = second.nonce_expiry ∙ first.nonce_expiry;
   algorithms = second.algorithms ∙ first.algorithms;
   anonymous_username = second.anonymous_username ∙ first.anonymous_username;
+  max_clients = second.max_clients ∙ first.max_clients;
   stored = second.stored ∙ first.stored;
 }
 
@@ -105,5 +112,6 @@ outcome_others old new from other outcome is different = same_for-is other old (
   nonce_expiry = refl;
   algorithms = refl;
   anonymous_username = refl;
+  max_clients = refl;
   stored = get-outcome-other old.clients from other outcome (map.get old.clients from) different;
 })

@@ -18,8 +18,8 @@ use Rattle.stun_proto_auth.specs.declared.feature.Feature.{Feature}
 use Rattle.stun_proto_server.specs.declared.validation.LongTermServerValidation.TheVariants.{Validated}
 use Rattle.stun_proto_server.specs.AuthCalls.{AuthAnswer, AuthCall, IsCalled, IsJudged, IsSignedBy}
 use Rattle.stun_proto_server.specs.AuthCalls as call
-use Rattle.stun_proto_server.specs.AuthRuns.{concerns, is_same_address}
-use Rattle.stun_proto_server.specs.Server.{SameFor, Server, refreshed, with_outcome, words_generated}
+use Rattle.stun_proto_server.specs.AuthRuns.{CallMakesNoRoom, concerns, is_same_address}
+use Rattle.stun_proto_server.specs.Server.{SameFor, Server, makes_room, refreshed, with_outcome, words_generated}
 use Rattle.stun_proto_server.specs.ServerSigning.{addition_for, class_requested, size_for}
 use Rattle.stun_proto_server.specs.ServerValidation.{after_refusal, words_of_validation}
 use Rattle.stun_proto_server.proofs.Apart.{same_for-refl, same_for-then, tie}
@@ -212,15 +212,23 @@ called_alike address a b new (call.SetExpiry expiry) answer same is called = rec
   alike = left_so address a new (record a { nonce_expiry = expiry }) (record b { nonce_expiry = expiry })
       called.2 ((sets_alike address a b same).expiry_set expiry);
 }
+called_alike address a b new call.LimitRequested answer same is called =
+    decoded_alike address a b same call.LimitRequested answer _ _ new (ap (λ (n : Option ℕ). call.Limit n) (sym same.max_clients)) called (λ x. x)
+called_alike address a b new (call.SetLimit most) answer same is called = record {
+  left = record b { max_clients = most };
+  called = (called.0, called.1, refl);
+  alike = left_so address a new (record a { max_clients = most }) (record b { max_clients = most })
+      called.2 ((sets_alike address a b same).limit_set most);
+}
 
 -- ---- a call that doesn't
 
-module _ (client other : SocketAddr) (a : Server) (different : client ≢ other) where
+module _ (client other : SocketAddr) (a : Server) (different : client ≢ other) (none : makes_room a other ≡ false) where
   -- An outcome stored for another address, after a nonce that was due, is not visible.
   outcome_unseen : (now : ℕ) (stream : Stream) (outcome : Option Outcome) → SameFor client a (with_outcome (refreshed a other now stream) other outcome)
   outcome_unseen now stream outcome =
       same_for-then client a (refreshed a other now stream) (with_outcome (refreshed a other now stream) other outcome)
-      ((leaves_alone client other a different).refreshes now stream) ((leaves_alone client other (refreshed a other now stream) different).keeps outcome)
+      ((leaves_alone client other a different).refreshes now stream none) ((leaves_alone client other (refreshed a other now stream) different).keeps outcome)
 
   refusal_unseen : (bytes : List ℕ) (now : ℕ) (stream : Stream) → SameFor client a (after_refusal a other bytes now stream)
   refusal_unseen bytes now stream =
@@ -236,15 +244,15 @@ module _ (client other : SocketAddr) (a : Server) (different : client ≢ other)
   judged_unseen bytes now stream _ new is = absurd is
 
 -- A call that does not concern an address is not visible to it.
-pub called_unseen : (address : SocketAddr) (a new : Server) (one : AuthCall) (answer : AuthAnswer) → concerns address one ≡ false → IsCalled one answer a new → SameFor address a new
-called_unseen address a new (call.Validate bytes from now stream) answer is called =
-    judged_unseen address from a (other_address_is address from is) bytes now stream answer new called
-called_unseen address a new (call.Sign draft to) answer is called = same_for-refl address a new called.2
-called_unseen address a new (call.SizeRequested to is_request) answer is called = same_for-refl address a new called.1
-called_unseen address a new (call.NonceRequested client) answer is called = same_for-refl address a new called.1
-called_unseen address a new (call.UserRequested client) answer is called = same_for-refl address a new called.1
-called_unseen address a new (call.Refresh from now stream) answer is called =
-    subst (λ (s : Server). SameFor address a s) (sym called.1) ((leaves_alone address from a (other_address_is address from is)).refreshes now stream)
-called_unseen address a new (call.RemoveClient client) answer is called =
+pub called_unseen : (address : SocketAddr) (a new : Server) (one : AuthCall) (answer : AuthAnswer) → concerns address one ≡ false → CallMakesNoRoom a one → IsCalled one answer a new → SameFor address a new
+called_unseen address a new (call.Validate bytes from now stream) answer is none called =
+    judged_unseen address from a (other_address_is address from is) none bytes now stream answer new called
+called_unseen address a new (call.Sign draft to) answer is none called = same_for-refl address a new called.2
+called_unseen address a new (call.SizeRequested to is_request) answer is none called = same_for-refl address a new called.1
+called_unseen address a new (call.NonceRequested client) answer is none called = same_for-refl address a new called.1
+called_unseen address a new (call.UserRequested client) answer is none called = same_for-refl address a new called.1
+called_unseen address a new (call.Refresh from now stream) answer is none called =
+    subst (λ (s : Server). SameFor address a s) (sym called.1) ((leaves_alone address from a (other_address_is address from is)).refreshes now stream none)
+called_unseen address a new (call.RemoveClient client) answer is none called =
     subst (λ (s : Server). SameFor address a s) (sym called.1) (leaves_alone address client a (other_address_is address client is)).forgets
-called_unseen address a new _ answer is called = absurd (Prim.cc is)
+called_unseen address a new _ answer is none called = absurd (Prim.cc is)

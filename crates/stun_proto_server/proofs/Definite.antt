@@ -140,3 +140,5 @@ called_same old (call.SetAlgorithm algorithm) answer again new other names_one a
 called_same old call.AnonymityRequested answer again new other names_one a b = decoded_same answer again _ new other _ a b
 called_same old (call.SetAnonymity feature) answer again new other names_one a b = decoded_same answer again _ new other _ a b
 called_same old (call.SetExpiry expiry) answer again new other names_one a b = (a.1 ∙ sym b.1, a.2 ∙ sym b.2)
+called_same old call.LimitRequested answer again new other names_one a b = decoded_same answer again _ new other _ a b
+called_same old (call.SetLimit most) answer again new other names_one a b = (a.1 ∙ sym b.1, a.2 ∙ sym b.2)

@@ -18,7 +18,7 @@ use Rattle.stun_proto_verify.specs.declared.error.LongTermServerAuthError.{LongT
 use Rattle.stun_proto_verify.specs.Knowledge.{Knowledge, Named, Outcome}
 use Rattle.stun_proto_verify.specs.Judgement.{IsRefused, ServerAccepts}
 use Rattle.stun_proto_server.specs.Isolation.{AnswersAlike, LeavesAlike, LeavesAlone, SetsAlike}
-use Rattle.stun_proto_server.specs.Server.{Client, SameFor, Server, has_standing_nonce, is_standing, new_client, refreshed, set_outcome, with_new_nonce, with_outcome}
+use Rattle.stun_proto_server.specs.Server.{Client, SameFor, Server, has_standing_nonce, is_standing, makes_room, new_client, room_for, refreshed, set_outcome, with_new_nonce, with_outcome}
 use Rattle.stun_proto_server.specs.ServerSigning.{Party, addition, party_at, party_by_client, party_by_outcome, party_by_password}
 use Rattle.stun_proto_server.specs.ServerValidation.{Accepts, AcceptsSome, Refuses, WantsMemory, known_of}
 use Rattle.stun_proto_server.specs.Users.{IsClaimedName, IsFound, IsUser}
@@ -32,6 +32,7 @@ turned client a b same = record {
   nonce_expiry = sym same.nonce_expiry;
   algorithms = sym same.algorithms;
   anonymous_username = sym same.anonymous_username;
+  max_clients = sym same.max_clients;
   stored = sym same.stored;
 }
 
@@ -74,7 +75,9 @@ generated_alike client a b now stream same =
       nonce_expiry = same.nonce_expiry;
       algorithms = same.algorithms;
       anonymous_username = same.anonymous_username;
-      stored = own_inserted b.clients client (new_client b now stream) ∙ ap Some new ∙ sym (own_inserted a.clients client (new_client a now stream));
+      max_clients = same.max_clients;
+      stored = own_inserted (room_for b.max_clients b.clients client) client (new_client b now stream) ∙ ap Some new
+          ∙ sym (own_inserted (room_for a.max_clients a.clients client) client (new_client a now stream));
     }
 
 by_standing : (client : SocketAddr) (a b new_a new_b : Server) (x y : Bool) → y ≡ x → SameFor client a b → SameFor client new_a new_b
@@ -96,6 +99,7 @@ stored_alike client a b outcome same = record {
   nonce_expiry = same.nonce_expiry;
   algorithms = same.algorithms;
   anonymous_username = same.anonymous_username;
+  max_clients = same.max_clients;
   stored = own_outcome b.clients client outcome (map.get b.clients client) refl
       ∙ ap (option_map (λ (stored : Client). record stored { outcome = outcome })) same.stored
       ∙ sym (own_outcome a.clients client outcome (map.get a.clients client) refl);
@@ -111,6 +115,7 @@ leaves_alike client a b same = record {
     nonce_expiry = same.nonce_expiry;
     algorithms = same.algorithms;
     anonymous_username = same.anonymous_username;
+    max_clients = same.max_clients;
     stored = own_removed b.clients client ∙ sym (own_removed a.clients client);
   };
 }
@@ -123,6 +128,7 @@ sets_alike client a b same = record {
     nonce_expiry = same.nonce_expiry;
     algorithms = same.algorithms;
     anonymous_username = same.anonymous_username;
+    max_clients = same.max_clients;
     stored = same.stored;
   };
   user_removed = λ name. record {
@@ -131,6 +137,7 @@ sets_alike client a b same = record {
     nonce_expiry = same.nonce_expiry;
     algorithms = same.algorithms;
     anonymous_username = same.anonymous_username;
+    max_clients = same.max_clients;
     stored = same.stored;
   };
   expiry_set = λ expiry. record {
@@ -139,6 +146,7 @@ sets_alike client a b same = record {
     nonce_expiry = refl;
     algorithms = same.algorithms;
     anonymous_username = same.anonymous_username;
+    max_clients = same.max_clients;
     stored = same.stored;
   };
   algorithm_added = λ algorithm. record {
@@ -147,6 +155,7 @@ sets_alike client a b same = record {
     nonce_expiry = same.nonce_expiry;
     algorithms = ap (λ all. with_algorithm all algorithm) same.algorithms;
     anonymous_username = same.anonymous_username;
+    max_clients = same.max_clients;
     stored = same.stored;
   };
   algorithm_set = λ algorithm. record {
@@ -155,6 +164,7 @@ sets_alike client a b same = record {
     nonce_expiry = same.nonce_expiry;
     algorithms = refl;
     anonymous_username = same.anonymous_username;
+    max_clients = same.max_clients;
     stored = same.stored;
   };
   anonymity_set = λ feature. record {
@@ -163,6 +173,16 @@ sets_alike client a b same = record {
     nonce_expiry = same.nonce_expiry;
     algorithms = same.algorithms;
     anonymous_username = refl;
+    max_clients = same.max_clients;
+    stored = same.stored;
+  };
+  limit_set = λ most. record {
+    realm = same.realm;
+    users = same.users;
+    nonce_expiry = same.nonce_expiry;
+    algorithms = same.algorithms;
+    anonymous_username = same.anonymous_username;
+    max_clients = refl;
     stored = same.stored;
   };
 }
@@ -259,16 +279,16 @@ answers_alike client a b same =
 
 -- ---- what others do
 
-refreshed_others : (client other : SocketAddr) (server : Server) (now : ℕ) (stream : Stream) → client ≢ other → SameFor client server (refreshed server other now stream)
-refreshed_others client other server now stream different =
+refreshed_others : (client other : SocketAddr) (server : Server) (now : ℕ) (stream : Stream) → client ≢ other → makes_room server other ≡ false → SameFor client server (refreshed server other now stream)
+refreshed_others client other server now stream different none =
     elim (has_standing_nonce server other now) as (λ b. SameFor client server (if b then server else with_new_nonce server other now stream)) [
       | true ↦ same_for-refl client server server refl
-      | false ↦ generated_others server (with_new_nonce server other now stream) other client now stream refl different
+      | false ↦ generated_others server (with_new_nonce server other now stream) other client now stream refl different none
     ]
 
 pub leaves_alone : (client other : SocketAddr) (server : Server) → client ≢ other → LeavesAlone client other server
 leaves_alone client other server different = record {
-  refreshes = λ now stream. refreshed_others client other server now stream different;
+  refreshes = λ now stream none. refreshed_others client other server now stream different none;
   keeps = λ outcome. outcome_others server (with_outcome server other outcome) other client outcome refl different;
   forgets = removed_others server (record server { clients = map.remove server.clients other }) other client refl different;
 }

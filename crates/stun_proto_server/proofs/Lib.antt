@@ -2,12 +2,16 @@ pub mod Alone
 pub mod Apart
 pub mod Calls
 pub mod Definite
+pub mod Filters
 pub mod Finding
 pub mod Isolated
 pub mod Maps
 pub mod Named
 pub mod Naming
 pub mod Registered
+pub mod StoredBefore
+pub mod Unlimited
+pub mod WithRoom
 pub mod Signed
 pub mod Texts
 pub mod Validated

@@ -13,8 +13,8 @@ use Rattle.std.specs.declared.net.socket_addr.SocketAddr.{SocketAddr}
 use Rattle.std.specs.Map.{lookup}
 use Rattle.stun_proto_verify.specs.Knowledge.{Outcome}
 use Rattle.stun_proto_server.specs.StoredKeys.{AllHaveKeys, HasKeys, IsKeyed, UpdatesUser, UserMap}
-use Rattle.stun_proto_server.specs.Server.{Client, Server, set_outcome, with_outcome}
-use Rattle.stun_proto_server.specs.View.{client_of, server_of}
+use Rattle.stun_proto_server.specs.Server.{Client, Clients, Server, room_for, set_outcome, with_outcome}
+use Rattle.stun_proto_server.specs.View.{client_of, clients_of, server_of}
 use Rattle.stun_proto_server.specs.declared.long_term.ClientRecord.{ClientRecord}
 use Rattle.stun_proto_server.specs.declared.long_term.LongTermServerAuth.TheInside.{Inside}
 use Rattle.stun_types_base.proofs.MapView.{get-finite_map, insert-finite_map, remove-finite_map}
@@ -38,6 +38,14 @@ insert-clients s new server client stored view_is updates =
     ap {A = map.FinMap socket_addr_cmp Client} {B = Server} (λ m. record (server_of s) { clients = m })
     (insert-finite_map (λ key. key) socket_addr_cmp_total client_of socket_addr_cmp-IsAntisymmetric s.clients new client stored updates.0)
     ∙ ap {A = Server} {B = Server} (λ v. record v { clients = map.insert v.clients client (client_of stored) }) view_is
+
+-- Storing for an address within a limit stores it at the server.
+pub room-clients : (s : Inside) (new : tree.BTreeMap SocketAddr ClientRecord) (server : Server) (client : SocketAddr) (stored : ClientRecord)
+    → server_of s ≡ server → clients_of new ≡ map.insert (room_for s.max_clients (clients_of s.clients) client) client (client_of stored)
+    → server_of (record s { clients = new }) ≡ record server { clients = map.insert (room_for server.max_clients server.clients client) client (client_of stored) }
+room-clients s new server client stored view_is put =
+    ap {A = Clients} {B = Server} (λ m. record (server_of s) { clients = m }) put
+    ∙ ap {A = Server} {B = Server} (λ v. record v { clients = map.insert (room_for v.max_clients v.clients client) client (client_of stored) }) view_is
 
 -- Removing an address from the fields removes it from the server.
 pub remove-clients : (s : Inside) (new : tree.BTreeMap SocketAddr ClientRecord) (server : Server) (client : SocketAddr)

@@ -1,6 +1,6 @@
 -- The calls of a server's authenticator, their results, and the state that they leave, if no allocation fails
 -- (RFC 8489, section 9.2). Each definition states what the call's contract states.
-use Rattle.std.specs.Prelude.{◌≡◌, ◌≢◌, ◌≤◌, ◌*◌, ℕ, Bool, List, [], ◌∷◌, Option, Some, None, IsSomeAnd}
+use Rattle.std.specs.Prelude.{◌≡◌, ◌≢◌, ◌≤◌, ◌*◌, ℕ, Bool, List, [], ◌∷◌, Option, Some, None, IfSome, IsSomeAnd}
 use Rattle.std.specs.FinMap as map
 use Rattle.std.specs.declared.net.socket_addr.SocketAddr.{SocketAddr}
 use Rattle.rand_core.specs.Stream.{Stream}
@@ -62,6 +62,10 @@ pub data AuthCall : Type 0 where
   SetAnonymity : (feature : Feature) → AuthCall
   -- `set_nonce_expiry_duration`, in nanoseconds
   SetExpiry : (expiry : ℕ) → AuthCall
+  -- `max_clients`
+  LimitRequested : AuthCall
+  -- `set_max_clients`
+  SetLimit : (most : Option ℕ) → AuthCall
 
 -- The result of a call. If the call can generate random words, it includes the remaining stream.
 pub data AuthAnswer : Type 0 where
@@ -77,6 +81,7 @@ pub data AuthAnswer : Type 0 where
   Realm : (realm : List ℕ) → AuthAnswer
   Algorithms : (algorithms : List IntegrityAlgorithm) → AuthAnswer
   Anonymity : (feature : Feature) → AuthAnswer
+  Limit : (most : Option ℕ) → AuthAnswer
 
 -- ---- the result of a call, and the state after it
 
@@ -137,3 +142,6 @@ IsCalled (SetAnonymity feature) answer old new =
     (answer ≡ Done) × (new ≡ record old { anonymous_username = feature })
 IsCalled (SetExpiry expiry) answer old new =
     (MIN_NONCE_EXPIRY * 1_000_000_000 ≤ expiry) × (answer ≡ Done) × (new ≡ record old { nonce_expiry = expiry })
+IsCalled LimitRequested answer old new = IsReported answer (Limit old.max_clients) old new
+IsCalled (SetLimit most) answer old new =
+    IfSome most (λ n. 1 ≤ n) × (answer ≡ Done) × (new ≡ record old { max_clients = most })

@@ -1,13 +1,14 @@
 -- Runs of an authenticator's calls, and the part of a run that concerns one address (RFC 8489, section 9.2).
-use Rattle.std.specs.Prelude.{◌≡◌, Bool, true, List, [], ◌∷◌, filter, map}
+use Rattle.std.specs.Prelude.{◌≡◌, Bool, true, false, List, [], ◌∷◌, None, filter, map}
 use Rattle.std.specs.FinMap as finite
+use Rattle.std.specs.List.{AllByRecursion}
 use Rattle.std.specs.Ordering.{eq_by_cmp}
 use Rattle.std.specs.declared.net.socket_addr.SocketAddr.{SocketAddr}
 use Rattle.stun_types_base.specs.SocketAddrs.{socket_addr_cmp}
 use Rattle.stun_proto_auth.specs.Claims.{claimed}
 use Rattle.stun_proto_server.specs.AuthCalls.{AuthAnswer, AuthCall, IsCalled}
 use Rattle.stun_proto_server.specs.AuthCalls as call
-use Rattle.stun_proto_server.specs.Server.{SameFor, Server}
+use Rattle.stun_proto_server.specs.Server.{SameFor, Server, makes_room}
 use Rattle.stun_proto_server.specs.Users.{NamesOne}
 
 -- A run: pairs of a call and its result. Each call is made on the server that the previous call left, and
@@ -33,6 +34,28 @@ concerns address (call.UserRequested client) = is_same_address address client
 concerns address (call.Refresh from now stream) = is_same_address address from
 concerns address (call.RemoveClient client) = is_same_address address client
 concerns address _ = true
+
+-- A call generates no nonce for which room has to be made.
+abbrev pub CallMakesNoRoom : Server → AuthCall → Type 0
+CallMakesNoRoom server (call.Validate bytes from now stream) = makes_room server from ≡ false
+CallMakesNoRoom server (call.Refresh from now stream) = makes_room server from ≡ false
+CallMakesNoRoom server _ = Unit {0}
+
+-- In a run, no call that does not concern an address makes room.
+unfoldable pub MakeNoRoom : SocketAddr → (old : Server) (pairs : List (AuthCall × AuthAnswer)) (new : Server) → IsAuthRun old pairs new → Type 0
+unfolding IsAuthRun
+MakeNoRoom address old [] new run = Unit {0}
+MakeNoRoom address old (pair ∷ pairs) new run =
+    (concerns address pair.0 ≡ false → CallMakesNoRoom old pair.0) × MakeNoRoom address run.0 pairs new run.2
+
+-- A call sets no limit on addresses.
+abbrev pub CallSetsNoLimit : AuthCall → Type 0
+CallSetsNoLimit (call.SetLimit most) = most ≡ None
+CallSetsNoLimit _ = Unit {0}
+
+-- No call sets a limit on addresses.
+abbrev pub SetNoLimit : List (AuthCall × AuthAnswer) → Type 0
+SetNoLimit pairs = AllByRecursion (λ pair. CallSetsNoLimit pair.0) pairs
 
 -- The calls that concern an address, in order, each with its result.
 abbrev pub concerning : SocketAddr → List (AuthCall × AuthAnswer) → List (AuthCall × AuthAnswer)

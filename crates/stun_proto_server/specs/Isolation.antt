@@ -1,6 +1,6 @@
 -- How two servers that an address can't distinguish respond to it, and what calls leave of them (RFC 8489,
 -- section 9.2).
-use Rattle.std.specs.Prelude.{◌≡◌, ◌↔◌, ℕ, List, [], ◌∷◌, Option}
+use Rattle.std.specs.Prelude.{◌≡◌, ◌↔◌, ℕ, false, List, [], ◌∷◌, Option}
 use Rattle.std.specs.FinMap as map
 use Rattle.std.specs.declared.net.socket_addr.SocketAddr.{SocketAddr}
 use Rattle.rand_core.specs.Stream.{Stream}
@@ -10,7 +10,7 @@ use Rattle.stun_proto_auth.specs.SupportedAlgorithms.{with_algorithm}
 use Rattle.stun_proto_auth.specs.declared.feature.Feature.{Feature}
 use Rattle.stun_proto_verify.specs.declared.error.LongTermServerAuthError.{LongTermServerAuthError}
 use Rattle.stun_proto_verify.specs.Knowledge.{Outcome}
-use Rattle.stun_proto_server.specs.Server.{SameFor, Server, nonce_at, outcome_at, refreshed, with_outcome, words_generated}
+use Rattle.stun_proto_server.specs.Server.{SameFor, Server, makes_room, nonce_at, outcome_at, refreshed, with_outcome, words_generated}
 use Rattle.stun_proto_server.specs.ServerSigning.{addition_for}
 use Rattle.stun_proto_server.specs.ServerValidation.{Accepts, Refuses, WantsMemory}
 
@@ -54,9 +54,12 @@ pub record SetsAlike (client : SocketAddr) (a b : Server) : Type 0 where
       → SameFor client (record a { algorithms = algorithm ∷ [] }) (record b { algorithms = algorithm ∷ [] })
   pub anonymity_set : (feature : Feature) → SameFor client (record a { anonymous_username = feature })
       (record b { anonymous_username = feature })
+  pub limit_set : (most : Option ℕ) → SameFor client (record a { max_clients = most }) (record b { max_clients = most })
 
--- An address can't distinguish a server from what calls for another address make of it.
+-- An address can't distinguish a server from what calls for another address make of it, if a nonce for that one
+-- makes no room.
 pub record LeavesAlone (client other : SocketAddr) (server : Server) : Type 0 where
-  pub refreshes : (now : ℕ) (stream : Stream) → SameFor client server (refreshed server other now stream)
+  pub refreshes : (now : ℕ) (stream : Stream) → makes_room server other ≡ false
+      → SameFor client server (refreshed server other now stream)
   pub keeps : (outcome : Option Outcome) → SameFor client server (with_outcome server other outcome)
   pub forgets : SameFor client server (record server { clients = map.remove server.clients other })

@@ -3,6 +3,7 @@ pub mod AuthRuns
 pub mod Isolation
 pub mod StoredKeys
 pub mod StoredUsers
+pub mod Rooms
 pub mod Server
 pub mod ServerSigning
 pub mod ServerValidation

@@ -1,5 +1,5 @@
 -- What contracts see of a server's side of long-term authentication.
-use Rattle.std.specs.Prelude.{◌≡◌, ℕ, nat_lt, Bool, false, if◌then◌else◌, List, Option, None, Some, refl}
+use Rattle.std.specs.Prelude.{◌≡◌, ℕ, ◌/◌, nat_lt, Bool, ◌&&◌, not, false, if◌then◌else◌, is_some, List, Option, None, Some, refl}
 use Rattle.std.specs.Cmp.Lexicographic.{slice_cmp}
 use Rattle.std.specs.Coded.{Coded, code_by, coded×, coded_ℕ, coded_list, coded_option}
 use Rattle.std.specs.FinMap as map
@@ -26,8 +26,13 @@ pub record Client : Type 0 where
   pub generated : ℕ
   pub outcome : Option Outcome
 
+-- What is stored for all addresses.
+abbrev pub Clients : Type 0
+Clients = map.FinMap socket_addr_cmp Client
+
 -- A server: the realm, each user's password by name, what is stored for each address, the lifetime of a nonce
--- in nanoseconds, the algorithms that it supports, and its setting for hashed names.
+-- in nanoseconds, the algorithms that it supports, its setting for hashed names, and for how many addresses it
+-- stores something, if that is limited.
 pub record Server : Type 0 where
   pub realm : List ℕ
   pub users : map.FinMap (slice_cmp nat_cmp) (List ℕ)
@@ -35,6 +40,7 @@ pub record Server : Type 0 where
   pub nonce_expiry : ℕ
   pub algorithms : List IntegrityAlgorithm
   pub anonymous_username : Feature
+  pub max_clients : Option ℕ
 
 -- The encoding of an outcome.
 abbrev pub outcome_code : Coded Outcome
@@ -60,17 +66,31 @@ clients_code = map.code addr.the_row.coded client_code
 abbrev pub server_code : Coded Server
 server_code =
     code_by (List ℕ × (map.FinMap (slice_cmp nat_cmp) (List ℕ)
-    × (map.FinMap socket_addr_cmp Client × (ℕ × (List IntegrityAlgorithm × Feature)))))
+    × (map.FinMap socket_addr_cmp Client × (ℕ × (List IntegrityAlgorithm × (Feature × Option ℕ))))))
     (coded× (coded_list coded_ℕ) (coded× users_code (coded× clients_code
-    (coded× coded_ℕ (coded× (coded_list algorithm.the_row.coded) feature.the_row.coded)))))
-    (λ s. (s.realm, (s.users, (s.clients, (s.nonce_expiry, (s.algorithms, s.anonymous_username))))))
+    (coded× coded_ℕ (coded× (coded_list algorithm.the_row.coded)
+    (coded× feature.the_row.coded (coded_option coded_ℕ)))))))
+    (λ s. (
+      s.realm,
+      (
+        s.users,
+        (
+          s.clients,
+          (
+            s.nonce_expiry,
+            (s.algorithms, (s.anonymous_username, s.max_clients)),
+          ),
+        ),
+      ),
+    ))
     (λ p. record {
       realm = p.0;
       users = p.1.0;
       clients = p.1.1.0;
       nonce_expiry = p.1.1.1.0;
       algorithms = p.1.1.1.1.0;
-      anonymous_username = p.1.1.1.1.1;
+      anonymous_username = p.1.1.1.1.1.0;
+      max_clients = p.1.1.1.1.1.1;
     })
     (λ _. refl)
 
@@ -91,6 +111,43 @@ is_standing expiry now (Some stored) = nat_lt now (time_after stored.generated e
 abbrev pub has_standing_nonce : Server → SocketAddr → ℕ → Bool
 has_standing_nonce server client now = is_standing server.nonce_expiry now (map.get server.clients client)
 
+-- ---- room for one more address
+
+-- Whether the last message from an address was validated.
+abbrev pub is_validated : Option Client → Bool
+is_validated found = is_some (option_and_then (λ (stored : Client). stored.outcome) found)
+
+-- The clients whose last message was validated.
+abbrev pub validated_clients : Clients → Clients
+validated_clients clients = map.retain_keys clients (λ address. is_validated (map.get clients address))
+
+-- The clients that stay when room is made under a limit: those whose last message was validated or, if they
+-- are more than half of the limit, none.
+abbrev pub staying : ℕ → Clients → Clients
+staying most clients = if nat_lt (most / 2) (map.len (validated_clients clients)) then map.empty
+    else validated_clients clients
+
+abbrev pub staying_by : Option ℕ → Clients → Clients
+staying_by None clients = clients
+staying_by (Some most) clients = staying most clients
+
+-- Whether an address can't be added within a limit: nothing is stored for it, and the limit is reached.
+abbrev pub is_full : Option ℕ → Clients → SocketAddr → Bool
+is_full None clients address = false
+is_full (Some most) clients address =
+    not (map.contains_key clients address) && not (nat_lt (map.len clients) most)
+
+-- The clients, once there is room for an address.
+abbrev pub room_for : Option ℕ → Clients → SocketAddr → Clients
+room_for most clients address = if is_full most clients address then staying_by most clients else clients
+
+-- Whether a nonce for an address makes room, for which what is stored for others is removed. Without a limit
+-- it never does.
+abbrev pub makes_room : Server → SocketAddr → Bool
+makes_room server from = is_full server.max_clients server.clients from
+
+-- ---- nonces
+
 -- What is stored when a nonce is generated at `now`: the nonce made from the next words of the stream, which
 -- announces the server's features.
 abbrev pub new_client : Server → ℕ → Stream → Client
@@ -100,10 +157,10 @@ new_client server now stream = record {
   outcome = None;
 }
 
--- The server with a new nonce for an address.
+-- The server with a new nonce for an address, for which room is made first if need be.
 abbrev pub with_new_nonce : Server → SocketAddr → ℕ → Stream → Server
 with_new_nonce server from now stream = record server {
-  clients = map.insert server.clients from
+  clients = map.insert (room_for server.max_clients server.clients from) from
       (new_client server now stream);
 }
 
@@ -137,4 +194,5 @@ pub record SameFor (client : SocketAddr) (old new : Server) : Type 0 where
   pub nonce_expiry : new.nonce_expiry ≡ old.nonce_expiry
   pub algorithms : new.algorithms ≡ old.algorithms
   pub anonymous_username : new.anonymous_username ≡ old.anonymous_username
+  pub max_clients : new.max_clients ≡ old.max_clients
   pub stored : map.get new.clients client ≡ map.get old.clients client

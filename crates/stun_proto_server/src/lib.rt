@@ -6,5 +6,6 @@ pub mod laws;
 pub mod long_term;
 pub mod outgoing;
 mod party;
+mod room;
 mod users;
 pub mod validation;

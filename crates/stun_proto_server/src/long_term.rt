@@ -1,6 +1,6 @@
 //! The server's side of long-term credentials: its users, and a nonce for each client address.
 
-ghost use Rattle.std.specs.Prelude.{◌≡◌, ◌≢◌, ◌*◌, ◌≤◌, nat_lt, length, [], ◌∷◌, Ok, Some, IfOk, IfSome, OnOk, OnErr, MatchOption, IsTrue};
+ghost use Rattle.std.specs.Prelude.{◌≡◌, ◌≢◌, ◌*◌, ◌≤◌, nat_lt, length, [], ◌∷◌, false, None, Ok, Some, IfOk, IfSome, OnOk, OnErr, MatchOption, IsTrue};
 ghost use Rattle.std.specs.BTreeMap as tree;
 ghost use Rattle.std.specs.Duration.{as_nanos};
 ghost use Rattle.std.specs.FinMap as map;
@@ -15,11 +15,12 @@ ghost use Rattle.stun_types_base.specs.GeneratorWords.{stream_after};
 ghost use Rattle.stun_types_wire.specs.Registry.{longest_text};
 ghost use Rattle.stun_types_wire.specs.declared.algorithm.IntegrityAlgorithm.TheVariants.{Sha1};
 ghost use Rattle.stun_proto_auth.specs.declared.feature.Feature.TheVariants.{Auto};
-ghost use Rattle.stun_proto_server.specs.Server.{nonce_at, has_standing_nonce, outcome_at, words_generated, with_new_nonce, with_outcome, refreshed, SameFor};
+ghost use Rattle.stun_proto_server.specs.Server.{nonce_at, has_standing_nonce, outcome_at, words_generated, with_new_nonce, with_outcome, makes_room, refreshed, SameFor};
 ghost use Rattle.stun_proto_server.specs.StoredKeys.{HasKeys, IsKeyed};
 ghost use Rattle.stun_proto_server.specs.Users.{IsFound, IsFoundBy};
 ghost use Rattle.stun_types_auth_attributes.specs.Userhashes.{userhash_of};
 
+use crate::room::put_within;
 use crate::users::{KeyedUser, Users};
 use rand_core::Rng;
 use std::alloc::Global;
@@ -46,10 +47,10 @@ pub const MIN_NONCE_EXPIRY: u64 = 30;
 
 /// What a server stores for one client address.
 #[derive(Debug, Drop)]
-struct ClientRecord {
-    nonce: ServerNonce,
-    generated: Instant,
-    outcome: Option<ValidatedUser>,
+pub(crate) struct ClientRecord {
+    pub(crate) nonce: ServerNonce,
+    pub(crate) generated: Instant,
+    pub(crate) outcome: Option<ValidatedUser>,
 }
 
 /// The server's side of long-term authentication: a realm, its users, and a record for each client
@@ -66,6 +67,7 @@ pub struct LongTermServerAuth {
     nonce_expiry: Duration,
     supported: SupportedIntegrity,
     anonymous_username: Feature,
+    max_clients: Option<usize>,
 }
 
 impl Model for LongTermServerAuth {
@@ -92,7 +94,8 @@ impl Model for LongTermServerAuth {
 
 impl LongTermServerAuth {
     /// Creates a server for a realm, without users. It supports only `Sha1`, accepts hashed names,
-    /// and its nonces are valid for an hour. The realm is at most 763 bytes long (RFC 8489, section
+    /// its nonces are valid for an hour, and for how many addresses it stores something is not
+    /// limited. The realm is at most 763 bytes long (RFC 8489, section
     /// 14.9). The server stores the allocator, and has allocated nothing of its own yet.
     pub fn new(alloc: Global, realm: String) -> Self
         requires { length (string_bytes realm) ≤ longest_text }
@@ -103,6 +106,7 @@ impl LongTermServerAuth {
           nonce_expiry = 3_600_000_000_000;
           algorithms = Sha1 ∷ [];
           anonymous_username = Auto;
+          max_clients = None;
         } }
     {
         LongTermServerAuth {
@@ -113,6 +117,7 @@ impl LongTermServerAuth {
             nonce_expiry: Duration::from_secs(3600),
             supported: SupportedIntegrity::only(IntegrityAlgorithm::Sha1),
             anonymous_username: Feature::Auto,
+            max_clients: None,
         }
     }
 
@@ -207,6 +212,25 @@ impl LongTermServerAuth {
         self.anonymous_username = feature;
     }
 
+    /// Returns for how many addresses something is stored at most; `None` means any number.
+    pub fn max_clients(&self) -> Option<usize>
+        ensures { result ≡ self.now.max_clients }
+    {
+        self.max_clients
+    }
+
+    /// Limits for how many addresses something is stored; `None` means any number. The limit has to
+    /// be at least 1. It is checked when a nonce is generated for an address for which nothing is
+    /// stored: if the limit is reached, everything is removed that is stored for addresses whose
+    /// last message was not validated and, if more than half of the limit are left, for all others
+    /// too. An address for which this is removed gets a new nonce with its next message.
+    pub fn set_max_clients(&mut self, most: Option<usize>)
+        requires { IfSome most (λ most. 1 ≤ most) }
+        ensures { self.new ≡ record self.old { max_clients = most } }
+    {
+        self.max_clients = most;
+    }
+
     /// Sets how long a nonce is valid; it applies to nonces that are stored already too. The
     /// duration has to be at least `MIN_NONCE_EXPIRY` seconds.
     pub fn set_nonce_expiry_duration(&mut self, duration: Duration)
@@ -238,7 +262,8 @@ impl LongTermServerAuth {
 
     /// Generates a nonce for a client if none is stored for it, or if the stored one has expired. A
     /// nonce expires when `now` reaches the time of its generation plus the configured duration.
-    /// Otherwise nothing changes, and no random word is generated.
+    /// Otherwise nothing changes, and no random word is generated. Room is made first, as
+    /// `set_max_clients` says, if nothing is stored for the client and the limit is reached.
     ///
     /// # Errors
     ///
@@ -256,7 +281,8 @@ impl LongTermServerAuth {
         ensures ok { OnOk result (self.new ≡ refreshed self.old from now (R.stream rng.old)) }
         ensures err { OnErr result (self.new ≡ self.old) }
         ensures standing { IsTrue (has_standing_nonce self.old from now) → result ≡ Ok tt }
-        ensures others { (other : SocketAddr) → other ≢ from → SameFor other self.old self.new }
+        ensures others { (other : SocketAddr) → other ≢ from → makes_room self.old from ≡ false
+            → SameFor other self.old self.new }
     {
         if self.has_standing_nonce(from, now) {
             return Ok(());
@@ -284,19 +310,18 @@ impl LongTermServerAuth {
         ensures stream { R.stream rng.new ≡ stream_after NONCE_WORDS (R.stream rng.old) }
         ensures ok { OnOk result (self.new ≡ with_new_nonce self.old from now (R.stream rng.old)) }
         ensures err { OnErr result (self.new ≡ self.old) }
-        ensures others { (other : SocketAddr) → other ≢ from → SameFor other self.old self.new }
+        ensures others { (other : SocketAddr) → other ≢ from → makes_room self.old from ≡ false
+            → SameFor other self.old self.new }
     {
         let words: [u32; NONCE_WORDS] = draw_words(rng);
         let features = NonceFeatures::offered(self.supported, self.anonymous_username);
         let nonce = write_nonce(self.alloc, features, &words)?;
-        self.clients.insert(
-            from,
-            ClientRecord {
-                nonce,
-                generated: now,
-                outcome: None,
-            },
-        )?;
+        let stored = ClientRecord {
+            nonce,
+            generated: now,
+            outcome: None,
+        };
+        put_within(&mut self.clients, self.max_clients, from, stored)?;
         Ok(())
     }
 

@@ -6,7 +6,7 @@ ghost use Rattle.stun_types_wire.specs.declared.algorithm.IntegrityAlgorithm.{In
 ghost use Rattle.stun_types_base.specs.GeneratorWords.{stream_after};
 ghost use Rattle.stun_proto_auth.specs.Claims.{claimed};
 ghost use Rattle.stun_proto_verify.specs.Judgement.{is_response};
-ghost use Rattle.stun_proto_server.specs.Server.{SameFor, refreshed, with_outcome};
+ghost use Rattle.stun_proto_server.specs.Server.{SameFor, makes_room, refreshed, with_outcome};
 ghost use Rattle.stun_proto_server.specs.ServerValidation.{Accepts, AcceptsSome, IsAfterNoMemory, IsValidated, Refuses, WantsMemory, after_refusal, words_of_validation};
 ghost use Rattle.stun_proto_server.specs.Users.{NamesOne};
 
@@ -85,7 +85,8 @@ impl LongTermServerAuth {
             × IsAfterNoMemory self.old from now (R.stream rng.old) self.new) }
         ensures stream { R.stream rng.new ≡ stream_after
             (words_of_validation self.old from message.now now) (R.stream rng.old) }
-        ensures others { (other : SocketAddr) → other ≢ from → SameFor other self.old self.new }
+        ensures others { (other : SocketAddr) → other ≢ from → makes_room self.old from ≡ false
+            → SameFor other self.old self.new }
     {
         if message.is_response() {
             return Err(LongTermServerAuthError::BadRequest);

@@ -1,6 +1,6 @@
 //! One call per function, as a step of a run.
 
-ghost use Rattle.std.specs.Prelude.{◌≡◌, ◌≢◌, ◌≤◌, ◌*◌, MatchResult, OnOk};
+ghost use Rattle.std.specs.Prelude.{◌≡◌, ◌≢◌, ◌≤◌, ◌*◌, IfSome, MatchResult, OnOk};
 ghost use Rattle.std.specs.Duration.{as_nanos};
 ghost use Rattle.std.specs.Option.{option_copied};
 ghost use Rattle.stun_types_write.specs.Adding.{IsStarted};
@@ -166,4 +166,19 @@ pub fn set_expiry(server: &mut LongTermServerAuth, duration: Duration)
     ensures { IsCalled (call.SetExpiry (as_nanos duration)) call.Done server.old server.new }
 {
     server.set_nonce_expiry_duration(duration);
+}
+
+/// Calls `max_clients`.
+pub fn limit(server: &LongTermServerAuth) -> Option<usize>
+    ensures { IsCalled call.LimitRequested (call.Limit result) server.now server.now }
+{
+    server.max_clients()
+}
+
+/// Calls `set_max_clients`.
+pub fn set_limit(server: &mut LongTermServerAuth, most: Option<usize>)
+    requires { IfSome most (λ most. 1 ≤ most) }
+    ensures { IsCalled (call.SetLimit most) call.Done server.old server.new }
+{
+    server.set_max_clients(most);
 }

@@ -1,5 +1,5 @@
 -- A client and a server core as they are made from settings.
-use Rattle.std.specs.Prelude.{List, [], ◌∷◌}
+use Rattle.std.specs.Prelude.{List, [], ◌∷◌, None}
 use Rattle.std.specs.FinMap as map
 use Rattle.stun_types_wire.specs.declared.algorithm.IntegrityAlgorithm.{IntegrityAlgorithm}
 use Rattle.stun_types_wire.specs.declared.algorithm.IntegrityAlgorithm.TheVariants.{Sha1, Sha256, Sha512}
@@ -33,4 +33,5 @@ server_of s = record {
   nonce_expiry = 3_600_000_000_000;
   algorithms = algorithms_of s.others;
   anonymous_username = s.takes;
+  max_clients = None;
 }

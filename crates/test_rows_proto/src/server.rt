@@ -1,5 +1,7 @@
 //! Lines for a server's authenticator.
 
+ghost use Rattle.std.specs.Prelude.{◌≤◌, IfSome};
+
 use crate::client::account;
 use crate::line::Line;
 use crate::party::Party;
@@ -61,6 +63,7 @@ fn set_up(
         "set" => server.set_supported_integrity(line.algorithm),
         "add" => server.add_supported_integrity(line.algorithm),
         "names" => server.set_anonymous_username(line.anonymity),
+        "limit" => server.set_max_clients(limit(line.length)),
         "expiry" => {
             if line.following.as_nanos() < Duration::from_secs(MIN_NONCE_EXPIRY).as_nanos() {
                 return Err(LineError::Bad);
@@ -70,6 +73,16 @@ fn set_up(
         _ => return Err(LineError::Bad),
     }
     Ok(())
+}
+
+/// Returns the limit on addresses that a length stands for: none for 0.
+fn limit(length: u16) -> Option<usize>
+    ensures { IfSome result (λ most. 1 ≤ most) }
+{
+    match length {
+        0 => None,
+        most => Some(usize::from(most)),
+    }
 }
 
 /// Appends a server's settings.

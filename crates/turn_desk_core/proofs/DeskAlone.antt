@@ -4,9 +4,9 @@ use Rattle.std.proofs.lemmas.List.{append-nil}
 use Rattle.std.specs.declared.net.socket_addr.SocketAddr.{SocketAddr}
 use Rattle.rand_core.specs.Stream.{Stream}
 use Rattle.stun_proto_server.specs.AuthCalls.{AuthCall}
-use Rattle.stun_proto_server.specs.AuthRuns.{concerns as concerns_auth, is_same_address}
+use Rattle.stun_proto_server.specs.AuthRuns.{CallMakesNoRoom, concerns as concerns_auth, is_same_address}
 use Rattle.stun_proto_verify.specs.Knowledge.{Outcome}
-use Rattle.stun_proto_server.specs.Server.{SameFor, Server, refreshed, with_outcome}
+use Rattle.stun_proto_server.specs.Server.{SameFor, Server, makes_room, refreshed, with_outcome}
 use Rattle.stun_proto_server.proofs.Alone.{bool_is, filter_no, filter_yes}
 use Rattle.stun_proto_server.proofs.Apart.{same_for-refl, same_for-then}
 use Rattle.stun_proto_server.proofs.Calls.{called_alike, called_unseen, other_address_is, same_address_is}
@@ -16,7 +16,7 @@ use Rattle.turn_desk_core.specs.declared.decision.Decision.{Decision}
 use Rattle.turn_desk_core.specs.declared.grant.Grant as granted
 use Rattle.turn_desk_core.specs.declared.verdict.Verdict.{Verdict}
 use Rattle.turn_desk_core.specs.declared.verdict.Verdict.TheVariants.{Fails, Allocates, Refreshes, Permits, Binds, Connects, Joins}
-use Rattle.turn_desk_core.specs.DeskCalls.{AreAlike, IsAuthCalled, IsHandled, IsHandledBy, IsServerCalled, IsServerRun, ServerAnswer, ServerCall, IsIsolated, concerning, concerns, grants_to}
+use Rattle.turn_desk_core.specs.DeskCalls.{AreAlike, IsAuthCalled, IsHandled, IsHandledBy, IsServerCalled, IsServerRun, MakeNoRoom, ServerAnswer, ServerCall, ServerMakesNoRoom, IsIsolated, concerning, concerns, grants_to}
 use Rattle.turn_desk_core.specs.DeskCalls as call
 use Rattle.turn_desk_core.specs.State.{State}
 use Rattle.turn_desk_core.specs.Steps.{IsAnswer}
@@ -65,20 +65,20 @@ more_alike address a b more new left same here there =
 
 -- ---- other addresses
 
-outcome_unseen : (other from : SocketAddr) (old new : Server) (now : ℕ) (stream : Stream) (outcome : Option Outcome) → other ≢ from
+outcome_unseen : (other from : SocketAddr) (old new : Server) (now : ℕ) (stream : Stream) (outcome : Option Outcome) → other ≢ from → makes_room old from ≡ false
     → new ≡ with_outcome (refreshed old from now stream) from outcome → SameFor other old new
-outcome_unseen other from old new now stream outcome different is =
+outcome_unseen other from old new now stream outcome different none is =
     subst (λ (s : Server). SameFor other old s) (sym is)
     (same_for-then other old (refreshed old from now stream) (with_outcome (refreshed old from now stream) from outcome)
-    ((leaves_alone other from old different).refreshes now stream) ((leaves_alone other from (refreshed old from now stream) different).keeps outcome))
+    ((leaves_alone other from old different).refreshes now stream none) ((leaves_alone other from (refreshed old from now stream) different).keeps outcome))
 
 -- A reply to one address changes nothing that other addresses can observe of the authenticator.
 answer_unseen : (old new : State) (from : SocketAddr) (bytes : List ℕ) (now : ℕ) (stream : Stream) (decision : Decision) (reply : List ℕ) → IsAnswer old from bytes now stream decision reply new
-    → (other : SocketAddr) → other ≢ from → SameFor other old.auth new.auth
-answer_unseen old new from bytes now stream decision reply (inl away) other different =
-    outcome_unseen other from old.auth new.auth now stream None different away.judged.after
-answer_unseen old new from bytes now stream decision reply (inr v) other different =
-    outcome_unseen other from old.auth new.auth now stream (Some (record { name = v.name; algorithm = v.algorithm })) different v.judged.after
+    → (other : SocketAddr) → other ≢ from → makes_room old.auth from ≡ false → SameFor other old.auth new.auth
+answer_unseen old new from bytes now stream decision reply (inl away) other different none =
+    outcome_unseen other from old.auth new.auth now stream None different none away.judged.after
+answer_unseen old new from bytes now stream decision reply (inr v) other different none =
+    outcome_unseen other from old.auth new.auth now stream (Some (record { name = v.name; algorithm = v.algorithm })) different none v.judged.after
 
 -- ---- one call
 
@@ -145,26 +145,26 @@ served_alike address a b new (call.Handle bytes from now decision stream) answer
 served_alike address a b new (call.Auth one) answer same own is = auth_alike address a b new one answer same own is
 
 -- Another address's request changes nothing that the address can observe.
-handled_unseen : (address from : SocketAddr) (a new : State) (bytes : List ℕ) (now : ℕ) (decision : Decision) (stream : Stream) (answer : ServerAnswer) → is_same_address address from ≡ false
+handled_unseen : (address from : SocketAddr) (a new : State) (bytes : List ℕ) (now : ℕ) (decision : Decision) (stream : Stream) (answer : ServerAnswer) → is_same_address address from ≡ false → makes_room a.auth from ≡ false
     → IsHandledBy answer a bytes from now decision stream new → AreAlike address a new
-handled_unseen address from a new bytes now decision stream (call.Reply reply) isnt is = record {
-  auth = is.others address (other_address_is address from isnt);
+handled_unseen address from a new bytes now decision stream (call.Reply reply) isnt none is = record {
+  auth = is.others address (other_address_is address from isnt) none;
   grants = answer_grants address a new from bytes now stream decision reply isnt is.answer;
 }
-handled_unseen address from a new bytes now decision stream call.NoReply isnt is = subst (λ (d : State). AreAlike address a d) (sym is.1) (alike-refl address a)
-handled_unseen address from a new bytes now decision stream (call.Reported answer) isnt is = absurd is
+handled_unseen address from a new bytes now decision stream call.NoReply isnt none is = subst (λ (d : State). AreAlike address a d) (sym is.1) (alike-refl address a)
+handled_unseen address from a new bytes now decision stream (call.Reported answer) isnt none is = absurd is
 
-auth_unseen : (address : SocketAddr) (a new : State) (one : AuthCall) (answer : ServerAnswer) → concerns_auth address one ≡ false → IsAuthCalled answer one a new → AreAlike address a new
-auth_unseen address a new one (call.Reported answer) isnt is = record {
-  auth = called_unseen address a.auth new.auth one answer isnt is.0;
+auth_unseen : (address : SocketAddr) (a new : State) (one : AuthCall) (answer : ServerAnswer) → concerns_auth address one ≡ false → CallMakesNoRoom a.auth one → IsAuthCalled answer one a new → AreAlike address a new
+auth_unseen address a new one (call.Reported answer) isnt none is = record {
+  auth = called_unseen address a.auth new.auth one answer isnt none is.0;
   grants = ap (grants_to address) is.1;
 }
-auth_unseen address a new one _ isnt is = absurd is
+auth_unseen address a new one _ isnt none is = absurd is
 
 -- A call that does not concern the address changes nothing that it can observe.
-served_unseen : (address : SocketAddr) (a new : State) (one : ServerCall) (answer : ServerAnswer) → concerns address one ≡ false → IsServerCalled one answer a new → AreAlike address a new
-served_unseen address a new (call.Handle bytes from now decision stream) answer isnt is = handled_unseen address from a new bytes now decision stream answer isnt is
-served_unseen address a new (call.Auth one) answer isnt is = auth_unseen address a new one answer isnt is
+served_unseen : (address : SocketAddr) (a new : State) (one : ServerCall) (answer : ServerAnswer) → concerns address one ≡ false → ServerMakesNoRoom a one → IsServerCalled one answer a new → AreAlike address a new
+served_unseen address a new (call.Handle bytes from now decision stream) answer isnt none is = handled_unseen address from a new bytes now decision stream answer isnt none is
+served_unseen address a new (call.Auth one) answer isnt none is = auth_unseen address a new one answer isnt none is
 
 -- ---- a run
 
@@ -173,22 +173,22 @@ test address = λ pair. concerns address pair.0
 
 -- Premises: `pairs` is a run from `a`, and the address can't distinguish `a` from `b`. Conclusion: the calls
 -- that concern the address can have these results from `b` too.
-pub is_isolated : (address : SocketAddr) (pairs : List (ServerCall × ServerAnswer)) (a b new : State) → AreAlike address a b → IsServerRun a pairs new → IsIsolated address b pairs new
-unfolding IsServerRun
-is_isolated address [] a b new same run = record { left = b; run = refl; alike = subst (λ (d : State). AreAlike address d b) (sym run) same }
-is_isolated address (pair ∷ pairs) a b new same run =
+pub is_isolated : (address : SocketAddr) (pairs : List (ServerCall × ServerAnswer)) (a b new : State) → AreAlike address a b → (run : IsServerRun a pairs new) → MakeNoRoom address a pairs new run → IsIsolated address b pairs new
+unfolding IsServerRun MakeNoRoom
+is_isolated address [] a b new same run none = record { left = b; run = refl; alike = subst (λ (d : State). AreAlike address d b) (sym run) same }
+is_isolated address (pair ∷ pairs) a b new same run none =
     elim (bool_is (concerns address pair.0)) [
       | inl t ↦ (
           let step = served_alike address a b run.0 pair.0 pair.1 same t run.1 in
-          let rest = is_isolated address pairs run.0 step.left new step.alike run.2 in
+          let rest = is_isolated address pairs run.0 step.left new step.alike run.2 none.1 in
           record {
             left = rest.left;
             run = subst (λ (list : List (ServerCall × ServerAnswer)). IsServerRun b list rest.left) (sym (filter_yes (test address) pair pairs t)) (step.left, step.called, rest.run);
             alike = rest.alike;
           })
       | inr f ↦ (
-          let unseen = served_unseen address a run.0 pair.0 pair.1 f run.1 in
-          let rest = is_isolated address pairs run.0 b new (alike_then address run.0 a b (alike_turned address a run.0 unseen) same) run.2 in
+          let unseen = served_unseen address a run.0 pair.0 pair.1 f (none.0 f) run.1 in
+          let rest = is_isolated address pairs run.0 b new (alike_then address run.0 a b (alike_turned address a run.0 unseen) same) run.2 none.1 in
           record {
             left = rest.left;
             run = subst (λ (list : List (ServerCall × ServerAnswer)). IsServerRun b list rest.left) (sym (filter_no (test address) pair pairs f)) rest.run;

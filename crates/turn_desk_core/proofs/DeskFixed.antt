@@ -15,7 +15,7 @@ use Rattle.stun_proto_server.specs.declared.validation.LongTermServerValidation.
 use Rattle.stun_proto_server.specs.Users.{NamesOne}
 use Rattle.stun_proto_server.proofs.Definite.{called_same}
 use Rattle.turn_desk_core.specs.declared.decision.Decision.{Decision}
-use Rattle.turn_desk_core.specs.DeskCalls.{AreAlike, AreAnsweredAlike, IsAuthCalled, IsHandledBy, IsServerCalled, IsServerRun, NameOneUser, ServerAnswer, ServerCall, auth_call, calls_concerning, concerning}
+use Rattle.turn_desk_core.specs.DeskCalls.{AreAlike, AreAnsweredAlike, IsAuthCalled, IsHandledBy, IsServerCalled, IsServerRun, MakeNoRoom, NameOneUser, ServerAnswer, ServerCall, auth_call, calls_concerning, concerning}
 use Rattle.turn_desk_core.specs.DeskCalls as call
 use Rattle.turn_desk_core.specs.State.{State}
 use Rattle.turn_desk_core.specs.Steps.{IsAnswer}
@@ -80,6 +80,8 @@ auth_users (auth.AddAlgorithm algorithm) answer old new is = record { users = ap
 auth_users (auth.SetAlgorithm algorithm) answer old new is = record { users = ap (λ (s : Server). s.users) is.1; realm = ap (λ (s : Server). s.realm) is.1 }
 auth_users auth.AnonymityRequested answer old new is = unchanged old new is.1
 auth_users (auth.SetAnonymity feature) answer old new is = record { users = ap (λ (s : Server). s.users) is.1; realm = ap (λ (s : Server). s.realm) is.1 }
+auth_users auth.LimitRequested answer old new is = unchanged old new is.1
+auth_users (auth.SetLimit most) answer old new is = record { users = ap (λ (s : Server). s.users) is.2; realm = ap (λ (s : Server). s.realm) is.2 }
 auth_users (auth.SetExpiry expiry) answer old new is = record { users = ap (λ (s : Server). s.users) is.2; realm = ap (λ (s : Server). s.realm) is.2 }
 
 handled_users : (old new : State) (bytes : List ℕ) (from : SocketAddr) (now : ℕ) (decision : Decision) (stream : Stream) (reply : List ℕ) → IsAnswer old from bytes now stream decision reply new → HaveSameUsers old.auth new.auth
@@ -177,11 +179,12 @@ only_run (pair ∷ pairs) (other ∷ others) old new left a b same each =
 
 -- Two runs from server cores that an address can't distinguish, with equal calls that concern it, give it
 -- equal results.
-pub answers_are_fixed : (address : SocketAddr) (old other new left : State) (pairs others : List (ServerCall × ServerAnswer)) → AreAlike address old other → IsServerRun old pairs new → IsServerRun other others left
+pub answers_are_fixed : (address : SocketAddr) (old other new left : State) (pairs others : List (ServerCall × ServerAnswer)) → AreAlike address old other → (run : IsServerRun old pairs new) → MakeNoRoom address old pairs new run
+    → (again : IsServerRun other others left) → MakeNoRoom address other others left again
     → calls_concerning address pairs ≡ calls_concerning address others → NameOneUser old.auth (calls_concerning address pairs) → AreAnsweredAlike address pairs others new left
-answers_are_fixed address old other new left pairs others same run again calls each =
-    let one = is_isolated address pairs old old new (alike-refl address old) run in
-    let two = is_isolated address others other old left (alike_turned address old other same) again in
+answers_are_fixed address old other new left pairs others same run none again none_again calls each =
+    let one = is_isolated address pairs old old new (alike-refl address old) run none in
+    let two = is_isolated address others other old left (alike_turned address old other same) again none_again in
     let both = only_run (concerning address pairs) (concerning address others) old one.left two.left one.run two.run calls each in
     record {
       answers = both.0;

@@ -17,6 +17,7 @@ pub mod Numbers
 pub mod Ordinary
 pub mod Responses
 pub mod StepLaws
+pub mod Unlimited
 -- Crates that depend on this one reach these proofs through it.
 pub use Rattle.stun_types_write.proofs as StunTypesWrite
 pub use Rattle.stun_types_attributes.proofs as StunTypesAttributes

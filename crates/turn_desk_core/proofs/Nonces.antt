@@ -9,7 +9,7 @@ use Rattle.std.specs.FinMap as map
 use Rattle.std.specs.declared.net.socket_addr.SocketAddr.{SocketAddr}
 use Rattle.rand_core.specs.Stream.{Stream}
 use Rattle.stun_types_base.specs.SocketAddrs.{socket_addr_cmp, socket_addr_cmp_total}
-use Rattle.stun_proto_server.specs.Server.{Client, Server, nonce_at, is_standing, has_standing_nonce, new_client, refreshed}
+use Rattle.stun_proto_server.specs.Server.{Client, Server, nonce_at, is_standing, has_standing_nonce, new_client, refreshed, room_for}
 
 nonce_of_some : (stored : Option Client) (expiry now : ℕ) → is_standing expiry now stored ≡ true → IsSome (option_map (λ (c : Client). c.nonce) stored)
 nonce_of_some None expiry now h = absurd (let p : false ≡ true = h in cc)
@@ -22,8 +22,9 @@ refreshed_nonce server from now stream =
       | inl occurs ↦ rw occurs (nonce_of_some (map.get server.clients from) server.nonce_expiry now occurs)
       | inr occurs ↦
           let same : is_eq (socket_addr_cmp from from) ≡ true = (eq_by_cmp_equiv socket_addr_cmp_total).refl from in
-          let put = map.get-insert socket_addr_cmp_total server.clients from (new_client server now stream) from in
-          let stored : map.get (map.insert server.clients from (new_client server now stream)) from ≡ Some (new_client server now stream) = put ∙ ap (λ b. cond b (Some (new_client server now stream)) (map.get server.clients from)) same in
+          let others = room_for server.max_clients server.clients from in
+          let put = map.get-insert socket_addr_cmp_total others from (new_client server now stream) from in
+          let stored : map.get (map.insert others from (new_client server now stream)) from ≡ Some (new_client server now stream) = put ∙ ap (λ b. cond b (Some (new_client server now stream)) (map.get others from)) same in
           rw occurs (rw stored refl)
     ]
 

@@ -1,11 +1,12 @@
 -- Runs of a server core's calls that don't run out of memory, with their results, and the part of a run that
 -- concerns one address (RFC 8489, section 9.2; RFC 8656, section 5).
-use Rattle.std.specs.Prelude.{◌≡◌, ◌≢◌, ◌↔◌, ℕ, Bool, List, [], ◌∷◌, ◌++◌, filter, map}
+use Rattle.std.specs.Prelude.{◌≡◌, ◌≢◌, ◌↔◌, ℕ, Bool, false, List, [], ◌∷◌, ◌++◌, filter, map}
+use Rattle.std.specs.List.{AllByRecursion}
 use Rattle.std.specs.declared.net.socket_addr.SocketAddr.{SocketAddr}
 use Rattle.rand_core.specs.Stream.{Stream}
 use Rattle.stun_proto_server.specs.AuthCalls.{AuthAnswer, AuthCall, IsCalled, Validate}
-use Rattle.stun_proto_server.specs.AuthRuns.{EachNamesOne, concerns as concerns_auth, is_same_address}
-use Rattle.stun_proto_server.specs.Server.{SameFor, Server}
+use Rattle.stun_proto_server.specs.AuthRuns.{CallMakesNoRoom, CallSetsNoLimit, EachNamesOne, concerns as concerns_auth, is_same_address}
+use Rattle.stun_proto_server.specs.Server.{SameFor, Server, makes_room}
 use Rattle.turn_desk_core.specs.Requests.{IsServed}
 use Rattle.turn_desk_core.specs.declared.decision.Decision.{Decision}
 use Rattle.turn_desk_core.specs.declared.grant.Grant as granted
@@ -34,7 +35,8 @@ pub record IsHandled (old : State) (bytes : List ℕ) (from : SocketAddr) (now :
   pub answer : IsAnswer old from bytes now stream decision reply new
   pub grants : (g : granted.Grant)
       → (new.grants ≡ old.grants ++ g ∷ []) ↔ IsGranted old from bytes now stream decision reply g
-  pub others : (other : SocketAddr) → other ≢ from → SameFor other old.auth new.auth
+  pub others : (other : SocketAddr) → other ≢ from → makes_room old.auth from ≡ false
+      → SameFor other old.auth new.auth
 
 -- The server core replied; or the bytes are not a request that it serves, and nothing changed, as the clauses
 -- `none` and `answer` of `handle` say for a call that returns no reply.
@@ -68,6 +70,19 @@ abbrev pub concerns : SocketAddr → ServerCall → Bool
 concerns address (Handle bytes from now decision stream) = is_same_address address from
 concerns address (Auth one) = concerns_auth address one
 
+-- A call generates no nonce for which room has to be made.
+abbrev pub ServerMakesNoRoom : State → ServerCall → Type 0
+ServerMakesNoRoom old (Handle bytes from now decision stream) = makes_room old.auth from ≡ false
+ServerMakesNoRoom old (Auth one) = CallMakesNoRoom old.auth one
+
+-- In a run, no call that does not concern an address makes room.
+unfoldable pub MakeNoRoom : SocketAddr → (old : State) (pairs : List (ServerCall × ServerAnswer)) (new : State)
+    → IsServerRun old pairs new → Type 0
+unfolding IsServerRun
+MakeNoRoom address old [] new run = Unit {0}
+MakeNoRoom address old (pair ∷ pairs) new run =
+    (concerns address pair.0 ≡ false → ServerMakesNoRoom old pair.0) × MakeNoRoom address run.0 pairs new run.2
+
 -- The calls that concern an address, in order, each with its result.
 abbrev pub concerning : SocketAddr → List (ServerCall × ServerAnswer) → List (ServerCall × ServerAnswer)
 concerning address pairs = filter (λ pair. concerns address pair.0) pairs
@@ -100,6 +115,10 @@ pub record IsIsolated (address : SocketAddr) (old : State) (pairs : List (Server
 abbrev pub auth_call : ServerCall → AuthCall
 auth_call (Handle bytes from now decision stream) = Validate bytes from now stream
 auth_call (Auth one) = one
+
+-- No call sets a limit on addresses.
+abbrev pub SetNoLimit : List (ServerCall × ServerAnswer) → Type 0
+SetNoLimit pairs = AllByRecursion (λ pair. CallSetsNoLimit (auth_call pair.0)) pairs
 
 -- None of the bytes that are handled name two of the users known at that time, by a hash that both have.
 abbrev pub NameOneUser : Server → List ServerCall → Type 0

@@ -1,6 +1,6 @@
 //! The server core: takes requests, returns replies.
 
-ghost use Rattle.std.specs.Prelude.{◌≡◌, ◌≢◌, ◌↔◌, ◌≤◌, ◌++◌, ◌∷◌, IfOk, IfSome, OnErr, IsSome, None, Some, MatchOption, MatchResult, [], ℕ, List, true};
+ghost use Rattle.std.specs.Prelude.{◌≡◌, ◌≢◌, ◌↔◌, ◌≤◌, ◌++◌, ◌∷◌, IfOk, IfSome, OnErr, IsSome, None, Some, MatchOption, MatchResult, [], ℕ, List, false, true};
 ghost use Rattle.std.specs.Borrow.{sem};
 ghost use Rattle.std.specs.declared.net.socket_addr.SocketAddr.{SocketAddr};
 ghost use Rattle.stun_types_base.specs.GeneratorWords.{stream_after};
@@ -13,7 +13,7 @@ ghost use Rattle.stun_types_add.specs.Integrity.Signing.{signing_refusal};
 ghost use Rattle.stun_types_write.specs.ValueReading.{utf8_refusal};
 ghost use Rattle.stun_types_wire.specs.Registry.{greatest_code, least_code};
 ghost use Rattle.stun_proto_verify.specs.Judgement.{is_response};
-ghost use Rattle.stun_proto_server.specs.Server.{SameFor, nonce_at, outcome_at, words_generated};
+ghost use Rattle.stun_proto_server.specs.Server.{SameFor, makes_room, nonce_at, outcome_at, words_generated};
 ghost use Rattle.turn_desk_core.specs.Replies.{IsReply};
 ghost use Rattle.turn_desk_core.specs.declared.grant.Grant.{Grant as Granted};
 ghost use Rattle.turn_desk_core.specs.AuthLending.{LendsAuth};
@@ -188,8 +188,9 @@ impl Desk {
             ≡ stream_after (words_generated self.old.auth from now) (R.stream rng.old)))
             (λ _. R.stream rng.new
             ≡ stream_after (words_generated self.old.auth from now) (R.stream rng.old)) }
-        // For other addresses the authenticator stays as it was.
+        // For other addresses the authenticator stays as it was, if it makes no room.
         ensures others { (other : SocketAddr) → other ≢ from
+            → makes_room self.old.auth from ≡ false
             → SameFor other self.old.auth self.new.auth }
     {
         let Ok(request) = Message::from_bytes(bytes) else {

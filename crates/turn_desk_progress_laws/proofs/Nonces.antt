@@ -13,7 +13,7 @@ use Rattle.turn_client_proto_api.proofs.StunProtoAuth.NonceLemmas.{features_in-n
 use Rattle.turn_client_proto_api.specs.StunProtoAuth.declared.feature.Feature.{Feature}
 use Rattle.turn_desk_core.specs.StunProtoVerify.Knowledge.{Outcome}
 use Rattle.turn_client_proto_api.specs.StunProtoAuth.Nonce.{features_offered, features_in}
-use Rattle.turn_desk_core.specs.StunProtoServer.Server.{Client, Server, has_standing_nonce, new_client, refreshed, set_outcome, with_new_nonce, with_outcome}
+use Rattle.turn_desk_core.specs.StunProtoServer.Server.{Client, Server, has_standing_nonce, new_client, refreshed, room_for, set_outcome, with_new_nonce, with_outcome}
 use Rattle.turn_desk_progress_laws.specs.Joining.{ReportsOwn}
 
 put_there : (clients : map.FinMap socket_addr_cmp Client) (from : SocketAddr) (c : Client) → map.get (map.insert clients from c) from ≡ Some c
@@ -24,7 +24,7 @@ put_there clients from c =
 module _ (algorithms : List IntegrityAlgorithm) (anonymous : Feature) (old : Server) (own : old.algorithms ≡ algorithms) (hides : old.anonymous_username ≡ anonymous) (from : SocketAddr) (now : ℕ) (stream : Stream) where
   transmitted_reports : ReportsOwn algorithms anonymous from (with_new_nonce old from now stream)
   transmitted_reports stored there =
-      let same : stored ≡ new_client old now stream = Prim.cc (sym there ∙ put_there old.clients from (new_client old now stream)) in
+      let same : stored ≡ new_client old now stream = Prim.cc (sym there ∙ put_there (room_for old.max_clients old.clients from) from (new_client old now stream)) in
       ap (λ (c : Client). features_in c.nonce) same
       ∙ (features_in-nonce_text (features_offered old.algorithms old.anonymous_username) _
       ∙ (ap (λ (l : List IntegrityAlgorithm). features_offered l old.anonymous_username) own ∙ ap (features_offered algorithms) hides))

@@ -1,11 +1,12 @@
 -- No event changes the server core's realm, users or settings.
-use Rattle.std.proofs.Common.{◌≡◌, ℕ, Bool, true, false, List, [], ◌∷◌, Option, Some, None, refl, sym, ap, ◌∙◌, subst, inl, inr}
+use Rattle.std.proofs.Common.{◌≡◌, ◌≢◌, ℕ, Bool, true, false, List, [], ◌∷◌, Option, Some, None, refl, sym, ap, ◌∙◌, subst, inl, inr}
 use Rattle.std.specs.Prelude.{if◌then◌else◌}
 use Rattle.std.specs.FinMap as map
 use Rattle.std.specs.declared.net.socket_addr.SocketAddr.{SocketAddr}
 use Rattle.rand_core.specs.Stream.{Stream}
 use Rattle.turn_desk_core.specs.StunProtoVerify.Knowledge.{Outcome}
 use Rattle.turn_desk_core.specs.StunProtoServer.Server.{Server, has_standing_nonce, refreshed, with_new_nonce, with_outcome}
+use Rattle.turn_desk_core.proofs.StunProtoServer.StoredBefore.{stored_before}
 use Rattle.turn_client_proto_messages.specs.Allocation.Same.{is_same_address}
 use Rattle.turn_client_proto_step_laws.proofs.SameSockets.{same_address, same_itself}
 use Rattle.turn_desk_world_laws.specs.World.Desks.{IsReplied, IsReply, words_of}
@@ -76,8 +77,9 @@ module _ (link : Link) (old : World) where
         by : (b : Bool) → is_same_address from link.local ≡ b → Reports v.desk.auth
         by true at = own_reports (same_address from link.local at) decodes
         by false apart = λ stored there.
-            (let other = is.others link.local (λ at. Prim.cc (sym (ap (λ (x : SocketAddr). is_same_address x link.local) (sym at) ∙ same_itself link.local) ∙ apart)) in
-            decodes stored (sym other.stored ∙ there))
+            (let different : link.local ≢ from = (λ at. Prim.cc (sym (ap (λ (x : SocketAddr). is_same_address x link.local) (sym at) ∙ same_itself link.local) ∙ apart)) in
+            decodes stored (stored_before w.desk.auth from link.local now (words_of seed) different stored a.outcome
+                (ap (λ (s : Server). map.get s.clients link.local) (sym a.after) ∙ there)))
 
     pub replied_same : IsSameDesk link old v
     replied_same = record {

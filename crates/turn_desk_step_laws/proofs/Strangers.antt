@@ -17,7 +17,7 @@ use Rattle.turn_desk_core.specs.StunProtoVerify.Judgement.{HasWrongDigest, IsRef
 use Rattle.turn_desk_core.specs.StunProtoVerify.Knowledge.{Knowledge}
 use Rattle.turn_desk_core.specs.StunTypesBase.Times.{time_after}
 use Rattle.turn_client_proto_messages.specs.StunProtoAuth.Nonce.{features_offered, features_in}
-use Rattle.turn_desk_core.specs.StunProtoServer.Server.{Client, Server, has_standing_nonce, is_standing, new_client, nonce_at, refreshed, set_outcome, with_new_nonce, with_outcome}
+use Rattle.turn_desk_core.specs.StunProtoServer.Server.{Client, Server, has_standing_nonce, is_standing, new_client, nonce_at, refreshed, room_for, set_outcome, with_new_nonce, with_outcome}
 use Rattle.turn_desk_core.specs.StunProtoVerify.declared.error.LongTermServerAuthError.{LongTermServerAuthError}
 use Rattle.turn_desk_core.specs.StunProtoVerify.declared.error.LongTermServerAuthError.TheVariants.{Unauthorized, BadRequest}
 use Rattle.turn_desk_core.specs.StunProtoServer.ServerSigning.{Party}
@@ -65,7 +65,7 @@ module _ (old : Server) (from : SocketAddr) (now : ℕ) (stream : Stream) (none 
   transmitted = new_client old now stream
 
   abbrev clients : map.FinMap socket_addr_cmp Client
-  clients = map.insert old.clients from transmitted
+  clients = map.insert (room_for old.max_clients old.clients from) from transmitted
 
   draws : refreshed old from now stream ≡ with_new_nonce old from now stream
   draws = ap (λ (b : Bool). if b then old else with_new_nonce old from now stream) (ap (is_standing old.nonce_expiry now) none)
@@ -73,7 +73,7 @@ module _ (old : Server) (from : SocketAddr) (now : ℕ) (stream : Stream) (none 
   keeps_transmitted : map.get (with_outcome (refreshed old from now stream) from None).clients from ≡ Some transmitted
   keeps_transmitted =
       ap (λ (s : Server). map.get (with_outcome s from None).clients from) draws
-      ∙ (ap (λ (found : Option Client). map.get (set_outcome clients from None found) from) (put_there old.clients from transmitted)
+      ∙ (ap (λ (found : Option Client). map.get (set_outcome clients from None found) from) (put_there (room_for old.max_clients old.clients from) from transmitted)
       ∙ put_there clients from transmitted)
 
 -- ---- settings
@@ -83,8 +83,8 @@ settings_stay : (old new : Server) (from : SocketAddr) (now : ℕ) (stream : Str
 settings_stay old new from now stream is =
     subst (λ (s : Server). HasSameSettings old s) (sym is)
     (elim (has_standing_nonce old from now) as (λ b. HasSameSettings old (with_outcome (if b then old else with_new_nonce old from now stream) from None)) [
-      | true ↦ record { realm = refl; users = refl; nonce_expiry = refl; algorithms = refl; anonymous_username = refl }
-      | false ↦ record { realm = refl; users = refl; nonce_expiry = refl; algorithms = refl; anonymous_username = refl }
+      | true ↦ record { realm = refl; users = refl; nonce_expiry = refl; algorithms = refl; anonymous_username = refl; max_clients = refl }
+      | false ↦ record { realm = refl; users = refl; nonce_expiry = refl; algorithms = refl; anonymous_username = refl; max_clients = refl }
     ])
 
 -- ---- the challenge

@@ -34,6 +34,7 @@ pub record HasSameSettings (old new : Server) : Type 0 where
   pub nonce_expiry : new.nonce_expiry ≡ old.nonce_expiry
   pub algorithms : new.algorithms ≡ old.algorithms
   pub anonymous_username : new.anonymous_username ≡ old.anonymous_username
+  pub max_clients : new.max_clients ≡ old.max_clients
 
 -- The server core challenges an address for which it stored nothing:
 --

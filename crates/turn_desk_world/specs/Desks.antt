@@ -1,10 +1,10 @@
 -- The results of the server core's events in a simulation.
-use Rattle.std.specs.Prelude.{◌≡◌, ◌≢◌, ◌<◌, ◌^◌, ◌++◌, [], ◌∷◌, ◌↔◌, ℕ, List}
+use Rattle.std.specs.Prelude.{◌≡◌, ◌≢◌, ◌<◌, ◌^◌, ◌++◌, [], ◌∷◌, ◌↔◌, ℕ, false, List}
 use Rattle.std.specs.declared.net.socket_addr.SocketAddr.{SocketAddr}
 use Rattle.rand_chacha.specs.ChaCha.{next_word, of_seed}
 use Rattle.rand_core.specs.Steps.{steps_u32, stream_of}
 use Rattle.rand_core.specs.Stream.{Stream}
-use Rattle.stun_proto_server.specs.Server.{SameFor}
+use Rattle.stun_proto_server.specs.Server.{SameFor, makes_room}
 use Rattle.stun_types_wire.specs.Headers.{AreBytes}
 use Rattle.turn_desk_core.specs.State.{State}
 use Rattle.turn_desk_core.specs.Steps.{IsAnswer, IsGranted}
@@ -32,7 +32,8 @@ pub record IsReplied (old : State) (bytes : List ℕ) (from : SocketAddr) (now :
   pub served : IsServed bytes
   pub answer : IsAnswer old from bytes now words decision reply new
   pub grants : (g : Grant) → (new.grants ≡ old.grants ++ g ∷ []) ↔ IsGranted old from bytes now words decision reply g
-  pub others : (other : SocketAddr) → other ≢ from → SameFor other old.auth new.auth
+  pub others : (other : SocketAddr) → other ≢ from → makes_room old.auth from ≡ false
+      → SameFor other old.auth new.auth
   pub are_bytes : AreBytes reply
 
 -- The server core replied, or the bytes are not a request that it serves.

@@ -27,6 +27,7 @@ desk_of realm algorithms anonymity = record {
     nonce_expiry = 3_600_000_000_000;
     algorithms = algorithms;
     anonymous_username = anonymity;
+    max_clients = None;
   };
   grants = [];
 }

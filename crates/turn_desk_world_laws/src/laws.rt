@@ -3,7 +3,7 @@
 //! simulation are. `specs/Safety.antt` has the theorem.
 
 ghost use Rattle.std.specs.List.{AllByRecursion};
-ghost use Rattle.std.specs.Prelude.{◌≡◌, ◌≢◌, ◌≤◌, ◌++◌, Bool, List, ℕ, [], ◌∷◌, Some, length, true, Vec};
+ghost use Rattle.std.specs.Prelude.{◌≡◌, ◌≢◌, ◌≤◌, ◌++◌, Bool, List, ℕ, [], ◌∷◌, None, Some, length, true, Vec};
 ghost use Rattle.std.specs.declared.alloc.Global.{Global};
 ghost use Rattle.std.specs.declared.net.ip_addr.IpAddr.{IpAddr};
 ghost use Rattle.std.specs.Net.Socket.{socket_ip};
@@ -25,7 +25,7 @@ ghost use Rattle.turn_desk_event.specs.declared.answer.Answer.TheVariants as ans
 ghost use Rattle.turn_desk_event.specs.declared.event.ClientCall.TheVariants as call;
 ghost use Rattle.turn_desk_event.specs.declared.event.Event.{Event};
 ghost use Rattle.turn_desk_event.specs.declared.event.Event.TheVariants.{Call, ToClient};
-ghost use Rattle.turn_desk_world_laws.specs.AddressRuns.{AreAnsweredAlike, IsIsolated, come_from};
+ghost use Rattle.turn_desk_world_laws.specs.AddressRuns.{AreAnsweredAlike, IsIsolated, MakeNoRoom, come_from};
 ghost use Rattle.turn_desk_world.specs.Model.{World};
 ghost use Rattle.turn_desk_world.specs.Runs.{IsRun};
 ghost use Rattle.turn_desk_core.specs.StunTypesWire.Headers.{AreBytes};
@@ -298,7 +298,8 @@ pub fn receipts_are_steps<T: AsSlice<u8>>()
 /// Non-interference: what the server core answers and grants to an address depends only on what
 /// reaches it from that address. An address can't distinguish two server cores if they have the
 /// same realm, users and settings, store the same for the address, and granted it the same, in the
-/// same order.
+/// same order. If the number of addresses is limited (`set_max_clients`), `alone` and `fixed` hold
+/// of runs in which nothing from another address makes room; without a limit, of all.
 ///
 /// - `alone`: Delete from a run all events but those by which bytes from the address reach the
 ///   server core. They have the same results in any simulation whose server core the address can't
@@ -307,20 +308,30 @@ pub fn receipts_are_steps<T: AsSlice<u8>>()
 /// - `fixed`: If the same bytes reach two such server cores from the address, it gets the same
 ///   results, and can't distinguish the server cores afterwards. Premise: no two users have the
 ///   same USERHASH (RFC 8489, section 14.4).
+/// - `unlimited`: If the server core at the start of a run has no limit on addresses, nothing makes
+///   room in the run.
 pub fn addresses_are_isolated()
     ensures alone { (address : SocketAddr) (old other new : World)
         (pairs : List (Event × Answer))
         → AreAlikeDesks address old.desk other.desk
-        → IsRun old pairs new
+        → (run : IsRun old pairs new)
+        → MakeNoRoom address old pairs new run
         → IsIsolated address other pairs new }
     ensures fixed { (address : SocketAddr) (old other new left : World)
         (pairs others : List (Event × Answer))
         → AreAlikeDesks address old.desk other.desk
         → HashesDiffer old.desk.auth
         → HaveSameEvents (come_from address pairs) (come_from address others)
-        → IsRun old pairs new
-        → IsRun other others left
+        → (run : IsRun old pairs new)
+        → MakeNoRoom address old pairs new run
+        → (again : IsRun other others left)
+        → MakeNoRoom address other others left again
         → AreAnsweredAlike address pairs others new left }
+    ensures unlimited { (address : SocketAddr) (old new : World)
+        (pairs : List (Event × Answer))
+        → old.desk.auth.max_clients ≡ None
+        → (run : IsRun old pairs new)
+        → MakeNoRoom address old pairs new run }
 {
     desk_laws::addresses_are_isolated();
 }

@@ -1,9 +1,13 @@
 use Rattle.stun_proto_server.proofs.Alone.{answers_are_fixed, is_isolated}
+use Rattle.stun_proto_server.proofs.Unlimited.{makes_no_room}
 use Rattle.stun_proto_server.proofs.laws.addresses_are_isolated.Goals as goal
 
 pub returns-clause-alone : goal.returns-clause-alone
-returns-clause-alone c = λ address old other new pairs same run. is_isolated address pairs old other new same run
+returns-clause-alone c = λ address old other new pairs same run none. is_isolated address pairs old other new same run none
 
 pub returns-clause-fixed : goal.returns-clause-fixed
-returns-clause-fixed c = λ address old other new left pairs others same run again calls each.
-    answers_are_fixed address old other new left pairs others same run again calls each
+returns-clause-fixed c = λ address old other new left pairs others same run none again none_again calls each.
+    answers_are_fixed address old other new left pairs others same run none again none_again calls each
+
+pub returns-clause-unlimited : goal.returns-clause-unlimited
+returns-clause-unlimited c = λ address old new pairs none sets run. makes_no_room address pairs old new none sets run

@@ -19,5 +19,5 @@ returns-clause-accepted g c =
     c.in_ok-refresh_nonce.ensures.ok c.validate_request.ensures.valid c.validate_request.ensures.refused
 
 pub returns-clause-others : goal.returns-clause-others
-returns-clause-others g c other different =
-    same_for-then other c.args.self.now c.refresh_nonce.new.self c.validate_request.new.self (c.refresh_nonce.ensures.others other different) (c.validate_request.ensures.others other different)
+returns-clause-others g c other different none =
+    same_for-then other c.args.self.now c.refresh_nonce.new.self c.validate_request.new.self (c.refresh_nonce.ensures.others other different none) (c.validate_request.ensures.others other different)

@@ -1,9 +1,9 @@
 use Rattle.std.specs.Prelude.{◌<◌, slice_index, Result, Ok, Err, OnErr}
-use Rattle.std.proofs.Common.{rules, arith, ◌≡◌, ◌≢◌, inl, inr, List, ℕ, subst, sym, refl}
+use Rattle.std.proofs.Common.{false, rules, arith, ◌≡◌, ◌≢◌, inl, inr, List, ℕ, subst, sym, refl}
 use Rattle.std.specs.declared.net.socket_addr.SocketAddr.{SocketAddr}
 use Rattle.rand_core.specs.Stream.{Stream}
 use Rattle.stun_proto_verify.specs.declared.error.LongTermServerAuthError.TheVariants.{NoMemory}
-use Rattle.stun_proto_server.specs.Server.{SameFor}
+use Rattle.stun_proto_server.specs.Server.{SameFor, makes_room}
 use Rattle.turn_desk_core.specs.Requests.{IsServed}
 use Rattle.turn_desk_core.specs.State.{State}
 use Rattle.turn_desk_core.specs.Steps.{IsAnswer, IsAuthAfter, IsUnauthenticated}
@@ -85,7 +85,7 @@ returns-in_ok-reply-in-Err g c =
       grants = λ grant. exactly_granted c.args.self.now new c.args.from c.args.bytes.now c.args.now stream c.args.decision.now reply grant (subst IsServed c.in-Ok.ensures.0 served) there;
       memory = tt;
       stream = search rules;
-      others = λ other different. subst (λ (s : State). SameFor other s.auth c.validate_incoming_message.new.self) c.self.view_is (c.validate_incoming_message.ensures.others other different);
+      others = λ other different. subst (λ (s : State). makes_room s.auth c.args.from ≡ false → SameFor other s.auth c.validate_incoming_message.new.self) c.self.view_is (c.validate_incoming_message.ensures.others other different);
     }
 
 pub returns-in_err-reply-in-Err : goal.returns-in_err-reply-in-Err
@@ -111,7 +111,7 @@ returns-in_err-reply-in-Err g c =
       grants = search rules;
       memory = on_err c.from_residual-in_err-reply-in-Err.result named;
       stream = search rules;
-      others = λ other different. subst (λ (s : State). SameFor other s.auth c.validate_incoming_message.new.self) c.self.view_is (c.validate_incoming_message.ensures.others other different);
+      others = λ other different. subst (λ (s : State). makes_room s.auth c.args.from ≡ false → SameFor other s.auth c.validate_incoming_message.new.self) c.self.view_is (c.validate_incoming_message.ensures.others other different);
     }
 
 pub returns-in_err-reply-in-Ok-validate_incoming_message-clause-memory :
@@ -133,15 +133,15 @@ returns-in_err-reply-in-Ok-validate_incoming_message-clause-memory g c =
 pub returns-in_err-reply-in-Ok-validate_incoming_message-clause-others :
     goal.returns-in_err-reply-in-Ok-validate_incoming_message-clause-others
 returns-in_err-reply-in-Ok-validate_incoming_message-clause-others g c = λ other different.
-    subst (λ (s : State). SameFor other s.auth c.answer.new.self.auth) c.self.view_is
-    (subst (λ (s : State). SameFor other c.self.inside.auth s.auth) (sym c.in_err-reply-in-Ok-validate_incoming_message.ensures.err) (c.validate_incoming_message.ensures.others other different))
+    subst (λ (s : State). makes_room s.auth c.args.from ≡ false → SameFor other s.auth c.answer.new.self.auth) c.self.view_is
+    (λ none. subst (λ (s : State). SameFor other c.self.inside.auth s.auth) (sym c.in_err-reply-in-Ok-validate_incoming_message.ensures.err) (c.validate_incoming_message.ensures.others other different none))
 
 pub returns-in_ok-reply-in-Ok-validate_incoming_message-clause-others :
     goal.returns-in_ok-reply-in-Ok-validate_incoming_message-clause-others
 returns-in_ok-reply-in-Ok-validate_incoming_message-clause-others g c = λ other different.
-    subst (λ (s : State). SameFor other s.auth c.answer.new.self.auth) c.self.view_is
-    (subst (λ (s : State). SameFor other c.self.inside.auth s.auth) (sym c.in_ok-reply-in-Ok-validate_incoming_message.ensures.granted) (c.validate_incoming_message.ensures.others other different))
+    subst (λ (s : State). makes_room s.auth c.args.from ≡ false → SameFor other s.auth c.answer.new.self.auth) c.self.view_is
+    (λ none. subst (λ (s : State). SameFor other c.self.inside.auth s.auth) (sym c.in_ok-reply-in-Ok-validate_incoming_message.ensures.granted) (c.validate_incoming_message.ensures.others other different none))
 
 pub returns-in-Err-NoMemory-clause-others : goal.returns-in-Err-NoMemory-clause-others
 returns-in-Err-NoMemory-clause-others g c = λ other different.
-    subst (λ (s : State). SameFor other s.auth c.validate_incoming_message.new.self) c.self.view_is (c.validate_incoming_message.ensures.others other different)
+    subst (λ (s : State). makes_room s.auth c.args.from ≡ false → SameFor other s.auth c.validate_incoming_message.new.self) c.self.view_is (c.validate_incoming_message.ensures.others other different)
