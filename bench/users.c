@@ -7,6 +7,7 @@
 
 size_t stun_bench_users(uint32_t users, uint32_t rounds, SLICE(bytes));
 size_t stun_bench_addresses(uint32_t addresses, SLICE(bytes));
+size_t stun_bench_limited(uint32_t addresses, SLICE(bytes));
 
 enum {
     FEW_USERS = 1000,
@@ -14,6 +15,7 @@ enum {
     USER_ROUNDS = 400000,       // in one run
     USER_RUNS = 2,              // with many users some seconds each
     ADDRESSES = 20000,
+    MOST_CLIENTS = 1000,        // the limit of `stun_bench_limited`
     REFRESH = 0x0004,
     COOKIE_HIGH = 0x2112,
     COOKIE_LOW = 0xa442,
@@ -29,6 +31,7 @@ enum {
 
 // a request with USERHASH and 100,000 users, to one with 1000 users, and to one with USERNAME; bytes
 static const double MOST_OF_FEW = 2, MOST_OF_NAME = 3, MOST_OF_ADDRESS = 400;
+static const double MOST_OF_LIMITED = 400.0 * MOST_CLIENTS / ADDRESSES;
 
 static const uint8_t user[] = "u500";
 static const uint8_t user_in_realm[] = "u500:realm";
@@ -135,4 +138,6 @@ void tell_users(void) {
     struct bytes by_address = of_new_address(stun_bench_addresses, &named);
     tell("bytes that a server core allocates for a new address", MOST_OF_ADDRESS, by_address.allocated);
     tell("bytes that a server core holds for each of 20,000 addresses", MOST_OF_ADDRESS, by_address.most_held);
+    struct bytes limited = of_new_address(stun_bench_limited, &named);
+    tell("  with a limit of 1000 addresses", MOST_OF_LIMITED, limited.most_held);
 }

@@ -567,6 +567,7 @@ def each_setting():
 
 def good_traces():
     # they take their words from this file
+    from traces_address_limits import address_traces
     from traces_attempt_limits import limited_traces
     from traces_attempt_timing import attempt_traces
     from traces_bound_connections import bound_traces
@@ -589,8 +590,8 @@ def good_traces():
         *signed_answered(), signed_request(), expired(), stale_allocate(), half_stale(),
         family_unknown(), family_not_supported(), both_families(), refresh_times_out(),
         *refreshes_answered(), stale_refresh(), stale_refresh_lost(), stale_deletion(),
-        mismatched_deletion(), *each_setting(), *stranger_traces(), *permission_traces(), *channel_traces(),
-        *payload_traces(), *stream_traces(), *connection_traces(), *socket_traces(),
+        mismatched_deletion(), *each_setting(), *stranger_traces(), *address_traces(), *permission_traces(),
+        *channel_traces(), *payload_traces(), *stream_traces(), *connection_traces(), *socket_traces(),
         *bound_traces(), *attempt_traces(), *limited_traces(), *unanswered_traces(),
         *hardened_traces(honest_traces()),
     )
@@ -656,6 +657,14 @@ def bad_traces():
     yield "A client with the word that hardens it before its seed", MADE[:-3] + " hardened 0\n", "", 2
     yield "A client over TCP with the word that hardens it twice", TCP[:-1] + " hardened hardened\n", "", 2
     yield "A desk with the word that hardens a client", "desk realm sha1 auto hardened\n", "", 2
+    for remark, words in (
+        ("alone", "clients"), ("with a word that is no number", "clients many"),
+        ("with a negative number", "clients -1"), ("with a number of 33 bits", "clients 4294967296"),
+        ("of none", "clients 0"), ("with two numbers", "clients 1 1"), ("twice", "clients 1 clients 1"),
+        ("spelled otherwise", "Clients 1"), ("for connections", "attempts 1"),
+    ):
+        yield f"A desk with the word of its limit, {remark}", f"desk realm sha1 auto {words}\n", "", 2
+    yield "A desk with the word of its limit in the place of its setting", "desk realm sha1 clients 1\n", "", 2
     yield "Behind an event", BOTH + "relayed\n" + rto, "relayed\n", 6
     yield from bad_events(f"""
         A moment too much: event 0

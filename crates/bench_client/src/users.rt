@@ -12,6 +12,8 @@ use turn_desk_core::desk::Desk;
 
 /// The first address of the clients.
 const CLIENT: (u32, u16) = (0x0a01_0000, 1000);
+/// The limit on addresses of `stun_bench_limited`.
+const MOST_CLIENTS: usize = 1000;
 
 /// Has a new server core with this many users more than that of `desk`, `u0`, `u1` and so on,
 /// handle these bytes `rounds` times, from one address at time 0.
@@ -37,6 +39,20 @@ pub extern "C" fn stun_bench_users(alloc: Global, users: u32, rounds: u32, bytes
 pub extern "C" fn stun_bench_addresses(alloc: Global, addresses: u32, bytes: &[u8]) -> usize {
     match desk(alloc) {
         Ok(mut desk) => {
+            let replies = serve(&mut desk, addresses, true, bytes);
+            drop(desk);
+            replies
+        }
+        Err(_) => 0,
+    }
+}
+
+/// The same, of a server core that stores something for at most 1000 addresses.
+#[unsafe(no_mangle)]
+pub extern "C" fn stun_bench_limited(alloc: Global, addresses: u32, bytes: &[u8]) -> usize {
+    match desk(alloc) {
+        Ok(mut desk) => {
+            desk.auth_mut().set_max_clients(Some(MOST_CLIENTS));
             let replies = serve(&mut desk, addresses, true, bytes);
             drop(desk);
             replies

@@ -50,11 +50,22 @@ millisecond = 1_000_000
 abbrev pub IsMillis : List ℕ → Duration → Type 0
 IsMillis word duration = option_map (λ millis. millis * millisecond) (number word) ≡ Some (as_nanos duration)
 
+-- The word spells a limit on addresses, which is at least 1.
+abbrev pub IsAddressLimit : List ℕ → Option ℕ → Type 0
+IsAddressLimit word None = ⊥
+IsAddressLimit word (Some limit) = IsU32 word limit × (1 ≤ limit)
+
+-- The words after the anonymity setting: `clients` and the limit on addresses, or none.
+abbrev pub AreDeskOptions : List (List ℕ) → (clients : Option ℕ) → Type 0
+AreDeskOptions [] clients = clients ≡ None
+AreDeskOptions (word ∷ limit ∷ []) clients = (word ≡ codes "clients") × IsAddressLimit limit clients
+AreDeskOptions words clients = ⊥
+
 -- The words after `desk` spell a server core with that realm and those settings.
 abbrev pub IsDesk : List (List ℕ) → Setup → Type 0
-IsDesk (realm ∷ algorithms ∷ anonymity ∷ []) (Desk r a b) =
+IsDesk (realm ∷ algorithms ∷ anonymity ∷ more) (Desk r a b clients) =
     (r.now ≡ realm) × (length realm ≤ MAX_REALM) × AreAlgorithms (slice_split (λ b. b == 44) algorithms) a
-    × (anonymity ≡ anonymity_word b)
+    × (anonymity ≡ anonymity_word b) × AreDeskOptions more clients
 IsDesk words setup = ⊥
 
 -- The words after `user` spell a user with that name and password.
@@ -65,7 +76,7 @@ IsUser words setup = ⊥
 -- The words spell the retransmission timeouts of requests: the first one, the maximum, the number of
 -- transmissions, and the last one.
 abbrev pub IsRtoOf : List ℕ → List ℕ → List ℕ → List ℕ → Setup → Type 0
-IsRtoOf initial most count last (Desk r a b) = ⊥
+IsRtoOf initial most count last (Desk r a b c) = ⊥
 IsRtoOf initial most count last (User n p) = ⊥
 IsRtoOf initial most count last (Rto i m n l) = IsMillis initial i × IsMillis most m × IsU32 count n × IsMillis last l
 IsRtoOf initial most count last (Client by over settings) = ⊥
@@ -133,7 +144,7 @@ AreTransports first second by over = (first ≡ transport_word by) × (second �
 
 -- The words after `client` spell the client.
 abbrev pub IsClientBy : List ℕ → List ℕ → List ℕ → List ℕ → List (List ℕ) → Setup → Type 0
-IsClientBy by local remote over words (Desk r a b) = ⊥
+IsClientBy by local remote over words (Desk r a b c) = ⊥
 IsClientBy by local remote over words (User n p) = ⊥
 IsClientBy by local remote over words (Rto i m n l) = ⊥
 IsClientBy by local remote over words (Client b o settings) = AreTransports by over b o × IsClientAt local remote words settings
@@ -144,7 +155,7 @@ IsClient words setup = ⊥
 
 -- The name and the words after it spell the setup line.
 abbrev pub IsSetupOf : List ℕ → List (List ℕ) → Setup → Type 0
-IsSetupOf name rest (Desk r a b) = (name ≡ codes "desk") × IsDesk rest (Desk r a b)
+IsSetupOf name rest (Desk r a b c) = (name ≡ codes "desk") × IsDesk rest (Desk r a b c)
 IsSetupOf name rest (User n p) = (name ≡ codes "user") × IsUser rest (User n p)
 IsSetupOf name rest (Rto i m n l) = (name ≡ codes "rto") × IsRto rest (Rto i m n l)
 IsSetupOf name rest (Client by over settings) = (name ≡ codes "client") × IsClient rest (Client by over settings)

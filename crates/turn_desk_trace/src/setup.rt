@@ -1,13 +1,13 @@
 //! Setup lines: the lines before the events.
 
-ghost use Rattle.std.specs.Prelude.{◌≡◌, ◌≢◌, ℕ, Bool, MatchOption, Option, map};
+ghost use Rattle.std.specs.Prelude.{◌≡◌, ◌≢◌, ℕ, Bool, MatchOption, Option, Some, map};
 ghost use Rattle.std.specs.declared.time.Duration.{Duration};
 ghost use Rattle.stun_proto_auth.specs.declared.feature.Feature.{Feature};
 ghost use Rattle.stun_types_base.specs.declared.transport.TransportType.{TransportType};
 ghost use Rattle.turn_desk_trace.specs.declared.setup.Client.{Client};
 ghost use Rattle.turn_desk_trace.specs.declared.setup.Families.{Families};
 ghost use Rattle.turn_desk_trace.specs.declared.setup.Setup.{Setup};
-ghost use Rattle.turn_desk_trace.specs.Setup.{anonymity_word, AreOptions, AreTransports, families_word, IsClient, IsClientAt, IsClientOf, IsClientWith, IsDesk, IsMillis, IsRto, IsRtoOf, IsRtoWith, IsSetup, IsUser};
+ghost use Rattle.turn_desk_trace.specs.Setup.{anonymity_word, AreDeskOptions, AreOptions, AreTransports, families_word, IsAddressLimit, IsClient, IsClientAt, IsClientOf, IsClientWith, IsDesk, IsMillis, IsRto, IsRtoOf, IsRtoWith, IsSetup, IsUser};
 
 use crate::address::{read_address, read_transport};
 use crate::algorithms::read_algorithms;
@@ -66,7 +66,7 @@ pub struct Client<'a> {
 /// A line that comes before the events.
 #[derive(Debug, Drop)]
 pub enum Setup<'a> {
-    /// `desk REALM ALGS ANON`: adds a server core, without users.
+    /// `desk REALM ALGS ANON`, then `clients LIMIT` or nothing: adds a server core, without users.
     Desk {
         /// Its realm, at most [`MAX_REALM`] bytes.
         realm: &'a str,
@@ -74,6 +74,9 @@ pub enum Setup<'a> {
         algorithms: SupportedIntegrity,
         /// Whether it offers to accept hashed user names.
         anonymity: Anonymity,
+        /// For how many addresses it stores something, at least 1
+        /// (`LongTermServerAuth::set_max_clients`).
+        clients: Option<u32>,
     },
     /// `user NAME PASSWORD`: adds a user to the server core.
     User {
@@ -126,18 +129,41 @@ fn read_desk<'a>(words: &[&'a str]) -> Option<Setup<'a>>
         → ¬ (IsDesk (map (λ x. x.now) words.entry.now) setup))
         (IsDesk (map (λ x. x.now) words.entry.now)) }
 {
-    let [realm, algorithms, anonymity] = words else {
+    let [realm, algorithms, anonymity, more @ ..] = words else {
         return None;
     };
     if realm.len() > MAX_REALM {
         return None;
     }
-    match (read_algorithms(algorithms), read_anonymity(anonymity)) {
-        (Some(algorithms), Some(anonymity)) => Some(Setup::Desk {
-            realm,
-            algorithms,
-            anonymity,
-        }),
+    Some(Setup::Desk {
+        realm,
+        algorithms: read_algorithms(algorithms)?,
+        anonymity: read_anonymity(anonymity)?,
+        clients: read_desk_options(more)?,
+    })
+}
+
+/// Reads the words after a server core's anonymity setting: none, or `clients` and a limit on
+/// addresses, which it returns. Returns `None` for any other words.
+fn read_desk_options(words: &[&str]) -> Option<Option<u32>>
+    ensures { MatchOption result ((clients : Option ℕ)
+        → ¬ (AreDeskOptions (map (λ x. x.now) words.entry.now) clients))
+        (AreDeskOptions (map (λ x. x.now) words.entry.now)) }
+{
+    match words {
+        [] => Some(None),
+        ["clients", limit] => Some(Some(read_address_limit(limit)?)),
+        _ => None,
+    }
+}
+
+/// Reads a limit on addresses, which is at least 1.
+fn read_address_limit(word: &str) -> Option<u32>
+    ensures { MatchOption result ((limit : Option ℕ) → ¬ (IsAddressLimit word.now limit))
+        (λ limit. IsAddressLimit word.now (Some limit)) }
+{
+    match read_u32(word) {
+        Some(limit) if limit >= 1 => Some(limit),
         _ => None,
     }
 }

@@ -30,7 +30,7 @@ use Rattle.turn_desk_world.proofs.Replays.{IsReachable, ends_after, continues_af
 
 set_up : (flags : List Bool) (p : Progress) (setup : SettingUp) (q : Progress) → IsSetUp (cut flags p) setup q
     → (r : Progress) × IsSetUp p setup r × (q ≡ cut flags r)
-set_up flags p (Desk realm algorithms anonymity) q is = (_, (is.0, refl), is.1)
+set_up flags p (Desk realm algorithms anonymity clients) q is = (_, (is.0, refl), is.1)
 set_up flags p (User name password) q is = (_, record { desk = is.desk; there = is.there; after = refl }, is.after)
 set_up flags p (Rto initial max count last) q is = (_, (is.0, is.1, refl), is.2)
 set_up flags p (Client by over settings) q is =
@@ -66,7 +66,7 @@ done_stored flags p line printed q covered (keeping.SetUp setup read possible is
     (so.0, SetUp setup (line_read flags p.named line (Setup setup) covered read) (possible_of setup possible) so.1 none, so.2)
   where
     possible_of : (s : SettingUp) → can_stand (cut flags p) (Setup s) ≡ true → can_stand p (Setup s) ≡ true
-    possible_of (Desk realm algorithms anonymity) e = e
+    possible_of (Desk realm algorithms anonymity clients) e = e
     possible_of (User name password) e = e
     possible_of (Rto initial max count last) e = e
     possible_of (Client by over settings) e = e
@@ -79,7 +79,7 @@ done_stored flags p line printed q covered (keeping.Answered event read reported
     )
 
 same_standing : (flags : List Bool) (p : Progress) (line : Line) → can_stand (cut flags p) line ≡ can_stand p line
-same_standing flags p (Setup (Desk realm algorithms anonymity)) = refl
+same_standing flags p (Setup (Desk realm algorithms anonymity clients)) = refl
 same_standing flags p (Setup (User name password)) = refl
 same_standing flags p (Setup (Rto initial max count last)) = refl
 same_standing flags p (Setup (Client by over settings)) = refl

@@ -1,5 +1,5 @@
 -- The state of a replay, and the effect of a line on it.
-use Rattle.std.specs.Prelude.{◌≡◌, ◌≤◌, ℕ, Bool, true, false, not, ◌&&◌, ◌||◌, List, [], ◌∷◌, ◌++◌, length, Option, Some, None, is_some}
+use Rattle.std.specs.Prelude.{◌≡◌, ◌≤◌, ℕ, Bool, true, false, not, ◌&&◌, ◌||◌, List, [], ◌∷◌, ◌++◌, length, Option, Some, None, IfSome, is_some}
 use Rattle.std.specs.Option.{option_map}
 use Rattle.stun_types_wire.specs.declared.algorithm.IntegrityAlgorithm.{IntegrityAlgorithm}
 use Rattle.stun_types_base.specs.declared.transport.TransportType.{TransportType}
@@ -46,7 +46,7 @@ progress_of p = record {
 -- The setup line is allowed here. It comes before the events; what it creates does not exist yet, and what it
 -- needs does.
 abbrev pub can_be_made : Progress → Setup → Bool
-can_be_made p (Desk realm algorithms anonymity) = not (is_some p.desk)
+can_be_made p (Desk realm algorithms anonymity clients) = not (is_some p.desk)
 can_be_made p (User name password) = is_some p.desk
 can_be_made p (Rto initial max count last) = not (is_some p.rto || is_some p.client)
 can_be_made p (Client by over settings) = not (is_some p.client)
@@ -55,9 +55,9 @@ abbrev pub can_set_up : Progress → Setup → Bool
 can_set_up p setup = not (is_some p.world) && can_be_made p setup
 
 -- The server core was created.
-abbrev pub IsDeskAdded : Progress → List ℕ → List IntegrityAlgorithm → Feature → Progress → Type 0
-IsDeskAdded p realm algorithms anonymity q =
-    (p.desk ≡ None) × (q ≡ record p { desk = Some (desk_of realm algorithms anonymity) })
+abbrev pub IsDeskAdded : Progress → List ℕ → List IntegrityAlgorithm → Feature → Option ℕ → Progress → Type 0
+IsDeskAdded p realm algorithms anonymity clients q =
+    (p.desk ≡ None) × (q ≡ record p { desk = Some (desk_of realm algorithms anonymity clients) })
 
 -- The server core got one more user.
 pub record IsUserAdded (p : Progress) (name password : List ℕ) (q : Progress) : Type 0 where
@@ -78,16 +78,17 @@ pub record IsClientAdded (p : Progress) (by over : TransportType) (settings : Cl
 
 -- The setup line was executed.
 abbrev pub IsSetUp : Progress → Setup → Progress → Type 0
-IsSetUp p (Desk realm algorithms anonymity) q = IsDeskAdded p realm.now algorithms anonymity q
+IsSetUp p (Desk realm algorithms anonymity clients) q = IsDeskAdded p realm.now algorithms anonymity clients q
 IsSetUp p (User name password) q = IsUserAdded p name.now password.now q
 IsSetUp p (Rto initial max count last) q =
     IsRtoSet p (record { initial = initial; max = max; retransmits = count; last = last }) q
 IsSetUp p (Client by over settings) q = IsClientAdded p by over settings q
 
--- The texts of the setup line are short enough for what it creates, and the client can request what it is to
--- request.
+-- The texts of the setup line are short enough for what it creates, a limit on addresses is at least 1, and
+-- the client can request what it is to request.
 abbrev pub IsBounded : Setup → Type 0
-IsBounded (Desk realm algorithms anonymity) = length realm.now ≤ MAX_REALM
+IsBounded (Desk realm algorithms anonymity clients) =
+    (length realm.now ≤ MAX_REALM) × IfSome clients (λ n. 1 ≤ n)
 IsBounded (User name password) = Unit {0}
 IsBounded (Rto initial max count last) = Unit {0}
 IsBounded (Client by over settings) = (length settings.name.now ≤ MAX_USERNAME) × CanAsk by over

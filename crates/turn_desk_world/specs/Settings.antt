@@ -18,8 +18,8 @@ use Rattle.turn_desk_trace.specs.declared.setup.Client.{Client}
 use Rattle.turn_desk_world.specs.declared.setting.Rto.{Rto}
 
 -- A server core for a realm, without users, clients and grants. Its nonces are valid for an hour.
-abbrev pub desk_of : List ℕ → List IntegrityAlgorithm → Feature → State
-desk_of realm algorithms anonymity = record {
+abbrev pub desk_of : List ℕ → List IntegrityAlgorithm → Feature → Option ℕ → State
+desk_of realm algorithms anonymity clients = record {
   auth = record {
     realm = realm;
     users = map.empty;
@@ -27,7 +27,7 @@ desk_of realm algorithms anonymity = record {
     nonce_expiry = 3_600_000_000_000;
     algorithms = algorithms;
     anonymous_username = anonymity;
-    max_clients = None;
+    max_clients = clients;
   };
   grants = [];
 }

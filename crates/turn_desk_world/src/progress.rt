@@ -1,6 +1,6 @@
 //! The state of a replay, and the effect of one line on it.
 
-ghost use Rattle.std.specs.Prelude.{◌≡◌, ◌≤◌, ◌||◌, ◌++◌, ◌∷◌, [], Err, IfOk, OnOk, false, is_some, length, true};
+ghost use Rattle.std.specs.Prelude.{◌≡◌, ◌≤◌, ◌||◌, ◌++◌, ◌∷◌, [], Err, IfOk, IfSome, OnOk, false, is_some, length, true};
 ghost use Rattle.std.specs.Option.{option_map};
 ghost use Rattle.std.specs.String.{string_bytes};
 ghost use Rattle.turn_desk_trace.specs.Answer.{named_by};
@@ -124,7 +124,8 @@ impl Progress {
                 realm,
                 algorithms,
                 anonymity,
-            } => self.add_desk(realm, *algorithms, *anonymity),
+                clients,
+            } => self.add_desk(realm, *algorithms, *anonymity, *clients),
             Setup::User { name, password } => self.add_user(name, password),
             Setup::Rto {
                 initial,
@@ -147,16 +148,18 @@ impl Progress {
         realm: &str,
         algorithms: SupportedIntegrity,
         anonymity: Feature,
+        clients: Option<u32>,
     ) -> Result<(), LineError>
-        requires { length realm.now ≤ MAX_REALM }
+        requires realm { length realm.now ≤ MAX_REALM }
+        requires clients { IfSome clients (λ n. 1 ≤ n) }
         ensures ok { OnOk result (IsDeskAdded (progress_of self.old) realm.now algorithms
-            anonymity (progress_of self.new)) }
+            anonymity clients (progress_of self.new)) }
         ensures bad { result ≡ Err LineError.Bad → is_some self.old.desk ≡ true }
     {
         if self.desk.is_some() {
             return Err(LineError::Bad);
         }
-        let desk = new_desk(self.alloc, realm, algorithms, anonymity)?;
+        let desk = new_desk(self.alloc, realm, algorithms, anonymity, clients)?;
         self.desk = Some(desk);
         Ok(())
     }

@@ -1,6 +1,6 @@
 //! What the setup lines of a trace create: a server core and a client.
 
-ghost use Rattle.std.specs.Prelude.{◌≡◌, ◌≢◌, ◌≤◌, [], IfOk, OnErr, OnOk, length};
+ghost use Rattle.std.specs.Prelude.{◌≡◌, ◌≢◌, ◌≤◌, [], IfOk, IfSome, OnErr, OnOk, length};
 ghost use Rattle.std.specs.List.{IsDistinct};
 ghost use Rattle.stun_proto_auth.specs.SupportedAlgorithms.{is_same_algorithm};
 ghost use Rattle.turn_client_proto.specs.Clients.{stored_of};
@@ -39,20 +39,23 @@ pub struct Rto {
 }
 
 /// Returns a server core for a realm, without users and grants. It supports these algorithms, in
-/// this order.
+/// this order, and stores something for at most so many addresses; `None` means any number.
 pub(crate) fn new_desk(
     alloc: Global,
     realm: &str,
     algorithms: SupportedIntegrity,
     anonymity: Feature,
+    clients: Option<u32>,
 ) -> Result<Desk, NoMemory>
-    requires { length realm.now ≤ MAX_REALM }
-    ensures { IfOk result (λ desk. desk ≡ desk_of realm.now algorithms anonymity) }
+    requires realm { length realm.now ≤ MAX_REALM }
+    requires clients { IfSome clients (λ n. 1 ≤ n) }
+    ensures { IfOk result (λ desk. desk ≡ desk_of realm.now algorithms anonymity clients) }
 {
     let realm = String::from_str(alloc, realm)?;
     let mut auth = LongTermServerAuth::new(alloc, realm);
     support(&mut auth, algorithms.as_slice());
     auth.set_anonymous_username(anonymity);
+    auth.set_max_clients(limit_of(clients));
     Ok(Desk::new(alloc, auth))
 }
 
