@@ -64,7 +64,8 @@ pub record DoWait : Type 0 where
       → (given ≡ None) × (new ≡ old)
   pub none_waits : (old new : ClientState) (now : ℕ) (given : Option PeerPayload) → old.control ≡ Datagrams → IsWaitingGiven old now given new → (given ≡ None) × (new ≡ old)
 
-silent : (took : TurnRecvRet (Bor (List ℕ))) (ret : Answer) → IsReported took ret → event_in ret ≡ []
+-- The event of what `recv` returns reports nothing.
+pub silent : (took : TurnRecvRet (Bor (List ℕ))) (ret : Answer) → IsReported took ret → event_in ret ≡ []
 silent recv.Handled answer.Handled is = refl
 silent (recv.Ignored came) answer.Ignored is = refl
 silent (recv.PeerData held) (answer.Peer owned) is = refl

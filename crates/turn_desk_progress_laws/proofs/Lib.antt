@@ -21,5 +21,7 @@ pub mod Runs
 pub mod Same
 pub mod Successes
 pub mod Worlds
+pub mod SecondNumbers
+pub mod Ignoring
 -- Crates that build on this one reach these proofs through it.
 pub use Rattle.turn_client_proto_progress_laws.proofs as TurnClientProtoProgressLaws

@@ -4,6 +4,7 @@
 
 pub mod connections;
 pub mod fresh;
+pub mod hardened;
 pub mod honest;
 pub mod renewals;
 pub mod requests;
