@@ -21,5 +21,6 @@ pub mod Runs
 pub mod Same
 pub mod Successes
 pub mod Worlds
+pub mod Looping
 -- Crates that build on this one reach these proofs through it.
 pub use Rattle.turn_client_proto_progress_laws.proofs as TurnClientProtoProgressLaws

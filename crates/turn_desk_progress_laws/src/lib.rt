@@ -5,6 +5,7 @@
 pub mod connections;
 pub mod fresh;
 pub mod honest;
+pub mod loops;
 pub mod renewals;
 pub mod requests;
 pub mod unforged;
