@@ -23,5 +23,6 @@ pub mod Successes
 pub mod Worlds
 pub mod SecondNumbers
 pub mod Ignoring
+pub mod Looping
 -- Crates that build on this one reach these proofs through it.
 pub use Rattle.turn_client_proto_progress_laws.proofs as TurnClientProtoProgressLaws

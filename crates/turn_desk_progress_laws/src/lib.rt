@@ -6,6 +6,7 @@ pub mod connections;
 pub mod fresh;
 pub mod hardened;
 pub mod honest;
+pub mod loops;
 pub mod renewals;
 pub mod requests;
 pub mod unforged;
