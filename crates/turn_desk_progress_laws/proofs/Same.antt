@@ -79,7 +79,7 @@ module _ (link : Link) (old : World) where
         by false apart = λ stored there.
             (let different : link.local ≢ from = (λ at. Prim.cc (sym (ap (λ (x : SocketAddr). is_same_address x link.local) (sym at) ∙ same_itself link.local) ∙ apart)) in
             decodes stored (stored_before w.desk.auth from link.local now (words_of seed) different stored a.outcome
-                (ap (λ (s : Server). map.get s.clients link.local) (sym a.after) ∙ there)))
+            (ap (λ (s : Server). map.get s.clients link.local) (sym a.after) ∙ there)))
 
     pub replied_same : IsSameDesk link old v
     replied_same = record {

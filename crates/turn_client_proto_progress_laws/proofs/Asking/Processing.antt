@@ -352,7 +352,7 @@ module _ (b : Beginning) (realm : List ℕ) (address : SocketAddr) where
       | inr new ↦ elim (cases_Bool (is_at_limit p.max_connection_attempts (length a.waiting))) [
         | inl full ↦ rw (new, full) (rejects_so Failed number)
         | inr room ↦ rw (new, room) (with_allocations (record p { allocations = change_first (may_join peer p) (attempted connection peer number) p.allocations }) (own_agent b realm address p is) refl refl refl refl refl
-          (most_changed b address (may_join peer p) (attempted connection peer number) (λ x. record { transport = refl; address = refl }) p.allocations is.one))
+            (most_changed b address (may_join peer p) (attempted connection peer number) (λ x. record { transport = refl; address = refl }) p.allocations is.one))
       ]
     ]
 
