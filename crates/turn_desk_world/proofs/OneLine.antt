@@ -37,7 +37,7 @@ abbrev is_client : List ℕ → Bool
 is_client name = not (third name == 100)
 
 setup_name : (name : List ℕ) (rest : List (List ℕ)) (setup : SettingUp) → IsSetupOf name rest setup → sets_up name ≡ true
-setup_name name rest (Desk r a b) is = ap sets_up is.0
+setup_name name rest (Desk r a b c) is = ap sets_up is.0
 setup_name name rest (User n p) is = ap sets_up is.0
 setup_name name rest (Rto i m n l) is = ap sets_up is.0
 setup_name name rest (Client by over settings) is = ap sets_up is.0
