@@ -10,7 +10,7 @@
  *   - The `out_len` of the calls that list what the client holds counts elements: together they are at most PTRDIFF_MAX
  *     bytes, as any object is. In bytes a length is checked: see TURN_BAD_LENGTH.
  *   - A handle is all zero before it is opened for the first time (TURN_CLIENT_INIT). A bool is true or false.
- *   - malloc, realloc and free come from one allocator. No call is made from a signal handler.
+ *   - malloc and free come from one allocator. No call is made from a signal handler.
  *   - Times are nanoseconds since any start, as those of CLOCK_MONOTONIC: none earlier than one before, none after
  *     TURN_MOMENT_MAX. Otherwise renewals may come at the wrong time.
  *   - The 32 bytes of a seed come from the system's source of random bytes (getrandom, getentropy), and from
@@ -25,6 +25,10 @@
  * WHO OWNS WHAT: the program owns the handle, the buffers and all else that it passes, and the client stores no pointer
  * to them. The memory that the client allocates belongs to the open handle, until turn_client_close frees it. No call
  * returns memory that the program has to free.
+ *
+ * MEMORY: each block comes from malloc with 16 bytes more, and is overwritten with zeros before it goes to free, which
+ * takes time by its size. So keys, password, name and messages do not stay in freed memory. What the program passed,
+ * and what calls left on the stack, is not overwritten.
  *
  * TURNS: the program owns sockets and clock, and takes turns. In a turn it sends what the client draws (its messages to
  * send), polls it, and takes its events. A turn is due after each call, and when the time has come that poll returned.
@@ -181,10 +185,14 @@ typedef struct turn_settings {
     uint32_t compatible;     /* 0: the client is hardened. It ignores responses to no request of its own, refuses a
                               * challenge that lacks the list of algorithms which its nonce announces, and ignores what
                               * does not validate while it allocates. 1: it takes these as the RFCs allow */
+    size_t max_connection_attempts;
+                             /* if as many connections of an allocation wait for their socket, one more that a peer
+                              * opens gets error 447 (RFC 6062); while as many messages wait to be drawn, an attempt
+                              * that would get an error is ignored. 0: 64, or no limit if compatible is 1 */
 } turn_settings;
 
 /* Settings of this size, and otherwise zero: turn_settings settings = TURN_SETTINGS_INIT; */
-#define TURN_SETTINGS_INIT {sizeof(turn_settings), {{0}, 0, 0}, {{0}, 0, 0}, 0, 0, 0, 0, 0, 0, 0, 0, 0, 0}
+#define TURN_SETTINGS_INIT {sizeof(turn_settings), {{0}, 0, 0}, {{0}, 0, 0}, 0, 0, 0, 0, 0, 0, 0, 0, 0, 0, 0}
 
 /* 32 random bytes, see above. */
 typedef struct turn_seed {
