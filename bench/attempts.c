@@ -135,8 +135,8 @@ static void take_event(turn_client *client, uint32_t kind)
     must(turn_client_event(client, &event) == TURN_OK && event.kind == kind, "an event");
 }
 
-/* Opens a client that has an allocation over TCP, and a permission for the peer. Its limits are those that settings
- * begin with. */
+/* Opens a client that has an allocation over TCP, and a permission for the peer. So many connections may wait as are
+ * measured; by default 64 may. */
 static void open_client(turn_client *client)
 {
     static const uint8_t unauthorized[] = {0, 0, 4, 1};
@@ -145,6 +145,7 @@ static void open_client(turn_client *client)
     settings.local = own, settings.server = server;
     settings.transport = settings.peers = TURN_TCP;
     settings.integrity = TURN_SHA1;
+    settings.max_connection_attempts = ATTEMPTS_MOST;
     must(turn_client_open(client, &settings, "user", 4, "pass", 4, &seed) == TURN_OK, "open");
     struct message challenge = respond(client, ERROR, 0);
     add(&challenge, ERROR_CODE, unauthorized, sizeof unauthorized);
