@@ -22,7 +22,10 @@ enum {
     MESSAGE_MOST = 160, ATTEMPTS_MOST = 10000,
 };
 
-static const struct { size_t attempts, clients; } rows[] = {{64, 400}, {1000, 20}, {ATTEMPTS_MOST, 3}};
+/* At most so many nanoseconds each, about five times what the machine of docs/SPEED.md takes. */
+static const struct { size_t attempts, clients; double most; } rows[] = {
+    {64, 400, 4000}, {1000, 20, 12000}, {ATTEMPTS_MOST, 3, 90000},
+};
 
 static const turn_address own = {{192, 0, 2, 1}, 5000, 4}, server = {{192, 0, 2, 2}, 3478, 4};
 static const turn_address peer = {{198, 51, 100, 1}, 9000, 4};
@@ -197,5 +200,6 @@ void tell_attempts(void)
         }
         snprintf(name, sizeof name, "feed: CONNECTION_ATTEMPT %zu", rows[i].attempts);
         print_time(name, least, (size_t)taken);
+        must(least <= rows[i].most, "an attempt takes longer than its bound");
     }
 }

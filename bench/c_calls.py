@@ -5,7 +5,8 @@
 
 It runs N times, once where no number is given, each with so many rounds, 40 where no number is given. The library is
 that of dist/x86_64-linux-gnu; TURN_CLIENT_LIB names another folder, and CC another compiler than cc. --results writes a
-section of results/speed.md, in which a figure is the median of the runs. It ends with 1 where an answer is wrong.
+section of results/speed.md, in which a figure is the median of the runs. It ends with 1 where an answer is wrong, or
+an attempt takes longer than its bound in attempts.c.
 """
 
 import argparse
