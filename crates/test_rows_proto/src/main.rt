@@ -9,9 +9,17 @@
 //!   word is a name, `=` and a value.
 //! - Empty lines and lines that begin with `#` are skipped.
 //! - The result of a line that cannot be parsed is `bad line`.
+//!
+//! The program runs no function of [`calls`] and [`apart`]. Each function of the first makes one call
+//! of a server's authenticator, and its contract says that the call is a step of the runs in the
+//! theorem `addresses_are_isolated` of `stun_proto`, unless a memory allocation fails. The second
+//! makes a run of several calls for two addresses, and concludes by the theorem what one of them
+//! gets.
 #![tactic(auto)]
 
 mod agent;
+mod apart;
+mod calls;
 mod client;
 mod digests;
 mod keys;

@@ -8,8 +8,9 @@
 //! - [`replay`] executes a written list of events.
 //!
 //! `desk_steps`, `desks_answer_alike` and `addresses_are_isolated` are theorems on server cores.
-//! The theorems on how a server core comes to grant an allocation are in `turn_desk_step_laws`. The
-//! theorem on the runs of a simulation is in `turn_desk_world_laws`.
+//! Crate `turn_desk_laws` has all theorems on the runs of a simulation, each under its own name:
+//! who lists that crate beside this one has them, and a program that doesn't stands on none. The
+//! theorems on how a server core comes to grant an allocation are in `turn_desk_step_laws`.
 #![tactic(auto)]
 
 pub use turn_desk_core::decision::Decision;

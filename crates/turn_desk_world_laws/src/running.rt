@@ -51,6 +51,13 @@ impl Runs for World {
     /// realm yet (theorem `new_clients_keep_no_realm`).
     ///
     /// That a connection ends with its socket (`EndWithSockets`) needs only premises 1 and 2.
+    ///
+    /// # Theorems on an honest network
+    ///
+    /// Clause `run` (`IsRun`) is what the theorems of `turn_desk_laws` stand on. They say what a
+    /// new client comes to hold, by a script (`honest_runs_allocate`) or as a driver's loop calls
+    /// it over a network that takes time (`honest_loops_allocate`), what it then requests, binds
+    /// and renews, and how it ends if nothing answers.
     fn run(&mut self, events: &[Event]) -> Result<Vec<Answer>, NoMemory>
         ensures each { IfOk result (λ answers. length answers.items ≡ length events.now) }
         ensures run { IfOk result (λ answers.

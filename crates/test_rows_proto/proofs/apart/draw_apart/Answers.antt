@@ -1,5 +1,5 @@
-use Rattle.test_auth_calls.proofs.Three.{own_nonce, three}
-use Rattle.test_auth_calls.proofs.apart.draw_apart.Goals as goal
+use Rattle.test_rows_proto.proofs.Three.{own_nonce, three}
+use Rattle.test_rows_proto.proofs.apart.draw_apart.Goals as goal
 
 pub returns-clause-run : goal.returns-clause-run
 returns-clause-run g c =
