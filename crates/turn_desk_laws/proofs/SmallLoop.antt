@@ -92,29 +92,18 @@ module _ (e : Exchange) where
     in_time : 7_200_535_000_000 < time_after 7_200_010_000_000 server.nonce_expiry
     in_time = let valid = may.valid in omega (arith, valid)
 
-    granted : IsLoop plan server (at (Granted (sent_of e.second) e.address e.lifetime e.success.items []) 520_000_000 signed_twice) _ (small_end e)
-    granted =
-        onward _ (at (Granted (sent_of e.second) e.address e.lifetime e.success.items []) 550_000_000 signed_twice) _ _ _ (Receives 550_000_000 (record { later = omega arith; in_range = omega arith }) refl refl)
-        (onward _ (small_end e) _ _ _ (GivesSecond (sent_of e.second) e.address e.lifetime e.success.items [] [] e.success 551_000_000 refl (refl, refl) (record { later = omega arith; in_range = omega arith }) refl refl) ended)
-
-    signed : IsLoop plan server (at (Signed (sent_of e.second)) 50_000_000 signed_once) _ (small_end e)
-    signed =
-        onward _ (at (Signed (sent_of e.second)) 50_000_000 signed_once) _ _ _ (Looks call.PollEvent 50_000_000 tt (record { later = omega arith; in_range = omega arith }) refl refl)
-        (onward _ (at (Signed (sent_of e.second)) 520_000_000 signed_twice) _ _ _ (DrawsOn 520_000_000 tt (record { later = omega arith; in_range = omega arith }) refl refl)
-        (onward _ (at (Granted (sent_of e.second) e.address e.lifetime e.success.items []) 520_000_000 signed_twice) _ _ _
-          (AsksSecond (sent_of e.second) e.second_come 7_200_535_000_000 e.address e.lifetime e.words refl may.second_unaltered in_time (sym (ap (λ (f : AddressFamily). f ∷ []) may.family)) may.whole refl refl)
-        granted))
-
-    came : IsLoop plan server (at Came 20_000_000 challenged_early) _ (small_end e)
-    came =
-        onward _ (at Came 20_000_000 challenged_early) _ _ _ (DrawsOn 20_000_000 tt (record { later = omega arith; in_range = omega arith }) refl refl)
-        (onward _ (at Came 20_000_000 challenged_early) _ _ _ (Polls 20_000_000 (inl before_second_end) (record { later = omega arith; in_range = omega arith }) refl refl)
-        (onward _ (at (Signed (sent_of e.second)) 50_000_000 signed_once) _ _ _ (DrawsOn 50_000_000 tt (record { later = omega arith; in_range = omega arith }) refl refl) signed))
-
     pub is_loop : IsLoop plan server start (small_loop e) (small_end e)
     is_loop =
         onward _ (at (Requested (sent_of e.first)) 0 asked_once) _ _ _ (DrawsFirst refl (record { later = omega arith; in_range = omega arith }) refl refl)
         (onward _ (at (Requested (sent_of e.first)) 0 asked_once) _ _ _ (Polls 0 before_first_end (record { later = omega arith; in_range = omega arith }) refl refl)
         (onward _ (at (Challenged (sent_of e.first) e.challenge.items []) 0 challenged) _ _ _ (AsksFirst (sent_of e.first) e.first_come 7_200_010_000_000 by.Grant e.words refl may.first_unaltered refl refl)
         (onward _ (at Came 20_000_000 challenged_early) _ _ _ (GivesFirst (sent_of e.first) e.challenge.items [] [] e.challenge 20_000_000 refl (refl, refl) (record { later = omega arith; in_range = omega arith }) refl refl)
-        came)))
+        (onward _ (at Came 20_000_000 challenged_early) _ _ _ (DrawsOn 20_000_000 tt (record { later = omega arith; in_range = omega arith }) refl refl)
+        (onward _ (at Came 20_000_000 challenged_early) _ _ _ (Polls 20_000_000 (inl before_second_end) (record { later = omega arith; in_range = omega arith }) refl refl)
+        (onward _ (at (Signed (sent_of e.second)) 50_000_000 signed_once) _ _ _ (DrawsOn 50_000_000 tt (record { later = omega arith; in_range = omega arith }) refl refl)
+        (onward _ (at (Signed (sent_of e.second)) 50_000_000 signed_once) _ _ _ (Looks call.PollEvent 50_000_000 tt (record { later = omega arith; in_range = omega arith }) refl refl)
+        (onward _ (at (Signed (sent_of e.second)) 520_000_000 signed_twice) _ _ _ (DrawsOn 520_000_000 tt (record { later = omega arith; in_range = omega arith }) refl refl)
+        (onward _ (at (Granted (sent_of e.second) e.address e.lifetime e.success.items []) 520_000_000 signed_twice) _ _ _
+          (AsksSecond (sent_of e.second) e.second_come 7_200_535_000_000 e.address e.lifetime e.words refl may.second_unaltered in_time (sym (ap (λ (f : AddressFamily). f ∷ []) may.family)) may.whole refl refl)
+        (onward _ (at (Granted (sent_of e.second) e.address e.lifetime e.success.items []) 550_000_000 signed_twice) _ _ _ (Receives 550_000_000 (record { later = omega arith; in_range = omega arith }) refl refl)
+        (onward _ (small_end e) _ _ _ (GivesSecond (sent_of e.second) e.address e.lifetime e.success.items [] [] e.success 551_000_000 refl (refl, refl) (record { later = omega arith; in_range = omega arith }) refl refl) ended)))))))))))

@@ -67,8 +67,10 @@ small_loop e = (Draw 0, answer.Transmit e.first)
     ∷ (Draw 50_000_000, answer.Transmit e.second)
     ∷ (Call call.PollEvent 50_000_000, answer.Nothing)
     ∷ (Draw 520_000_000, answer.Transmit e.second)
-    ∷ (ToDesk e.second_come e.second.from 7_200_535_000_000 (by.Allocate (e.address ∷ []) e.lifetime) e.words,
-      answer.Reply e.success)
+    ∷ (
+      ToDesk e.second_come e.second.from 7_200_535_000_000 (by.Allocate (e.address ∷ []) e.lifetime) e.words,
+      answer.Reply e.success,
+    )
     ∷ (Call call.PollRecv 550_000_000, answer.Nothing)
     ∷ (ToClient e.success e.second.to e.second.from 551_000_000, answer.Handled)
     ∷ []

@@ -133,8 +133,8 @@ pub fn runs_allocate_beside_others()
         → IsScript plan Start without progress
         → HasCome plan (seen_from plan.client.here old) (events_in pairs) progress
         (seen_from plan.client.here new) }
-    ensures hardened { (plan : Plan) (old new : World) (honest without pairs : List (Event × Answer))
-        (progress : Progress)
+    ensures hardened { (plan : Plan) (old new : World)
+        (honest without pairs : List (Event × Answer)) (progress : Progress)
         → plan.client.config.hardened ≡ true
         → IsFresh plan old
         → old.desk.auth.max_clients ≡ None

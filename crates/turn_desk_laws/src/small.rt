@@ -27,9 +27,9 @@ ghost use Rattle.turn_desk_progress_laws.specs.Scripts.{Plan};
 ghost use Rattle.turn_desk_laws.specs.Small.{Exchange, MayHappen, asked_once, challenged_early};
 ghost use Rattle.turn_desk_laws.specs.Small.{signed_once, small_end, small_loop, small_plan};
 
-/// There are loops. In `small_loop`, over UDP, the first reply comes after 20 ms; the second request
-/// is lost once and retransmitted; and its reply comes 501 ms after it was first transmitted. The
-/// server core's clock is two hours ahead of the client's.
+/// There are loops. In `small_loop`, over UDP, the first reply comes after 20 ms. The second
+/// request is lost once and retransmitted, and its reply comes 501 ms after it was first
+/// transmitted. The server core's clock is two hours ahead of the client's.
 ///
 /// Premises (`MayHappen`): the requests reach the server core unaltered, its nonces are valid for
 /// more than 525 ms, and the address that is allocated is one of IPv4, without flow information and
