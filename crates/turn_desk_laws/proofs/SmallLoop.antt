@@ -104,6 +104,6 @@ module _ (e : Exchange) where
         (onward _ (at (Signed (sent_of e.second)) 50_000_000 signed_once) _ _ _ (Looks call.PollEvent 50_000_000 tt (record { later = omega arith; in_range = omega arith }) refl refl)
         (onward _ (at (Signed (sent_of e.second)) 520_000_000 signed_twice) _ _ _ (DrawsOn 520_000_000 tt (record { later = omega arith; in_range = omega arith }) refl refl)
         (onward _ (at (Granted (sent_of e.second) e.address e.lifetime e.success.items []) 520_000_000 signed_twice) _ _ _
-          (AsksSecond (sent_of e.second) e.second_come 7_200_535_000_000 e.address e.lifetime e.words refl may.second_unaltered in_time (sym (ap (λ (f : AddressFamily). f ∷ []) may.family)) may.whole refl refl)
+        (AsksSecond (sent_of e.second) e.second_come 7_200_535_000_000 e.address e.lifetime e.words refl may.second_unaltered in_time (sym (ap (λ (f : AddressFamily). f ∷ []) may.family)) may.whole refl refl)
         (onward _ (at (Granted (sent_of e.second) e.address e.lifetime e.success.items []) 550_000_000 signed_twice) _ _ _ (Receives 550_000_000 (record { later = omega arith; in_range = omega arith }) refl refl)
         (onward _ (small_end e) _ _ _ (GivesSecond (sent_of e.second) e.address e.lifetime e.success.items [] [] e.success 551_000_000 refl (refl, refl) (record { later = omega arith; in_range = omega arith }) refl refl) ended)))))))))))
