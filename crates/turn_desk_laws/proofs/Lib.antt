@@ -1,0 +1,3 @@
+pub mod BesideRuns
+pub mod BesideSeen
+pub mod SmallLoop
