@@ -1,0 +1,4 @@
+pub mod ConnectionAgain
+pub mod ConnectionCalm
+pub mod ConnectionChunks
+pub mod ConnectionTools

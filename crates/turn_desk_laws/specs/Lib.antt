@@ -1,0 +1,4 @@
+pub mod ConnectionLoops
+pub mod ConnectionPromises
+pub mod ConnectionRequests
+pub mod ConnectionStages
