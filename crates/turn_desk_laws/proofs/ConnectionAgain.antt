@@ -57,7 +57,7 @@ use Rattle.turn_client_proto_progress_laws.specs.Replies.{CanAnswer, IsChallenge
 use Rattle.turn_client_proto_progress_laws.specs.TcpBinding.{IsTcpBinding}
 
 -- A challenge isn't an indication.
-no_indication : (bytes : List ℕ) (reported : ChallengeFields) → challenge_visible bytes ≡ Some reported → is_indication (class_of (kind_at bytes)) ≡ false
+pub no_indication : (bytes : List ℕ) (reported : ChallengeFields) → challenge_visible bytes ≡ Some reported → is_indication (class_of (kind_at bytes)) ≡ false
 no_indication bytes reported is = by (class_of (kind_at bytes)) is
   where
     by : (c : MessageClass) → (if is_error c && is_challenge_code (code_visible bytes) then reported_of (claimed bytes) else None) ≡ Some reported → is_indication c ≡ false

@@ -77,7 +77,7 @@ module _ (plan : Plan) (w v : World) (target : Target) (address : SocketAddr) (l
   come = open_at plan.client.transport [] tcp.over
 
   pub never_lost : {A : Type 0} → fed.fed.took ≡ recv.NoMemory fed.fed.came → A
-  never_lost lost = absurd (subst (λ (t : TurnRecvRet (Bor (List ℕ))). IsReported t ret) lost fed.fed.reported)
+  never_lost lost = absurd (subst (λ (x : TurnRecvRet (Bor (List ℕ))). IsReported x ret) lost fed.fed.reported)
 
   pub there_so : HasCome [] fed.after → v.client ≡ Some (over control fed.after.core)
   there_so occurs = fed.there ∙ ap Some (stays control fed.after (occurs ∙ sym come))

@@ -1,6 +1,6 @@
 -- What an event of a simulation is for a client that requests a connection while a loop drives it.
-use Rattle.std.proofs.Common.{◌≡◌, ◌≢◌, ◌≤◌, ◌<◌, ◌+◌, ◌^◌, ◌++◌, ℕ, true, arith, List, [], ◌∷◌, Some, None, refl, sym, ap, ◌∙◌, subst, inl, inr}
-use Rattle.std.specs.Prelude.{◌==◌, IsSome, Vec, min}
+use Rattle.std.proofs.Common.{◌≡◌, ◌≢◌, ◌≤◌, ◌<◌, ◌+◌, ◌-◌, ◌++◌, ℕ, true, false, arith, List, [], ◌∷◌, Some, None, refl, sym, ap, ◌∙◌, subst, inl, inr}
+use Rattle.std.specs.Prelude.{◌==◌, IsSome, Vec}
 use Rattle.std.proofs.lemmas.Bool.{eq-eqb}
 use Rattle.std.specs.FinMap as map
 use Rattle.std.specs.declared.alloc.Global.{Global}
@@ -20,6 +20,8 @@ use Rattle.turn_client_proto_api.specs.StunProtoAuth.Nonce.{features_offered}
 use Rattle.turn_client_proto_api.specs.declared.event.TurnEvent.{TurnEvent}
 use Rattle.turn_client_proto_step_laws.specs.Recv.ClientState.{Protocol}
 use Rattle.turn_client_proto_handshake_laws.specs.Coming.{IsPartOf}
+use Rattle.turn_desk_event.specs.StunProtoTransaction.Schedule.{Waits, end_at, transmissions, waits_after}
+use Rattle.std.specs.List.{sum}
 use Rattle.turn_client_proto_messages.specs.Allocation.Awaited.{has_number}
 use Rattle.turn_client_proto_handshake_laws.specs.Requested.{Requested}
 use Rattle.turn_client_proto_progress_laws.specs.Holders.{Holder, IsListed, IsSignedBy}
@@ -57,8 +59,11 @@ pub itself : (a : ℕ) → a ≤ a
 itself a = omega arith
 
 -- What is made later is given up later.
-pub later_end : (one other wait now : ℕ) → one ≤ other → now < time_after one wait → now < time_after other wait
+later_end : (one other wait now : ℕ) → one ≤ other → now < time_after one wait → now < time_after other wait
 later_end one other wait now sooner before = omega (arith, sooner, before)
+
+pub given_up_later : (one other : ℕ) (waits : Waits) (now : ℕ) → one ≤ other → now < end_at one waits → now < end_at other waits
+given_up_later one other waits now sooner before = later_end one other (sum (waits_after waits (transmissions false waits - 1)) + waits.final) now sooner before
 
 -- A transaction ID alone is among itself.
 pub alone_among : (n : ℕ) → has_number n (n ∷ []) ≡ true

@@ -126,11 +126,13 @@ pub record IsQuiet (lifetime since : ℕ) (t : Timing) (now : ℕ) : Type 0 wher
   pub before_refresh : now < refresh_due lifetime since
   pub before_permission : now < permission_due t.granted
 
--- Nothing that the client holds is to be renewed yet: until the permission is granted, that is the allocation alone.
+-- The same while a request of this method is queued or outstanding: until the permission is granted, the client holds
+-- the allocation alone.
 abbrev pub IsQuietFor : (lifetime since : ℕ) → Method → Timing → (now : ℕ) → Type 0
 IsQuietFor lifetime since Permission t now = now < refresh_due lifetime since
 IsQuietFor lifetime since method t now = IsQuiet lifetime since t now
 
+-- The same at any position.
 abbrev pub IsQuietAt : (lifetime since : ℕ) → Reached → Timing → (now : ℕ) → Type 0
 IsQuietAt lifetime since Held t now = now < refresh_due lifetime since
 IsQuietAt lifetime since Unpermitted t now = Unit {0}
@@ -196,7 +198,10 @@ permitted now t = record t { granted = now; challenges = 0 }
 
 -- All of a challenge has come. A challenge to a CONNECTION_BIND isn't counted, and that request stays outstanding.
 abbrev pub challenged : Method → (now : ℕ) → Sent → List ℕ → Timing → Timing
-challenged Bind now request reply t = record t { made = now; again = Some (record { request = request; reply = reply }) }
+challenged Bind now request reply t = record t {
+  made = now;
+  again = Some (record { request = request; reply = reply });
+}
 challenged method now request reply t = record t {
   made = now;
   oldest = now;
@@ -316,7 +321,8 @@ pub data Leads (plan : Plan) (lifetime since : ℕ) (target : Target) (position 
   GivesConnect : (request : Sent) (reply head : List ℕ) (bytes : Vec ℕ Global) (now : ℕ)
       → position.reached ≡ Answered Connect request reply head → bytes.items ≢ [] → reply ≡ head ++ bytes.items
       → IsNext position now → event ≡ ToClient bytes request.to request.from now
-      → next ≡ record position { reached = Known; last = now } → Leads plan lifetime since target position event ret next
+      → next ≡ record position { reached = Known; last = now }
+      → Leads plan lifetime since target position event ret next
   -- Bytes of the peer may follow at once.
   GivesBind : (request : Sent) (reply head more : List ℕ) (bytes : Vec ℕ Global) (now : ℕ)
       → position.reached ≡ Answered Bind request reply head → bytes.items ≢ [] → head ++ bytes.items ≡ reply ++ more
@@ -345,7 +351,8 @@ pub data Leads (plan : Plan) (lifetime since : ℕ) (target : Target) (position 
       → Leads plan lifetime since target position event ret next
 
 -- The events and results lead from one position to another.
-unfoldable pub IsConnecting : Plan → (lifetime since : ℕ) → Target → Position → List (Event × Answer) → Position → Type 0
+unfoldable pub IsConnecting : Plan → (lifetime since : ℕ) → Target → Position → List (Event × Answer) → Position
+    → Type 0
 IsConnecting plan lifetime since target position [] last = last ≡ position
 IsConnecting plan lifetime since target position (pair ∷ pairs) last =
     (next : Position) × Leads plan lifetime since target position pair.0 pair.1 next

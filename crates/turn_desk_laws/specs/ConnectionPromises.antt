@@ -12,7 +12,7 @@ use Rattle.turn_client_proto_api.specs.Sent.{Sent}
 use Rattle.turn_client_proto_api.specs.declared.answer.Socket5Tuple.{Socket5Tuple}
 use Rattle.turn_client_proto_messages.specs.StunProtoClient.Challenges.{ChallengeFields, challenge_visible}
 use Rattle.turn_client_proto_messages.specs.declared.request.TurnRequest.{TurnRequest}
-use Rattle.turn_client_proto_messages.specs.declared.request.TurnRequest.TheVariants as request
+use Rattle.turn_client_proto_messages.specs.declared.request.TurnRequest.TheVariants as turn
 use Rattle.turn_client_proto_step_laws.specs.Sound.{IsWhole}
 use Rattle.turn_client_proto_step_laws.specs.Timers.Polling.{cadence}
 use Rattle.turn_desk_event.specs.declared.answer.Answer.{Answer}
@@ -34,9 +34,9 @@ use Rattle.turn_desk_laws.specs.ConnectionLoops.{Permitted, Position, Queued, Re
 -- What a request of this method asks for, its method, and the address from which it is sent: a CONNECTION_BIND is
 -- sent from the socket.
 abbrev pub asked_for : Target → Method → TurnRequest
-asked_for target Permission = request.CreatePermission (socket_ip target.peer)
-asked_for target Connect = request.Connect target.peer
-asked_for target Bind = request.ConnectionBind target.number
+asked_for target Permission = turn.CreatePermission (socket_ip target.peer)
+asked_for target Connect = turn.Connect target.peer
+asked_for target Bind = turn.ConnectionBind target.number
 
 abbrev pub number_of : Method → ℕ
 number_of Permission = create_permission_method

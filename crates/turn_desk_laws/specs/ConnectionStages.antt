@@ -84,8 +84,8 @@ permitted_at target granted = granted_for (socket_ip target.peer) granted ∷ []
 
 -- The client's allocation while a request of this method is queued or outstanding. A permission lists the transaction
 -- IDs `ids` of its requests. Of the reply to a CONNECTION_BIND these first bytes have come over the socket.
-abbrev pub pending_for : Target → Method → Holder → (granted made : ℕ) (ids : List ℕ) (transaction_id : ℕ) (head : List ℕ)
-    → Allocation
+abbrev pub pending_for : Target → Method → Holder → (granted made : ℕ) (ids : List ℕ) (transaction_id : ℕ)
+    (head : List ℕ) → Allocation
 pending_for target Permission h granted made ids transaction_id head = permitting_by h (socket_ip target.peer) ids
 pending_for target Connect h granted made ids transaction_id head =
     connecting_to h (permitted_at target granted) target.peer transaction_id
@@ -150,7 +150,8 @@ pub record IsAsked (plan : Plan) (target : Target) (method : Method) (t : Timing
 pub record IsQueued (plan : Plan) (target : Target) (method : Method) (t : Timing) (h : Holder)
     (events : List TurnEvent) (p : Protocol) : Type 0 where
   pub transaction_id : ℕ
-  pub asked : IsAsked plan target method t (queued_at plan target method h t transaction_id) [] h events p transaction_id
+  pub asked : IsAsked plan target method t (queued_at plan target method h t transaction_id) [] h events p
+      transaction_id
 
 pub record IsTransmitted (plan : Plan) (target : Target) (method : Method) (t : Timing) (request : Sent)
     (head : List ℕ) (h : Holder) (events : List TurnEvent) (p : Protocol) : Type 0 where
@@ -193,7 +194,8 @@ pub record HasHeld (t : Timing) (h : Holder) (events : List TurnEvent) (p : Prot
   pub is : IsHolding h t.sent events p
   pub counts : p.resends ≡ t.challenges
 
-pub record IsPermitted (target : Target) (t : Timing) (h : Holder) (events : List TurnEvent) (p : Protocol) : Type 0 where
+pub record IsPermitted (target : Target) (t : Timing) (h : Holder) (events : List TurnEvent) (p : Protocol)
+    : Type 0 where
   pub is : IsReady h (socket_ip target.peer) t.granted t.sent events p
   pub counts : p.resends ≡ t.challenges
 

@@ -372,9 +372,9 @@ pub fn events_of_connections_lead_on()
 /// announces what it accepts (`ReportsOwn`); the operator knows that. Then (`IsConnecting`):
 ///
 /// 1. The application requests a permission for the peer's IP, before a REFRESH of the allocation
-///    is due. Once the reply has come, it requests a connection to the peer, before a REFRESH or
-///    the permission's renewal is due, 240 s after that reply. Once the client requests a socket, it
-///    is given one whose local address isn't the client's own.
+///    is due. Once the reply has come, it requests a connection to the peer, before a REFRESH is
+///    due, or the permission's renewal, 240 s after that reply. Once the client requests a socket,
+///    it is given one whose local address isn't the client's own.
 /// 2. `poll_transmit`, `poll`, `poll_recv` and the getters may be called, and events polled, in any
 ///    order and however often; `poll_recv` until the connection is bound. No call is presumed to
 ///    give something or nothing. The times never go back, up to the latest time of a client

@@ -53,22 +53,22 @@ module _ (c : goal.After-challenges_are_counted) (plan : Plan) (old w v : World)
         let a = c.permissions_are_requested_for.ensures.requested h t.sent s.events s.client.core core (socket_ip target.peer) now s.client.is.is is in
         let counted = c.challenges_are_counted.ensures.permission h t.sent s.events s.client.core core (socket_ip target.peer) now s.client.is.is is in (
           moves plan old w v target address lifetime since [] [] (λ h events p. HasHeld t h events p) (λ h events p. IsQueued plan target Permission (requested now t) h events p) s same core there s.events
-          (record {
-            transaction_id = a.0;
-            asked = record {
-              fits = a.1;
-              ids = a.0 ∷ [];
-              among = alone_among a.0;
-              older = [];
-              since_oldest = λ x listed. absurd listed;
-              made_later = itself now;
-              lawful = a.2;
-              apart = tt;
-              is = a.3;
-              counts = counted ∙ s.client.is.counts;
-              again = tt;
-            };
-          }),
+              (record {
+                transaction_id = a.0;
+                asked = record {
+                  fits = a.1;
+                  ids = a.0 ∷ [];
+                  among = alone_among a.0;
+                  older = [];
+                  since_oldest = λ x listed. absurd listed;
+                  made_later = itself now;
+                  lawful = a.2;
+                  apart = tt;
+                  is = a.3;
+                  counts = counted ∙ s.client.is.counts;
+                  again = tt;
+                };
+              }),
           family_of_peer target.peer ∙ (both.0 refl).family,
         )
     permission_by (answer.Refused (refusal.CreatePermission error)) core there same is =

@@ -143,7 +143,7 @@ by_method c plan old w v target address lifetime since t Bind request reply head
     let asked = is.transmitted.asked in
     let f = fed plan w v target address lifetime since t request head bytes now ret tcp in_range some step s.auth s.standing s.events s.client.core s.client.there is.transmitted in
     let whole : reply ≡ head ++ f.fed.came.bytes.now = all ∙ ap (λ (l : List ℕ). head ++ l) (sym f.fed.bytes_are) in
-    let taken = c.messages_reach_sockets.ensures.challenged h asked.older (permitted_at target t.granted) target.local target.peer target.number is.transmitted.transaction_id t.made t.sent head s.events _ f.after f.fed.came now f.fed.took is.reported is.choice
+    let taken = c.messages_reach_sockets.ensures.challenged h asked.older (permitted_at target t.granted) target.local target.peer target.number is.transmitted.transaction_id t.made t.sent head s.events (over (control_at plan.client.transport []) s.client.core) f.after f.fed.came now f.fed.took is.reported is.choice
     asked.is asked.apart (come plan w v target address lifetime since t request head bytes now ret tcp in_range some step s.auth s.standing s.events s.client.core s.client.there is.transmitted)
     (from_server plan w v target address lifetime since t request head bytes now ret tcp in_range some step s.auth s.standing s.events s.client.core s.client.there is.transmitted)
     (some_came plan w v target address lifetime since t request head bytes now ret tcp in_range some step s.auth s.standing s.events s.client.core s.client.there is.transmitted)

@@ -26,7 +26,7 @@ use Rattle.turn_desk_progress_laws.proofs.Times.{order}
 use Rattle.turn_desk_laws.specs.ConnectionLoops.{Answered, Bind, Bound, Challenged, Clear, Connect, Held, IsQuiet, IsQuietFor, Known, MayDraw, Method, Off, Permission}
 use Rattle.turn_desk_laws.specs.ConnectionLoops.{Permitted, Queued, Reached, Target, Timing, Transmitted, Unpermitted, Waiting, after_draw, drawn, transmitted_next}
 use Rattle.turn_desk_laws.specs.ConnectionPromises.{IsDrawnAt, IsGivenInTime, from_of}
-use Rattle.turn_desk_laws.specs.ConnectionStages.{IsAsked, IsHeldFor, IsQueued, IsStage, IsTransmitted, earlier_of, holder_at, own_head, pending_for, permitted_at, request_at, socket_head}
+use Rattle.turn_desk_laws.specs.ConnectionStages.{IsAsked, IsHeldFor, IsQueued, IsStage, IsTransmitted, earlier_of, holder_at, own_head, pending_for, permitted_at, queued_at, request_at, socket_head}
 use Rattle.turn_desk_laws.proofs.ConnectionTools.{counts_on, moves, never}
 use Rattle.turn_desk_laws.proofs.connections.draws_give_queued_requests.Goals as goal
 
@@ -46,7 +46,7 @@ module _ (c : goal.After-transmitted_requests_are_signed) (plan : Plan) (old w v
     abbrev n : ℕ
     n = s.client.is.transaction_id
 
-    abbrev asked : IsAsked plan target method t _ _ h s.events s.client.core n
+    abbrev asked : IsAsked plan target method t (queued_at plan target method h t n) [] h s.events s.client.core n
     asked = s.client.is.asked
 
     module _ (core : Protocol) (there : v.client ≡ Some (over (control_at plan.client.transport []) core)) (same : v.desk ≡ w.desk) where
@@ -57,7 +57,7 @@ module _ (c : goal.After-transmitted_requests_are_signed) (plan : Plan) (old w v
           (λ sent q is. c.holders_rest.ensures.rests h _ (earlier_of method asked.older) _ _ t.sent s.events s.client.core q now sent asked.is refl soon is) transmitted in
           subst (λ (r : Answer). Stage (transmitted_next method r) (drawn now r t) v × IsGivenInTime plan old target method t now r) (sym k.0) (
             moves plan old w v target address lifetime since [] [] (λ h events p. IsQueued plan target method t h events p) (λ h events p. IsQueued plan target method t h events p) s same core there s.events
-            (subst (λ (p : Protocol). IsQueued plan target method t h s.events p) (sym k.1) s.client.is),
+                (subst (λ (p : Protocol). IsQueued plan target method t h s.events p) (sym k.1) s.client.is),
             record { due = λ late. never now (time_after t.sent cadence) soon late; early = λ _. refl },
           )
 
@@ -124,10 +124,10 @@ module _ (c : goal.After-transmitted_requests_are_signed) (plan : Plan) (old w v
   stays reached s r = subst (λ (x : World). Stage reached (drawn now ret t) x) (sym r.1) (subst (λ (a : Answer). Stage reached (drawn now a t) w) (sym r.0) s)
 
   bare : (h : Holder) → h.lifetime ≡ lifetime → h.since ≡ since → now < refresh_due lifetime since → IsResting h [] now
-  bare h long from quiet = record { before = rw (long, from) quiet; standing = tt }
+  bare h long from quiet = record { before = (rw (long, from) quiet); standing = tt }
 
   with_permission : (h : Holder) → h.lifetime ≡ lifetime → h.since ≡ since → IsQuiet lifetime since t now → IsResting h (permitted_at target t.granted) now
-  with_permission h long from quiet = record { before = rw (long, from) quiet.before_refresh; standing = (refl, quiet.before_permission, tt) }
+  with_permission h long from quiet = record { before = (let b = quiet.before_refresh in rw (long, from) b); standing = (refl, quiet.before_permission, tt) }
 
   asked_rests : (method : Method) (auth : Client) (standing : Standing) (head : List ℕ) (events : List TurnEvent) (p : Protocol) (n : ℕ) → IsQuietFor lifetime since method t now
       → IsAsked plan target method t [] head (holder_at plan address lifetime since auth standing) events p n → (sent : Option Sent) (q : Protocol) → IsDrawn p now sent q → (sent ≡ None) × (q ≡ p)

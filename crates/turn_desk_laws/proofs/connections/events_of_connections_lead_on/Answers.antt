@@ -139,7 +139,7 @@ module _ (c : goal.After-connections_are_listed) (plan : Plan) (old w v : World)
 
     -- With the result too.
     as_answered : (happening : Event) (r : Answer) (to : Position) → event ≡ happening → ret ≡ r → next ≡ to → (IsStep happening w r v → At to × IsGivenBy plan old target position w happening ret) → IsStep event w ret v → After next event
-    as_answered happening r to one answer two so = as_said happening to one two (λ step. so (subst (λ (x : Answer). IsStep happening w x v) answer step))
+    as_answered happening r to one replied two so = as_said happening to one two (λ step. so (subst (λ (x : Answer). IsStep happening w x v) replied step))
 
     stage_at : (reached : Reached) → position.reached ≡ reached → IsStage plan old target address lifetime since reached t w
     stage_at reached at = subst (λ (r : Reached). IsStage plan old target address lifetime since r t w) at is.stage
@@ -165,99 +165,99 @@ module _ (c : goal.After-connections_are_listed) (plan : Plan) (old w v : World)
         let k = c.calls_queue_requests.ensures.permission plan old w v target address lifetime since t now ret soon.in_range before (stage_at Held at) step in
         (record { sooner = itself now; family = k.1; stage = k.0 }, tt)))
     one (AsksConnect now at soon quiet is_event to) = as_said _ _ is_event to (λ step. (
-        record {
-          sooner = itself now;
-          family = of_called target address Connect ret (family_at Permitted at);
-          stage = c.calls_queue_requests.ensures.connection plan old w v target address lifetime since t now ret soon.in_range quiet (family_at Permitted at) (stage_at Permitted at) step;
-        },
-        tt,
+      record {
+        sooner = itself now;
+        family = of_called target address Connect ret (family_at Permitted at);
+        stage = c.calls_queue_requests.ensures.connection plan old w v target address lifetime since t now ret soon.in_range quiet (family_at Permitted at) (stage_at Permitted at) step;
+      },
+      tt,
     ))
     one (Opens connection socket peer now at apart soon is_event to) = as_said _ _ is_event to (λ step. (
-        record {
-          sooner = itself now;
-          family = of_called target address Bind ret (family_at (Waiting connection socket peer) at);
-          stage = c.calls_queue_requests.ensures.socket plan old w v target address lifetime since t now ret connection socket peer soon.in_range apart (stage_at (Waiting connection socket peer) at) step;
-        },
-        tt,
+      record {
+        sooner = itself now;
+        family = of_called target address Bind ret (family_at (Waiting connection socket peer) at);
+        stage = c.calls_queue_requests.ensures.socket plan old w v target address lifetime since t now ret connection socket peer soon.in_range apart (stage_at (Waiting connection socket peer) at) step;
+      },
+      tt,
     ))
     one (Draws now quiet soon is_event to) = as_said _ _ is_event to (λ step. (
         let k = c.draws_give_queued_requests.ensures plan old w v target address lifetime since t position.reached now ret soon.in_range quiet is.stage step in
         (record { sooner = sooner_drawn t now ret (sooner now soon); family = of_drawn target address position.reached ret is.family; stage = k.0 }, k.1)))
-    one (Grants method request bytes reply now decision seed at same decided is_event answer success to) = as_answered _ _ _ is_event answer to (λ step. (
-        record {
-          sooner = is.sooner;
-          family = family_at (Transmitted method request) at;
-          stage = c.requests_are_replied_to.ensures.granted plan old w v target address lifetime since t method request bytes reply now decision seed may same decided success (stage_at (Transmitted method request) at) step;
-        },
-        tt,
+    one (Grants method request bytes reply now decision seed at same decided is_event replied success to) = as_answered _ _ _ is_event replied to (λ step. (
+      record {
+        sooner = is.sooner;
+        family = family_at (Transmitted method request) at;
+        stage = c.requests_are_replied_to.ensures.granted plan old w v target address lifetime since t method request bytes reply now decision seed may same decided success (stage_at (Transmitted method request) at) step;
+      },
+      tt,
     ))
-    one (Challenges method request bytes reply now decision seed reported at same allowed is_event answer shows to) = as_answered _ _ _ is_event answer to (λ step. (
-        record {
-          sooner = is.sooner;
-          family = family_at (Transmitted method request) at;
-          stage = c.requests_are_replied_to.ensures.challenged plan old w v target address lifetime since t method request bytes reply now decision seed reported same allowed shows (stage_at (Transmitted method request) at) step;
-        },
-        tt,
+    one (Challenges method request bytes reply now decision seed reported at same allowed is_event replied shows to) = as_answered _ _ _ is_event replied to (λ step. (
+      record {
+        sooner = is.sooner;
+        family = family_at (Transmitted method request) at;
+        stage = c.requests_are_replied_to.ensures.challenged plan old w v target address lifetime since t method request bytes reply now decision seed reported same allowed shows (stage_at (Transmitted method request) at) step;
+      },
+      tt,
     ))
     one (GivesPart method request reply head rest bytes now at some parts more soon is_event to) = as_said _ _ is_event to (λ step. (
-        record {
-          sooner = sooner now soon;
-          family = family_at (Answered method request reply head) at;
-          stage = c.chunks_are_buffered.ensures.answered plan old w v target address lifetime since t method request reply head rest bytes now ret tcp soon.in_range some parts more (stage_at (Answered method request reply head) at) step;
-        },
-        tt,
+      record {
+        sooner = sooner now soon;
+        family = family_at (Answered method request reply head) at;
+        stage = c.chunks_are_buffered.ensures.answered plan old w v target address lifetime since t method request reply head rest bytes now ret tcp soon.in_range some parts more (stage_at (Answered method request reply head) at) step;
+      },
+      tt,
     ))
     one (TurnsPart method request reply head rest bytes now at some parts more soon is_event to) = as_said _ _ is_event to (λ step. (
-        record {
-          sooner = sooner now soon;
-          family = family_at (Challenged method request reply head) at;
-          stage = c.chunks_are_buffered.ensures.challenged plan old w v target address lifetime since t method request reply head rest bytes now ret tcp soon.in_range some parts more (stage_at (Challenged method request reply head) at) step;
-        },
-        tt,
+      record {
+        sooner = sooner now soon;
+        family = family_at (Challenged method request reply head) at;
+        stage = c.chunks_are_buffered.ensures.challenged plan old w v target address lifetime since t method request reply head rest bytes now ret tcp soon.in_range some parts more (stage_at (Challenged method request reply head) at) step;
+      },
+      tt,
     ))
     one (GivesPermission request reply head bytes now at some all soon is_event to) = as_said _ _ is_event to (λ step. (
-        record {
-          sooner = sooner now soon;
-          family = family_at (Answered Permission request reply head) at;
-          stage = c.last_chunks_are_taken.ensures.permission plan old w v target address lifetime since t request reply head bytes now ret tcp soon.in_range some all (stage_at (Answered Permission request reply head) at) step;
-        },
-        tt,
+      record {
+        sooner = sooner now soon;
+        family = family_at (Answered Permission request reply head) at;
+        stage = c.last_chunks_are_taken.ensures.permission plan old w v target address lifetime since t request reply head bytes now ret tcp soon.in_range some all (stage_at (Answered Permission request reply head) at) step;
+      },
+      tt,
     ))
     one (GivesConnect request reply head bytes now at some all soon is_event to) = as_said _ _ is_event to (λ step. (
-        record {
-          sooner = sooner now soon;
-          family = family_at (Answered Connect request reply head) at;
-          stage = c.last_chunks_are_taken.ensures.connection plan old w v target address lifetime since t request reply head bytes now ret tcp soon.in_range some all (stage_at (Answered Connect request reply head) at) step;
-        },
-        tt,
+      record {
+        sooner = sooner now soon;
+        family = family_at (Answered Connect request reply head) at;
+        stage = c.last_chunks_are_taken.ensures.connection plan old w v target address lifetime since t request reply head bytes now ret tcp soon.in_range some all (stage_at (Answered Connect request reply head) at) step;
+      },
+      tt,
     ))
     one (GivesBind request reply head more bytes now at some parts soon is_event to) = as_said _ _ is_event to (λ step. (
-        record {
-          sooner = sooner now soon;
-          family = family_at (Answered Bind request reply head) at;
-          stage = c.last_chunks_are_taken.ensures.bound plan old w v target address lifetime since t request reply head more bytes now ret tcp soon.in_range some parts (stage_at (Answered Bind request reply head) at) step;
-        },
-        tt,
+      record {
+        sooner = sooner now soon;
+        family = family_at (Answered Bind request reply head) at;
+        stage = c.last_chunks_are_taken.ensures.bound plan old w v target address lifetime since t request reply head more bytes now ret tcp soon.in_range some parts (stage_at (Answered Bind request reply head) at) step;
+      },
+      tt,
     ))
     one (TurnsAll method request reply head bytes now at some all soon is_event to) = as_said _ _ is_event to (λ step. (
-        record {
-          sooner = sooner_challenged t method now request reply (sooner now soon);
-          family = family_at (Challenged method request reply head) at;
-          stage = c.challenges_are_answered_again.ensures plan old w v target address lifetime since t method request reply head bytes now ret tcp soon.in_range (sooner now soon) some all (stage_at (Challenged method request reply head) at) step;
-        },
-        tt,
+      record {
+        sooner = sooner_challenged t method now request reply (sooner now soon);
+        family = family_at (Challenged method request reply head) at;
+        stage = c.challenges_are_answered_again.ensures plan old w v target address lifetime since t method request reply head bytes now ret tcp soon.in_range (sooner now soon) some all (stage_at (Challenged method request reply head) at) step;
+      },
+      tt,
     ))
     one (Looks what now look soon is_event to) = as_said _ _ is_event to (λ step. (
-        record {
-          sooner = sooner now soon;
-          family = of_looked target address what position.reached ret is.family;
-          stage = c.looks_change_nothing.ensures.looks plan old w v target address lifetime since t position.reached what now ret soon.in_range look is.stage step;
-        },
-        look_given what now look,
+      record {
+        sooner = sooner now soon;
+        family = of_looked target address what position.reached ret is.family;
+        stage = c.looks_change_nothing.ensures.looks plan old w v target address lifetime since t position.reached what now ret soon.in_range look is.stage step;
+      },
+      look_given what now look,
     ))
     one (Receives now at soon is_event to) = as_said _ _ is_event to (λ step. (
-        record { sooner = sooner now soon; family = is.family; stage = c.looks_change_nothing.ensures.receives plan old w v target address lifetime since t position.reached now ret may at is.stage step },
-        tt,
+      record { sooner = sooner now soon; family = is.family; stage = c.looks_change_nothing.ensures.receives plan old w v target address lifetime since t position.reached now ret may at is.stage step },
+      tt,
     ))
     one (Polls now quiet soon is_event to) = as_said _ _ is_event to (λ step. (
         let k = c.polls_request_sockets.ensures plan old w v target address lifetime since t position.reached now ret soon.in_range quiet is.stage step in

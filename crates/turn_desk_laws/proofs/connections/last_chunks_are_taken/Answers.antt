@@ -14,6 +14,7 @@ use Rattle.turn_desk_event.specs.declared.event.Event.TheVariants.{ToClient}
 use Rattle.turn_desk_world_laws.specs.World.Model.{World}
 use Rattle.turn_desk_world_laws.specs.World.Runs.{IsStep}
 use Rattle.turn_desk_progress_laws.specs.Linked.{IsOverTcp}
+use Rattle.turn_desk_progress_laws.specs.Promises.{control_at, over}
 use Rattle.turn_desk_progress_laws.specs.Scripts.{Plan}
 use Rattle.turn_desk_progress_laws.proofs.Worlds.{DoHold, processed_on}
 use Rattle.turn_desk_laws.specs.ConnectionLoops.{Answered, Bind, Bound, Connect, Known, Permission, Permitted, Target, Timing, permitted}
@@ -52,7 +53,7 @@ module _ (c : goal.After-messages_reach_sockets) (plan : Plan) (old w v : World)
       let is = s.client.is in
       let asked = is.transmitted.asked in
       let f = fed plan w v target address lifetime since t request head bytes now ret tcp in_range some step s.auth s.standing s.events s.client.core s.client.there is.transmitted in
-      let taken = c.messages_reach_sockets.ensures.bound h asked.older (permitted_at target t.granted) target.local target.peer target.number is.transmitted.transaction_id t.made t.sent head s.events _ f.after f.fed.came now f.fed.took reply more
+      let taken = c.messages_reach_sockets.ensures.bound h asked.older (permitted_at target t.granted) target.local target.peer target.number is.transmitted.transaction_id t.made t.sent head s.events (over (control_at plan.client.transport []) s.client.core) f.after f.fed.came now f.fed.took reply more
       asked.is asked.apart (come plan w v target address lifetime since t request head bytes now ret tcp in_range some step s.auth s.standing s.events s.client.core s.client.there is.transmitted)
       (from_server plan w v target address lifetime since t request head bytes now ret tcp in_range some step s.auth s.standing s.events s.client.core s.client.there is.transmitted)
       (some_came plan w v target address lifetime since t request head bytes now ret tcp in_range some step s.auth s.standing s.events s.client.core s.client.there is.transmitted)

@@ -69,11 +69,11 @@ module _ (plan : Plan) (old v : World) where
   second_replied t request address lifetime _ many = tt
 
   second_transmitted : (t : Timing) (now : ℕ) (r : Answer) → Alone plan old (transmitted_next r) (counted now r t) v
-  second_transmitted t now (answer.Transmit message) = omega arith
+  second_transmitted t now (answer.Transmit message) = let one : 1 ≤ t.many + 1 = omega arith in one
   second_transmitted t now _ = tt
 
   counted_more : (t : Timing) (now : ℕ) (r : Answer) → 1 ≤ t.many → 1 ≤ (counted now r t).many
-  counted_more t now (answer.Transmit message) many = omega (arith, many)
+  counted_more t now (answer.Transmit message) many = let one : 1 ≤ t.many + 1 = omega arith in one
   counted_more t now _ many = many
 
   redrawn : (t : Timing) (now : ℕ) (r : Answer) (w : World) (progress : Progress) → DrawsAgain progress → Alone plan old progress t w → Alone plan old (after_draw progress r) (counted now r t) v
@@ -192,9 +192,9 @@ module _ (c : goal.After-holders_can_ask) (plan : Plan) (old : World) (may : May
     alone_at progress at = subst (λ (p : Progress). Alone plan old p t w) at alone
 
     one : Leads plan old.desk.auth position event ret next → IsStep event w ret v → After next
-    one (DrawsFirst at soon is_event to) = as_said _ _ is_event to (λ step. first_transmitted plan old v _ ret)
+    one (DrawsFirst at soon is_event to) = as_said _ _ is_event to (λ step. first_transmitted plan old v (record t { many = 1; sent = plan.client.made }) ret)
     one (DrawsOn now again soon is_event to) = as_said _ _ is_event to (λ step. redrawn plan old v t now ret w position.progress again alone)
-    one (AsksFirst request bytes now decision seed at same is_event to) = as_said _ _ is_event to (λ step. first_replied plan old v _ request ret)
+    one (AsksFirst request bytes now decision seed at same is_event to) = as_said _ _ is_event to (λ step. first_replied plan old v (record t { challenged = now }) request ret)
     one (GivesFirst request reply head rest bytes now at on soon is_event to) = as_said _ _ is_event to (λ step. first_brought plan old v (arrived now rest t) request reply (head ++ bytes.items) rest)
     one (AsksSecond request bytes now address lifetime seed at same in_time asks whole is_event to) = as_said _ _ is_event to (λ step. second_replied plan old v t request address lifetime ret (alone_at (Signed request) at))
     one (GivesSecond request address lifetime reply head rest bytes now at on soon is_event to) = as_said _ _ is_event to (λ step.
@@ -226,15 +226,13 @@ module _ (c : goal.After-holders_can_ask) (plan : Plan) (old : World) (may : May
   -- ---- where it leads
 
   module _ (target : Target) (new : World) (pairs : List (Event × Answer)) (run : IsRun old pairs new) where
-    link_at : SocketAddr → Link
+    abbrev link_at : SocketAddr → Link
     link_at local = record { peer = target.peer; number = target.number; local = local; requested = 0; granted = 0; made = 0; first = 0 }
 
     same_at : (local : SocketAddr) → IsSameDesk (link_at local) old new
-    unfolding link_at
     same_at local = run_same (link_at local) old old new pairs run (record { realm = refl; users = refl; algorithms = refl; anonymous = refl; decodes = λ own. own })
 
     server_so : ReportsOwn old.desk.auth.algorithms old.desk.auth.anonymous_username target.local old.desk.auth → IsSameServer plan target old new
-    unfolding link_at
     server_so reports = record {
       realm = (same_at target.local).realm;
       users = (same_at target.local).users;
@@ -247,7 +245,7 @@ module _ (c : goal.After-holders_can_ask) (plan : Plan) (old : World) (may : May
     holds_so : ReportsOwn old.desk.auth.algorithms old.desk.auth.anonymous_username target.local old.desk.auth → (position : Position) (address : SocketAddr) (lifetime : ℕ) → IsHeldAt plan old address lifetime position.timing new
         → IsAtPosition plan old target address lifetime position.timing.came (holding position) new
     holds_so reports position address lifetime h = record {
-      sooner = omega arith;
+      sooner = (let z : 0 ≤ position.last = omega arith in z);
       family = tt;
       stage = record {
         auth = _;

@@ -29,7 +29,7 @@ use Rattle.turn_desk_laws.specs.ConnectionLoops.{Answered, Bind, Bound, Challeng
 use Rattle.turn_desk_laws.specs.ConnectionLoops.{Permitted, Queued, Reached, Target, Timing, Transmitted, Unpermitted, Waiting, after_poll, polled}
 use Rattle.turn_desk_laws.specs.ConnectionPromises.{IsPolledAt, Requests}
 use Rattle.turn_desk_laws.specs.ConnectionStages.{IsAsked, IsClear, IsHeldFor, IsKnown, IsStage, IsWaiting, earlier_of, holder_at, own_head, permitted_at, queued_at, request_at}
-use Rattle.turn_desk_laws.proofs.ConnectionTools.{later_end, moves}
+use Rattle.turn_desk_laws.proofs.ConnectionTools.{given_up_later, moves}
 use Rattle.turn_desk_laws.proofs.connections.polls_request_sockets.Goals as goal
 
 module _ (c : goal.After-connections_are_requested_for) (plan : Plan) (old w v : World) (target : Target) (address : SocketAddr) (lifetime since : ℕ) (t : Timing) (now : ℕ) (in_range : now ≤ client_end) (ret : Answer) (step : IsStep (Call call.Poll now) w ret v) where
@@ -56,7 +56,7 @@ module _ (c : goal.After-connections_are_requested_for) (plan : Plan) (old w v :
     none_polled other (answer.Socket id socket peer) none is =
         let a = asks_one (poll.AllocateTcpSocket id socket peer) none is in (
           moves plan old w v target address lifetime since [] [] Learned (λ h events p. IsWaiting plan target t id socket peer h events p) s same core there []
-          (record { socket_is = (Prim.cc a.0, Prim.cc a.0, Prim.cc a.0); is = a.1 }),
+              (record { socket_is = (Prim.cc a.0, Prim.cc a.0, Prim.cc a.0); is = a.1 }),
           (Prim.cc a.0, Prim.cc a.0, Prim.cc a.0),
         )
     none_polled other (answer.Close local remote) none is = absurd (Prim.cc (asks_one (poll.TcpClose local remote) none is).0)
@@ -101,18 +101,18 @@ module _ (c : goal.After-connections_are_requested_for) (plan : Plan) (old w v :
   rests_at head p at none = poll_rests (control_at plan.client.transport head) w v p now ret at none step
 
   bare : (h : Holder) → h.lifetime ≡ lifetime → h.since ≡ since → now < refresh_due lifetime since → IsResting h [] now
-  bare h long from quiet = record { before = rw (long, from) quiet; standing = tt }
+  bare h long from quiet = record { before = (rw (long, from) quiet); standing = tt }
 
   with_permission : (h : Holder) → h.lifetime ≡ lifetime → h.since ≡ since → IsQuiet lifetime since t now → IsResting h (permitted_at target t.granted) now
-  with_permission h long from quiet = record { before = rw (long, from) quiet.before_refresh; standing = (refl, quiet.before_permission, tt) }
+  with_permission h long from quiet = record { before = (let b = quiet.before_refresh in rw (long, from) b); standing = (refl, quiet.before_permission, tt) }
 
   none_listed : (x : Requested) → IsListed x [] → now < end_at x.made plan.client.config.waits
   none_listed x listed = absurd listed
 
   -- No request that may be outstanding is given up.
   lasts : (one : Requested) (older : List Requested) → now < end_at t.oldest plan.client.config.waits → t.oldest ≤ one.made → ((x : Requested) → IsListed x older → t.oldest ≤ x.made) → (x : Requested) → IsListed x (one ∷ older) → now < end_at x.made plan.client.config.waits
-  lasts one older before sooner since x (inl same) = subst (λ (y : Requested). now < end_at y.made plan.client.config.waits) (sym same) (later_end t.oldest one.made _ now sooner before)
-  lasts one older before sooner since x (inr listed) = later_end t.oldest x.made _ now (since x listed) before
+  lasts one older before sooner since x (inl same) = subst (λ (y : Requested). now < end_at y.made plan.client.config.waits) (sym same) (given_up_later t.oldest one.made plan.client.config.waits now sooner before)
+  lasts one older before sooner since x (inr listed) = given_up_later t.oldest x.made plan.client.config.waits now (since x listed) before
 
   asked_polled : (method : Method) (auth : Client) (standing : Standing) (queue : List QueuedMessage) (head : List ℕ) (events : List TurnEvent) (p : Protocol) (n : ℕ) → list_any is_answer queue ≡ false → IsQuietFor lifetime since method t now → IsPending plan method t now
       → IsAsked plan target method t queue head (holder_at plan address lifetime since auth standing) events p n → (r : TurnPollRet) (q : Protocol) → IsPolled p now r q → q ≡ p
@@ -157,9 +157,11 @@ module _ (c : goal.After-connections_are_requested_for) (plan : Plan) (old w v :
       let h = holder_at plan address lifetime since s.auth s.standing in
       (kept (Waiting connection socket peer) s (rests_at [] s.client.core s.client.there (λ r q is. (c.holders_keep_still.ensures.polled h None [] (permitted_at target t.granted) [] [] _ [] [] t.sent s.events s.client.core q now r s.client.is.is refl (with_permission h refl refl quiet) (refl, tt) tt none_listed is).2)), tt)
   by_reached (Bound more) quiet s =
-      let h = holder_at plan address lifetime since s.auth s.standing in
-      (kept (Bound more) s (rests_at [] s.client.core s.client.there (λ r q is. (c.holders_keep_still.ensures.polled h None s.client.is.older (permitted_at target t.granted) [] [] [] _ [] t.sent s.events s.client.core q now r s.client.is.is refl (with_permission h refl refl quiet.0) tt (tt, tt)
-      (λ x listed. later_end t.oldest x.made _ now (s.client.is.since_oldest x listed) quiet.1) is).2)), tt)
+      let h = holder_at plan address lifetime since s.auth s.standing in (
+        kept (Bound more) s (rests_at [] s.client.core s.client.there (λ r q is. (c.holders_keep_still.ensures.polled h None s.client.is.older (permitted_at target t.granted) [] [] [] _ [] t.sent s.events s.client.core q now r s.client.is.is refl (with_permission h refl refl quiet.0) tt (tt, tt)
+            (λ x listed. given_up_later t.oldest x.made plan.client.config.waits now (s.client.is.since_oldest x listed) quiet.1) is).2)),
+        tt,
+      )
   by_reached Off quiet s = absurd s
 
 pub returns : goal.returns

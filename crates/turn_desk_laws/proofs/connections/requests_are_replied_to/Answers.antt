@@ -9,7 +9,6 @@ use Rattle.turn_desk_core.specs.StunTypesWire.declared.class.MessageClass.TheVar
 use Rattle.turn_desk_core.specs.Requests.{IsServed}
 use Rattle.turn_desk_core.specs.Steps.{IsAnswer}
 use Rattle.turn_desk_core.specs.declared.decision.Decision.{Decision}
-use Rattle.turn_desk_core.specs.declared.decision.Decision.TheVariants as by
 use Rattle.turn_client_proto_messages.specs.StunProtoClient.Challenges.{ChallengeFields, challenge_visible}
 use Rattle.turn_client_proto_messages.specs.declared.request.TurnRequest.{TurnRequest}
 use Rattle.turn_client_proto_api.specs.Sent.{Sent}
@@ -43,7 +42,7 @@ module _ (c : goal.After-holders_can_ask) (plan : Plan) (old w v : World) (targe
   abbrev n : ℕ
   n = s.client.is.transaction_id
 
-  abbrev asked : IsAsked plan target method t _ _ h s.events s.client.core n
+  abbrev asked : IsAsked plan target method t [] [] h s.events s.client.core n
   asked = s.client.is.asked
 
   abbrev what : TurnRequest

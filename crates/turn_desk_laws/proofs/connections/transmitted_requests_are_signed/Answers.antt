@@ -1,4 +1,4 @@
-use Rattle.std.proofs.Common.{◌≡◌, ◌<◌, ◌^◌, ℕ, Option, Some, None, ap, refl, sym, ◌∙◌, subst}
+use Rattle.std.proofs.Common.{◌≡◌, ℕ, [], Option, Some, None, ap, refl, sym, ◌∙◌, subst}
 use Rattle.std.specs.Prelude.{IfSome}
 use Rattle.std.specs.declared.net.socket_addr.SocketAddr.{SocketAddr}
 use Rattle.turn_client_proto_messages.specs.StunTypesIntegrity.Credentials.{NameAndPassword}
@@ -30,7 +30,7 @@ module _ (c : goal.After-holders_can_ask) (plan : Plan) (old w : World) (target 
   abbrev n : ℕ
   n = s.client.is.transaction_id
 
-  abbrev asked : IsAsked plan target method t _ _ h s.events s.client.core n
+  abbrev asked : IsAsked plan target method t [] [] h s.events s.client.core n
   asked = s.client.is.asked
 
   abbrev what : TurnRequest
