@@ -54,7 +54,9 @@ module _ (c : goal.After-messages_reach_sockets) (plan : Plan) (old w v : World)
 
   -- The challenge that was stored is the one that came.
   pub nonce_so : (choice : IntegrityAlgorithm) (reported : ChallengeFields) → challenge_visible reply ≡ Some reported → (challenged_by h is.reported choice).standing.challenge.nonce ≡ reported.nonce
-  nonce_so choice reported visible = ap (λ (x : ChallengeFields). x.nonce) (Prim.cc (sym is.challenge.visible ∙ visible))
+  nonce_so choice reported visible =
+      let same : is.reported ≡ reported = Prim.cc (sym is.challenge.visible ∙ visible) in
+      ap (λ (x : ChallengeFields). x.nonce) same
 
   -- The client stores the challenge, and its state is this.
   pub stored : (choice : IntegrityAlgorithm) → CanAnswer h is.reported choice → (u : Timing) (core : Protocol) → v.client ≡ Some (over (control_at plan.client.transport []) core) → v.desk ≡ w.desk

@@ -82,7 +82,7 @@ module _ (c : goal.After-connections_are_requested_for) (plan : Plan) (old w v :
     known_polled is [] none = let k = none_polled Known ret none is in (k.0, inl k.1)
     known_polled is (event ∷ others) some = some_polled event others ret some is
 
-  clears : Stage Clear w → Stage Known w
+  abbrev clears : Stage Clear w → Stage Known w
   clears s = record {
     auth = s.auth;
     standing = s.standing;
