@@ -28,3 +28,5 @@ pub use turn_desk_world_laws::laws::{
 pub use turn_desk_world_laws::running::Runs;
 pub mod beside;
 pub mod small;
+pub mod challenged_connects;
+pub mod connections;
