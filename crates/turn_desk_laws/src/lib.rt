@@ -26,7 +26,8 @@ pub use turn_desk_world_laws::laws::{
     relayed_addresses_are_reported, runs_are_determined, runs_of_a_world_are_safe,
 };
 pub use turn_desk_world_laws::running::Runs;
+
 pub mod beside;
-pub mod small;
 pub mod challenged_connects;
 pub mod connections;
+pub mod small;
