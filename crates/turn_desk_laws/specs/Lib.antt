@@ -1,0 +1,3 @@
+pub mod RefreshStages
+pub mod RenewalLoops
+pub mod RenewalStages
