@@ -73,7 +73,7 @@ asked_more : (l : List ℕ) (number : ℕ) → asked_by l ++ asked_as number ∷
 asked_more [] number = refl
 asked_more (n ∷ rest) number = ap (λ (l : List PendingRefresh). asked_as n ∷ l) (asked_more rest number)
 
-one_longer : (l : List ℕ) (number : ℕ) → length (l ++ number ∷ []) ≡ length l + 1
+pub one_longer : (l : List ℕ) (number : ℕ) → length (l ++ number ∷ []) ≡ length l + 1
 one_longer [] number = refl
 one_longer (n ∷ rest) number = let e = one_longer rest number in omega (arith, e)
 

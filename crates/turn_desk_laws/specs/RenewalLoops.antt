@@ -123,8 +123,8 @@ queued_after plan now p = p.queued && is_slot_due plan p.made (p.many + 1) now
 abbrev pub holding_draw : (now : ℕ) → Answer → RenewalPosition → RenewalPosition
 holding_draw now (answer.Transmit message) p = if is_refresh (sent_of message)
     then record p { progress = Refreshing (sent_of message); last = now; sent = now; made = now; many = 1; again = false }
-    else record p { last = now; sent = now; again = false }
-holding_draw now _ p = record p { last = now; again = p.again && nat_lt now (time_after p.sent cadence) }
+    else record p { progress = Holding; last = now; sent = now; again = false }
+holding_draw now _ p = record p { progress = Holding; last = now; again = p.again && nat_lt now (time_after p.sent cadence) }
 
 -- A message that it transmits while a REFRESH is outstanding is counted.
 abbrev pub counted_draw : Plan → (now : ℕ) → Answer → RenewalPosition → RenewalPosition

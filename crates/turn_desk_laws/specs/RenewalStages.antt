@@ -9,10 +9,11 @@ use Rattle.turn_client_proto_api.specs.Sent.{Sent}
 use Rattle.turn_client_proto_step_laws.specs.Recv.ClientState.{Protocol}
 use Rattle.turn_client_proto_handshake_laws.specs.Choosing.{Choice, signed_sent}
 use Rattle.turn_client_proto_handshake_laws.specs.Coming.{IsPartOf}
-use Rattle.turn_client_proto_handshake_laws.specs.Sent.{Beginning}
+use Rattle.turn_client_proto_handshake_laws.specs.Driving.{client_end}
 use Rattle.turn_client_proto_handshake_laws.specs.Stages.{Holds, created, signed_queued}
-use Rattle.turn_client_proto_progress_laws.specs.Keeping.{IsKeeping, IsTerm, Term}
+use Rattle.turn_client_proto_progress_laws.specs.Keeping.{IsKeeping, IsTerm}
 use Rattle.turn_client_proto_progress_laws.specs.Refreshed.{IsRenewal, refresh_sent}
+use Rattle.turn_desk_core.specs.State.{State}
 use Rattle.turn_desk_world_laws.specs.World.Model.{World}
 use Rattle.turn_desk_progress_laws.specs.Joining.{ReportsOwn}
 use Rattle.turn_desk_progress_laws.specs.Loops.{Timing}
@@ -28,17 +29,17 @@ use Rattle.turn_desk_laws.specs.RenewalLoops.{Renewal, RenewalPosition, Holding,
 
 -- The server core has the realm, the users and the settings that it had when the run began. If it stores anything
 -- for the client's address, that is a nonce that announces what it accepts.
-pub record KeepsSettings (plan : Plan) (old w : World) : Type 0 where
-  pub realm : w.desk.auth.realm ≡ old.desk.auth.realm
-  pub users : w.desk.auth.users ≡ old.desk.auth.users
-  pub algorithms : w.desk.auth.algorithms ≡ old.desk.auth.algorithms
-  pub anonymous : w.desk.auth.anonymous_username ≡ old.desk.auth.anonymous_username
-  pub announces : ReportsOwn old.desk.auth.algorithms old.desk.auth.anonymous_username plan.client.here w.desk.auth
+pub record KeepsSettings (plan : Plan) (old : World) (desk : State) : Type 0 where
+  pub realm : desk.auth.realm ≡ old.desk.auth.realm
+  pub users : desk.auth.users ≡ old.desk.auth.users
+  pub algorithms : desk.auth.algorithms ≡ old.desk.auth.algorithms
+  pub anonymous : desk.auth.anonymous_username ≡ old.desk.auth.anonymous_username
+  pub announces : ReportsOwn old.desk.auth.algorithms old.desk.auth.anonymous_username plan.client.here desk.auth
 
 -- The client has answered a challenge of that server core.
-pub record IsAuthenticated (plan : Plan) (old : World) (choice : Choice) (w : World) : Type 0 where
+pub record IsAuthenticated (plan : Plan) (old : World) (choice : Choice) (desk : State) : Type 0 where
   pub agreed : IsAgreed plan old.desk choice
-  pub keeps : KeepsSettings plan old w
+  pub keeps : KeepsSettings plan old desk
 
 -- ---- after the handshake
 
@@ -51,7 +52,8 @@ IsSecondLeft plan c secondly again queue = (queue ≡ [])
 pub record IsHoldingSo (plan : Plan) (old : World) (reported : List TurnEvent) (t : Timing) (secondly : Sent)
     (address : SocketAddr) (lifetime : ℕ) (w : World) : Type 0 where
   pub choice : Choice
-  pub signs : IsAuthenticated plan old choice w
+  pub signs : IsAuthenticated plan old choice w.desk
+  pub early : t.came ≤ client_end
   pub fits : lifetime < 2 ^ 32
   pub queue : List Queued
   pub left : IsSecondLeft plan choice secondly true queue
@@ -65,7 +67,7 @@ pub record IsHoldingSo (plan : Plan) (old : World) (reported : List TurnEvent) (
 pub record IsHeldAt (plan : Plan) (old : World) (address : SocketAddr) (secondly : Sent) (p : RenewalPosition) (w : World)
     : Type 0 where
   pub choice : Choice
-  pub signs : IsAuthenticated plan old choice w
+  pub signs : IsAuthenticated plan old choice w.desk
   pub first : ℕ
   pub lasts : IsTerm (term_of first p.from p.lifetime)
   pub unqueued : p.queued ≡ false
@@ -86,16 +88,14 @@ queue_by true one = one ∷ []
 queue_by false one = []
 
 -- A REFRESH with the transaction ID `number` is outstanding, and these first bytes of a reply have come.
-pub record IsOutstandingAt (plan : Plan) (old : World) (address : SocketAddr) (p : RenewalPosition) (number : ℕ)
-    (head : List ℕ) (w : World) : Type 0 where
-  pub choice : Choice
-  pub signs : IsAuthenticated plan old choice w
+pub record IsOutstandingAt (plan : Plan) (old : World) (address : SocketAddr) (p : RenewalPosition) (choice : Choice)
+    (number : ℕ) (head : List ℕ) (w : World) : Type 0 where
+  pub signs : IsAuthenticated plan old choice w.desk
   pub first : ℕ
   pub lasts : IsTerm (term_of first p.from p.lifetime)
   pub fits : number < 2 ^ 96
   pub earlier : List ℕ
   pub count : length earlier ≡ p.challenges
-  pub made_before : p.made ≤ p.last
   pub events : List TurnEvent
   pub client : HasClient plan head w (λ q. IsRefreshingOn plan.client choice address (term_of first p.from p.lifetime)
       earlier number p.made (count_by p.queued p.many) p.sent (queue_by p.queued (refresh_queued plan.client choice number))
@@ -103,53 +103,59 @@ pub record IsOutstandingAt (plan : Plan) (old : World) (address : SocketAddr) (p
 
 -- The client transmitted it, and awaits the reply.
 pub record IsRequestedAt (plan : Plan) (old : World) (address : SocketAddr) (p : RenewalPosition) (request : Sent)
-    (head : List ℕ) (w : World) : Type 0 where
+    (w : World) : Type 0 where
+  pub choice : Choice
   pub number : ℕ
-  pub is : IsOutstandingAt plan old address p number head w
-  pub request_is : request ≡ refresh_sent plan.client is.choice number p.made
+  pub is : IsOutstandingAt plan old address p choice number [] w
+  pub request_is : request ≡ refresh_sent plan.client choice number p.made
 
 -- The server core has granted it, and these first bytes of its reply have come.
 pub record IsRenewedAt (plan : Plan) (old : World) (address : SocketAddr) (p : RenewalPosition) (request : Sent)
     (more : ℕ) (reply head : List ℕ) (w : World) : Type 0 where
-  pub requested : IsRequestedAt plan old address p request head w
+  pub choice : Choice
+  pub number : ℕ
+  pub is : IsOutstandingAt plan old address p choice number head w
+  pub request_is : request ≡ refresh_sent plan.client choice number p.made
   pub enough : least ≤ more
-  pub fits : more < 2 ^ 32
+  pub lifetime_fits : more < 2 ^ 32
   pub part : IsPartOf head reply
-  pub renewal : IsRenewal plan.client requested.is.choice requested.number more reply
+  pub renewal : IsRenewal plan.client choice number more reply
 
 -- The server core has challenged it, and these first bytes of its reply have come.
 pub record IsChallengedAt (plan : Plan) (old : World) (address : SocketAddr) (p : RenewalPosition) (request : Sent)
     (reply head : List ℕ) (w : World) : Type 0 where
-  pub requested : IsRequestedAt plan old address p request head w
+  pub choice : Choice
+  pub number : ℕ
+  pub is : IsOutstandingAt plan old address p choice number head w
+  pub request_is : request ≡ refresh_sent plan.client choice number p.made
   pub few : p.challenges < most_challenges
   pub reported : ChallengeFields
   pub visible : challenge_visible reply ≡ Some reported
-  pub number_is : number_at reply ≡ requested.number
+  pub number_is : number_at reply ≡ number
   pub of : IsOfSettings old.desk.auth reported
   pub part : IsPartOf head reply
 
 -- The client has answered that challenge by another REFRESH, which is queued and was not transmitted yet.
 pub record IsTurnedAt (plan : Plan) (old : World) (address : SocketAddr) (p : RenewalPosition) (request : Sent)
     (reply : List ℕ) (w : World) : Type 0 where
+  pub choice : Choice
   pub number : ℕ
-  pub is : IsOutstandingAt plan old address p number [] w
+  pub is : IsOutstandingAt plan old address p choice number [] w
   pub still_queued : p.queued ≡ true
   pub none_sent : p.many ≡ 0
-  pub visible : challenge_visible reply ≡ Some is.choice.reported
+  pub visible : challenge_visible reply ≡ Some choice.reported
   pub other : number ≢ number_at request.bytes
 
 -- The state of the simulation, if the handshake's second request was `secondly`.
 abbrev pub IsStageAt : Plan → World → SocketAddr → (secondly : Sent) → Renewal → RenewalPosition → World → Type 0
 IsStageAt plan old address secondly Holding p w = IsHeldAt plan old address secondly p w
-IsStageAt plan old address secondly (Refreshing request) p w = IsRequestedAt plan old address p request [] w
+IsStageAt plan old address secondly (Refreshing request) p w = IsRequestedAt plan old address p request w
 IsStageAt plan old address secondly (Renewing request more reply head) p w =
     IsRenewedAt plan old address p request more reply head w
 IsStageAt plan old address secondly (Challenged request reply head) p w =
     IsChallengedAt plan old address p request reply head w
 IsStageAt plan old address secondly (Turned request reply) p w = IsTurnedAt plan old address p request reply w
 
--- The state at a position; and nothing was transmitted after the client's last event.
-pub record IsAtRenewal (plan : Plan) (old : World) (address : SocketAddr) (secondly : Sent) (p : RenewalPosition)
-    (w : World) : Type 0 where
-  pub sent_before : p.sent ≤ p.last
-  pub stage : IsStageAt plan old address secondly p.progress p w
+-- The state at a position.
+abbrev pub IsAtRenewal : Plan → World → SocketAddr → (secondly : Sent) → RenewalPosition → World → Type 0
+IsAtRenewal plan old address secondly p w = IsStageAt plan old address secondly p.progress p w

@@ -9,33 +9,48 @@
 //! 3. The success response comes, and the client holds the allocation for the lifetime in it
 //!    ([`challenged_refreshes_renew`]).
 //!
-//! [`keeping_clients_are_polled`] says what `poll` returns while no REFRESH is outstanding, and
-//! [`challenged_refreshes_are_reported`] what is reported and listed while one is.
+//! [`responses_reach_clients`] says how a datagram, and chunks of the stream, become such a
+//! response. [`keeping_clients_are_polled`] says what `poll` returns while no REFRESH is
+//! outstanding, and [`challenged_refreshes_are_reported`] what is reported and listed while one is.
 
-ghost use Rattle.std.specs.Prelude.{◌≡◌, ◌≤◌, ◌<◌, ◌+◌, ◌++◌, ℕ, Bool, true, false};
+ghost use Rattle.std.specs.Prelude.{◌≡◌, ◌≢◌, ◌⊎◌, ◌≤◌, ◌<◌, ◌+◌, ◌++◌, ℕ, Bool, true, false};
 ghost use Rattle.std.specs.Prelude.{List, [], ◌∷◌, Option, Some, None, find, length};
 ghost use Rattle.std.specs.Prelude.{option_to_list};
 ghost use Rattle.std.specs.List.{list_any};
 ghost use Rattle.std.specs.declared.net.socket_addr.SocketAddr.{SocketAddr};
 ghost use Rattle.turn_client_proto_messages.specs.StunTypesWire.declared.algorithm.IntegrityAlgorithm.{IntegrityAlgorithm};
+ghost use Rattle.turn_client_proto_messages.specs.StunTypesWire.Attributes.{kind_at};
+ghost use Rattle.turn_client_proto_messages.specs.StunTypesWire.Grammar.{refusal};
+ghost use Rattle.turn_client_proto_messages.specs.StunTypesWire.Types.{class_of};
+ghost use Rattle.turn_client_proto_messages.specs.StunTypesBase.declared.transmit.Transmit.{Transmit};
 ghost use Rattle.turn_client_proto_messages.specs.StunTypesBase.Times.{time_after};
 ghost use Rattle.turn_client_proto_messages.specs.StunProtoClient.Challenges.{ChallengeFields};
 ghost use Rattle.turn_client_proto_messages.specs.Waiting.{Queued, is_answer};
 ghost use Rattle.turn_client_proto_messages.specs.Allocation.Listed.{relayed_listed};
 ghost use Rattle.turn_client_proto_messages.specs.Allocation.Refreshing.{least_lifetime};
 ghost use Rattle.turn_client_proto_messages.specs.Api.declared.answer.TurnPollRet.{TurnPollRet};
+ghost use Rattle.turn_client_proto_messages.specs.Api.declared.answer.TurnRecvRet.{TurnRecvRet};
+ghost use Rattle.turn_client_proto_messages.specs.Api.declared.answer.TurnRecvRet.TheVariants.{Handled};
 ghost use Rattle.turn_client_proto_messages.specs.Api.declared.event.TurnEvent.{TurnEvent};
 ghost use Rattle.turn_client_proto_messages.specs.Api.Sent.{Sent};
+ghost use Rattle.turn_client_proto_messages.specs.TurnRuns.Indications.{is_indication};
+ghost use Rattle.turn_client_proto_messages.specs.TurnTypesFrame.Streams.{alive};
+ghost use Rattle.turn_client_proto_step_laws.specs.Recv.ClientState.{ClientState};
+ghost use Rattle.turn_client_proto_step_laws.specs.Recv.Control.{Datagrams, Open};
+ghost use Rattle.turn_client_proto_step_laws.specs.Recv.Receipts.{IsReceived};
 ghost use Rattle.turn_client_proto_step_laws.specs.Recv.SocketChunks.{raw_waiting};
 ghost use Rattle.turn_client_proto_step_laws.specs.Timers.Drawing.{IsTransmitted};
 ghost use Rattle.turn_client_proto_step_laws.specs.Timers.Polling.{IsPolled, cadence};
 ghost use Rattle.turn_client_proto_handshake_laws.specs.Core.Receiving.{IsProcessed};
 ghost use Rattle.turn_client_proto_handshake_laws.specs.Core.declared.protocol.Protocol.{Protocol};
 ghost use Rattle.turn_client_proto_handshake_laws.specs.Choosing.{Choice, IsAnsweredBy, IsChoice};
+ghost use Rattle.turn_client_proto_handshake_laws.specs.Coming.{HasCome, IsFromServer};
+ghost use Rattle.turn_client_proto_handshake_laws.specs.Coming.{IsLost, IsPartOf, IsProcessedAs};
 ghost use Rattle.turn_client_proto_handshake_laws.specs.Driving.{IsEventTaken, client_end};
 ghost use Rattle.turn_client_proto_handshake_laws.specs.Requested.{IsDue, IsQuiet};
 ghost use Rattle.turn_client_proto_handshake_laws.specs.Requested as asks;
 ghost use Rattle.turn_client_proto_handshake_laws.specs.Sent.{Beginning, HasRoom};
+ghost use Rattle.turn_client_proto_handshake_laws.specs.Stages.{IsOf};
 ghost use Rattle.turn_client_proto_progress_laws.specs.Keeping.{IsKeeping, IsRefreshing, IsTerm};
 ghost use Rattle.turn_client_proto_progress_laws.specs.Keeping.{Term, end_of, next_term};
 ghost use Rattle.turn_client_proto_progress_laws.specs.Refreshed.{IsRenewal, refresh_requested};
@@ -43,6 +58,7 @@ ghost use Rattle.turn_client_proto_progress_laws.specs.Refreshed.{refresh_sent};
 ghost use Rattle.turn_desk_laws.specs.RefreshStages.{IsRefreshChallenge, IsRefreshedAgain};
 ghost use Rattle.turn_desk_laws.specs.RefreshStages.{IsRefreshingOn, WaitsOn, most_challenges};
 
+use std::convert::AsSlice;
 use turn_client_proto_handshake_laws::stages::signed_allocates_answer;
 use turn_client_proto_messages::laws::proof_requests_are_read;
 
@@ -182,4 +198,48 @@ pub fn keeping_clients_are_polled()
         → now < end_of t
         → IsPolled old now ret new
         → WaitsOn t last queue now old ret new }
+{}
+
+/// How a message from the server that is no indication reaches a client, at any stage (RFC 8656,
+/// section 12.5):
+///
+/// - `datagram`: over UDP, a datagram that is one is handled.
+/// - `chunk`: over TCP, a chunk that does not complete it is buffered, and nothing else changes.
+/// - `whole`: over TCP, the chunk that completes it, wherever it was cut, makes the client handle
+///   it. Afterwards nothing of the stream is buffered.
+///
+/// In each case memory may run out instead: then the client has failed.
+pub fn responses_reach_clients<T: AsSlice<u8>>()
+    ensures datagram { (b : Beginning) (old new : ClientState) (came : Transmit T) (now : ℕ)
+        (answer : TurnRecvRet T)
+        → IsOf b old.core
+        → old.control ≡ Datagrams
+        → IsFromServer b came
+        → refusal (T.items came.bytes) ≡ None
+        → is_indication (class_of (kind_at (T.items came.bytes))) ≡ false
+        → IsReceived T.items old came now answer new
+        → IsProcessedAs old (T.items came.bytes) came now Datagrams answer new
+        ⊎ IsLost old came answer new }
+    ensures chunk { (b : Beginning) (old new : ClientState) (came : Transmit T) (now : ℕ)
+        (answer : TurnRecvRet T) (before message : List ℕ)
+        → IsOf b old.core
+        → HasCome before old
+        → IsFromServer b came
+        → T.items came.bytes ≢ []
+        → IsPartOf (before ++ T.items came.bytes) message
+        → IsReceived T.items old came now answer new
+        → ((answer ≡ Handled) × (new.core ≡ old.core)
+        × HasCome (before ++ T.items came.bytes) new)
+        ⊎ IsLost old came answer new }
+    ensures whole { (b : Beginning) (old new : ClientState) (came : Transmit T) (now : ℕ)
+        (answer : TurnRecvRet T) (before : List ℕ)
+        → IsOf b old.core
+        → HasCome before old
+        → IsFromServer b came
+        → T.items came.bytes ≢ []
+        → refusal (before ++ T.items came.bytes) ≡ None
+        → is_indication (class_of (kind_at (before ++ T.items came.bytes))) ≡ false
+        → IsReceived T.items old came now answer new
+        → IsProcessedAs old (before ++ T.items came.bytes) came now (Open (alive [])) answer new
+        ⊎ IsLost old came answer new }
 {}

@@ -3,3 +3,4 @@
 #![tactic(auto)]
 
 pub mod challenged_refreshes;
+pub mod renewals;

@@ -38,29 +38,30 @@ ghost use Rattle.turn_desk_progress_laws.specs.Scripts.{BringsOn, Done, IsLook, 
 ghost use Rattle.turn_desk_progress_laws.specs.Turns.{least};
 ghost use Rattle.turn_desk_laws.specs.RefreshStages.{most_challenges};
 ghost use Rattle.turn_desk_laws.specs.RenewalLoops.{Challenged, Holding, IsDrawnAt, IsDrawnBy};
-ghost use Rattle.turn_desk_laws.specs.RenewalLoops.{IsInTime, IsRenewalLoop, MayPollOn};
-ghost use Rattle.turn_desk_laws.specs.RenewalLoops.{Refreshing, Renewal, RenewalPosition};
-ghost use Rattle.turn_desk_laws.specs.RenewalLoops.{Renewing, Renews, challenged_by, drawn_by};
-ghost use Rattle.turn_desk_laws.specs.RenewalLoops.{head_of, held_after, renewed_by};
+ghost use Rattle.turn_desk_laws.specs.RenewalLoops.{IsInTime, IsNextInTime, IsRefreshAgain};
+ghost use Rattle.turn_desk_laws.specs.RenewalLoops.{IsRenewalLoop, MayPollOn, Refreshing};
+ghost use Rattle.turn_desk_laws.specs.RenewalLoops.{Renewal, RenewalPosition, Renewing, Renews};
+ghost use Rattle.turn_desk_laws.specs.RenewalLoops.{Turned, challenged_by, counted_draw};
+ghost use Rattle.turn_desk_laws.specs.RenewalLoops.{head_of, held_after, holding_draw};
+ghost use Rattle.turn_desk_laws.specs.RenewalLoops.{renewed_by, turned_next};
 ghost use Rattle.turn_desk_laws.specs.RenewalStages.{IsAtRenewal, IsHoldingSo, IsStageAt};
 
 use crate::challenged_refreshes::{
     challenged_refreshes_are_reported, challenged_refreshes_renew, challenged_refreshes_wait,
-    keeping_clients_are_polled, refreshing_clients_are_challenged,
+    keeping_clients_are_polled, refreshing_clients_are_challenged, responses_reach_clients,
 };
 use turn_client_proto_handshake_laws::stages::{
     granted_clients_hold, messages_reach_clients, signed_allocates_answer, stages_are_reported,
     stages_are_unserved,
 };
 use turn_client_proto_messages::laws::proof_requests_are_read;
-use turn_client_proto_progress_laws::connections::messages_reach_holders;
 use turn_client_proto_progress_laws::renewals::{
     holding_clients_keep, keepers_are_reported, keeping_clients_refresh, refreshes_are_signed,
-    refreshing_clients_wait, successes_reach_clients,
+    refreshing_clients_wait,
 };
 use turn_client_proto_step_laws::reported::messages_are_reported_alike;
 use turn_desk_core::laws::desk_steps;
-use turn_desk_progress_laws::loops::{events_of_loops_lead_on, honest_loops_allocate};
+use turn_desk_progress_laws::loops::events_of_loops_lead_on;
 
 /// A client that a loop drives, and that was granted an allocation, renews it for ever, over an
 /// honest network that takes time.
@@ -170,8 +171,7 @@ pub fn loops_hold()
         → IsRun old pairs new
         → IsLoop plan old.desk.auth start pairs position
         → position.progress ≡ Done request address lifetime reply
-        → (position.timing.sent ≤ position.last) × (position.timing.came ≤ client_end)
-        × IsHoldingSo plan old (events_in pairs) position.timing request address lifetime new }
+        → IsHoldingSo plan old (events_in pairs) position.timing request address lifetime new }
 {
     events_of_loops_lead_on();
     granted_clients_hold();
@@ -186,8 +186,7 @@ pub fn loops_hold()
 pub fn held_loops_begin()
     ensures { (plan : Plan) (old w : World) (reported : List TurnEvent) (position : Position)
         (request : Sent) (address : SocketAddr) (lifetime : ℕ)
-        → (position.timing.sent ≤ position.last) × (position.timing.came ≤ client_end)
-        × IsHoldingSo plan old reported position.timing request address lifetime w
+        → IsHoldingSo plan old reported position.timing request address lifetime w
         → least ≤ lifetime
         → IsAtRenewal plan old address request (held_after position lifetime) w }
 {
@@ -226,8 +225,8 @@ pub fn held_allocations_are_drawn()
         → IsStageAt plan old address secondly Holding p w
         → IsInTime p now
         → IsStep (Draw now) w ret v
-        → IsStageAt plan old address secondly (drawn_by plan now ret Holding p).progress
-        (drawn_by plan now ret Holding p) v
+        → IsStageAt plan old address secondly (holding_draw now ret p).progress
+        (holding_draw now ret p) v
         × IsDrawnAt plan old secondly Holding p now ret }
 {
     proof_requests_are_read();
@@ -238,21 +237,154 @@ pub fn held_allocations_are_drawn()
 }
 
 /// While a REFRESH is outstanding, a draw gives it again by its schedule (RFC 8489, section 6.2.1),
-/// or from the queue, and else nothing.
+/// or from the queue, and else nothing. The first one that a draw gives once a challenge has come
+/// (`turned`) is under the nonce of the challenge.
 pub fn outstanding_refreshes_are_drawn()
-    ensures { (plan : Plan) (old w v : World) (address : SocketAddr) (secondly : Sent)
-        (progress : Renewal) (p : RenewalPosition) (now : ℕ) (ret : Answer)
-        → MayBegin plan old
-        → p.progress ≡ progress
-        → IsAtRenewal plan old address secondly p w
-        → IsInTime p now
+    ensures refreshing { (plan : Plan) (old w v : World) (address : SocketAddr) (secondly : Sent)
+        (p : RenewalPosition) (request : Sent) (now : ℕ) (ret : Answer)
+        → IsStageAt plan old address secondly (Refreshing request) p w
+        → now ≤ client_end
         → IsStep (Draw now) w ret v
-        → IsStageAt plan old address secondly Holding p w
-        ⊎ (IsStageAt plan old address secondly (drawn_by plan now ret progress p).progress
-        (drawn_by plan now ret progress p) v
-        × IsDrawnAt plan old secondly progress p now ret) }
+        → IsStageAt plan old address secondly (Refreshing request) (counted_draw plan now ret p) v
+        × IsRefreshAgain plan p now request ret }
+    ensures renewing { (plan : Plan) (old w v : World) (address : SocketAddr) (secondly : Sent)
+        (p : RenewalPosition) (request : Sent) (more : ℕ) (reply head : List ℕ) (now : ℕ)
+        (ret : Answer)
+        → IsStageAt plan old address secondly (Renewing request more reply head) p w
+        → now ≤ client_end
+        → IsStep (Draw now) w ret v
+        → IsStageAt plan old address secondly (Renewing request more reply head)
+        (counted_draw plan now ret p) v
+        × IsRefreshAgain plan p now request ret }
+    ensures challenged { (plan : Plan) (old w v : World) (address : SocketAddr) (secondly : Sent)
+        (p : RenewalPosition) (request : Sent) (reply head : List ℕ) (now : ℕ) (ret : Answer)
+        → IsStageAt plan old address secondly (Challenged request reply head) p w
+        → now ≤ client_end
+        → IsStep (Draw now) w ret v
+        → IsStageAt plan old address secondly (Challenged request reply head)
+        (counted_draw plan now ret p) v
+        × IsRefreshAgain plan p now request ret }
+    ensures turned { (plan : Plan) (old w v : World) (address : SocketAddr) (secondly : Sent)
+        (p : RenewalPosition) (request : Sent) (reply : List ℕ) (now : ℕ) (ret : Answer)
+        → MayBegin plan old
+        → IsStageAt plan old address secondly (Turned request reply) p w
+        → now ≤ client_end
+        → IsStep (Draw now) w ret v
+        → IsStageAt plan old address secondly (turned_next request reply ret)
+        (counted_draw plan now ret p) v
+        × IsNextInTime plan old p now request reply ret }
 {
     refreshes_are_signed();
     refreshing_clients_wait();
     challenged_refreshes_wait();
+}
+
+/// The simulation stays at its position if `poll` is called in time.
+pub fn renewals_are_polled()
+    ensures { (plan : Plan) (old w v : World) (address : SocketAddr) (secondly : Sent)
+        (progress : Renewal) (p : RenewalPosition) (now : ℕ) (ret : Answer)
+        → IsStageAt plan old address secondly progress p w
+        → IsInTime p now
+        → MayPollOn plan progress p.made now
+        → IsStep (Call Poll now) w ret v
+        → IsStageAt plan old address secondly progress p v }
+{
+    keeping_clients_are_polled();
+    challenged_refreshes_wait();
+}
+
+/// The simulation stays at its position if an event of the client's is polled or a getter is called
+/// (`looks`), and if `poll_recv` is called: nothing has come from peers (`receives`).
+pub fn renewals_stand_still()
+    ensures looks { (plan : Plan) (old w v : World) (address : SocketAddr) (secondly : Sent)
+        (progress : Renewal) (p : RenewalPosition) (what : ClientCall) (now : ℕ) (ret : Answer)
+        → IsStageAt plan old address secondly progress p w
+        → IsLook what
+        → IsStep (Call what now) w ret v
+        → IsStageAt plan old address secondly progress p v }
+    ensures receives { (plan : Plan) (old w v : World) (address : SocketAddr) (secondly : Sent)
+        (progress : Renewal) (p : RenewalPosition) (now : ℕ) (ret : Answer)
+        → MayBegin plan old
+        → IsStageAt plan old address secondly progress p w
+        → IsStep (Call PollRecv now) w ret v
+        → IsStageAt plan old address secondly progress p v }
+{
+    keepers_are_reported();
+    challenged_refreshes_are_reported();
+    messages_reach_clients::<&[u8]>();
+    refreshes_are_signed();
+}
+
+/// The success response by which the server core grants the REFRESH, at any time by its own clock,
+/// shows the lifetime that was decided, and is valid under the user's key (RFC 8656, section 8.2).
+pub fn late_refreshes_are_granted()
+    ensures { (plan : Plan) (old w v : World) (address : SocketAddr) (secondly : Sent)
+        (p : RenewalPosition) (request : Sent) (now more : ℕ) (bytes reply : Vec ℕ Global)
+        (seed : List ℕ)
+        → MayBegin plan old
+        → IsStageAt plan old address secondly (Refreshing request) p w
+        → bytes.items ≡ request.bytes
+        → least ≤ more
+        → IsStep (ToDesk bytes request.from now (by.Refresh more) seed) w (Reply reply) v
+        → class_of (kind_at reply.items) ≡ Success
+        → IsStageAt plan old address secondly (Renewing request more reply.items []) p v }
+{
+    desk_steps();
+    refreshes_are_signed();
+    messages_are_reported_alike();
+}
+
+/// The challenge by which the server core replies to the REFRESH has its realm, and announces what
+/// it accepts (RFC 8489, section 9.2.4).
+pub fn late_refreshes_are_challenged()
+    ensures { (plan : Plan) (old w v : World) (address : SocketAddr) (secondly : Sent)
+        (p : RenewalPosition) (request : Sent) (now : ℕ) (bytes reply : Vec ℕ Global)
+        (reported : ChallengeFields) (decision : Decision) (seed : List ℕ)
+        → MayBegin plan old
+        → IsStageAt plan old address secondly (Refreshing request) p w
+        → bytes.items ≡ request.bytes
+        → p.challenges < most_challenges
+        → IsStep (ToDesk bytes request.from now decision seed) w (Reply reply) v
+        → challenge_visible reply.items ≡ Some reported
+        → IsStageAt plan old address secondly (Challenged request reply.items []) p v }
+{
+    refreshes_are_signed();
+}
+
+/// The client handles the success response as it comes. Once all of it has come, it keeps the
+/// allocation for that lifetime (RFC 8656, section 8.3).
+pub fn late_successes_are_taken()
+    ensures { (plan : Plan) (old w v : World) (address : SocketAddr) (secondly : Sent)
+        (p : RenewalPosition) (request : Sent) (more : ℕ) (reply head rest : List ℕ)
+        (bytes : Vec ℕ Global) (now : ℕ) (ret : Answer)
+        → IsStageAt plan old address secondly (Renewing request more reply head) p w
+        → p.queued ≡ false
+        → BringsOn plan.client.transport reply head bytes.items rest
+        → now ≤ client_end
+        → IsStep (ToClient bytes request.to request.from now) w ret v
+        → IsAtRenewal plan old address secondly
+        (renewed_by request more reply (head ++ bytes.items) rest now p) v }
+{
+    challenged_refreshes_renew();
+    responses_reach_clients::<&[u8]>();
+}
+
+/// The client handles the challenge as it comes. Once all of it has come, it queues another REFRESH
+/// (RFC 8489, section 9.2.5).
+pub fn late_challenges_are_taken()
+    ensures { (plan : Plan) (old w v : World) (address : SocketAddr) (secondly : Sent)
+        (p : RenewalPosition) (request : Sent) (reply head rest : List ℕ)
+        (bytes : Vec ℕ Global) (now : ℕ) (ret : Answer)
+        → MayBegin plan old
+        → IsStageAt plan old address secondly (Challenged request reply head) p w
+        → p.queued ≡ false
+        → BringsOn plan.client.transport reply head bytes.items rest
+        → now ≤ client_end
+        → IsStep (ToClient bytes request.to request.from now) w ret v
+        → IsAtRenewal plan old address secondly
+        (challenged_by request reply (head ++ bytes.items) rest now p) v }
+{
+    refreshing_clients_are_challenged();
+    refreshes_are_signed();
+    responses_reach_clients::<&[u8]>();
 }
