@@ -1,5 +1,5 @@
 -- How a datagram with a response reaches a client that holds an allocation.
-use Rattle.std.proofs.Common.{◌≡◌, ℕ, Bool, false, List, Option, None, sym, subst, ◌⊎◌, ◌∙◌, inl, inr}
+use Rattle.std.proofs.Common.{◌≡◌, ℕ, false, List, Option, None, sym, subst, ◌⊎◌, ◌∙◌, inl, inr}
 use Rattle.std.specs.Prelude.{MatchOption}
 use Rattle.turn_client_proto_messages.specs.StunTypesWire.Attributes.{kind_at}
 use Rattle.turn_client_proto_messages.specs.StunTypesWire.Grammar.{refusal}

@@ -1,5 +1,5 @@
 -- What comes of a response to a client that holds an allocation, and what is buffered of it, over either transport.
-use Rattle.std.proofs.Common.{◌≡◌, ◌≢◌, ℕ, ◌≤◌, ◌^◌, Bool, false, List, [], ◌∷◌, ◌++◌, ◌⊎◌, inl, inr, Some, None, refl, sym, ap, ◌∙◌, subst, append-nil}
+use Rattle.std.proofs.Common.{◌≡◌, ◌≢◌, ℕ, ◌≤◌, ◌^◌, Bool, false, List, [], ◌∷◌, ◌++◌, ◌⊎◌, inl, inr, Some, None, refl, sym, ◌∙◌, subst, append-nil}
 use Rattle.std.specs.Prelude.{Vec, ◌&&◌, if◌then◌else◌}
 use Rattle.std.specs.Borrow.{Bor}
 use Rattle.std.specs.declared.alloc.Global.{Global}
@@ -31,7 +31,7 @@ use Rattle.turn_desk_world_laws.specs.World.Model.{World}
 use Rattle.turn_desk_world_laws.specs.World.Runs.{IsStep}
 use Rattle.turn_desk_progress_laws.specs.Promises.{control_at, over}
 use Rattle.turn_desk_progress_laws.specs.Scripts.{BringsOn}
-use Rattle.turn_desk_progress_laws.proofs.Clients.{done, done_so, same_desk, stays}
+use Rattle.turn_desk_progress_laws.proofs.Clients.{done, done_so, same_desk}
 
 -- The bytes are a message, and no indication.
 pub record IsResponse (bytes : List ℕ) : Type 0 where

@@ -1,5 +1,5 @@
 -- How a simulation stands while its client renews an allocation.
-use Rattle.std.proofs.Common.{◌≡◌, ◌≢◌, ◌<◌, ◌≤◌, ◌+◌, ℕ, Bool, true, false, List, [], ◌∷◌, Some, None, refl, sym, ap, ◌∙◌, subst, inl, inr, ◌⊎◌, arith}
+use Rattle.std.proofs.Common.{◌≡◌, ℕ, Bool, true, false, List, [], None, refl, sym, ap, ◌∙◌, subst, inl, inr, arith}
 use Rattle.std.specs.Prelude.{find, IsSome, ◌==◌}
 use Rattle.std.specs.List.{list_any}
 use Rattle.std.specs.FinMap as map
@@ -11,7 +11,6 @@ use Rattle.turn_client_proto_messages.specs.StunProtoClient.Digests.{IsRight}
 use Rattle.turn_client_proto_messages.specs.TurnRuns.Messages.{Message}
 use Rattle.turn_client_proto_messages.specs.Waiting.{Queued, is_answer}
 use Rattle.turn_client_proto_handshake_laws.specs.Choosing.{Choice}
-use Rattle.turn_client_proto_handshake_laws.specs.Stages.{signed_queued}
 use Rattle.turn_client_proto_progress_laws.specs.Refreshed.{IsSignedRefresh, refresh_request, refresh_sent}
 use Rattle.turn_desk_core.specs.State.{State}
 use Rattle.turn_desk_event.specs.declared.answer.Answer.{Answer}
@@ -22,14 +21,13 @@ use Rattle.turn_client_proto_api.specs.Sent.{Sent}
 use Rattle.turn_desk_progress_laws.specs.Joining.{IsSameDesk}
 use Rattle.turn_desk_progress_laws.specs.Links.{Link}
 use Rattle.turn_desk_progress_laws.specs.Loops.{MayBegin}
-use Rattle.turn_desk_progress_laws.specs.Renewals.{IsOwnRefresh}
 use Rattle.turn_desk_progress_laws.specs.Scripts.{Plan}
 use Rattle.turn_desk_progress_laws.specs.Watched.{IsAgreed, IsServing}
 use Rattle.turn_desk_progress_laws.proofs.Same.{step_same}
 use Rattle.turn_desk_progress_laws.proofs.Simulation.{strongest_of_both}
 use Rattle.turn_desk_laws.specs.RefreshStages.{refresh_queued}
 use Rattle.turn_desk_laws.specs.RenewalLoops.{Renewal, RenewalPosition, Holding, Refreshing, Renewing, Challenged, Turned, IsRefreshSent}
-use Rattle.turn_desk_laws.specs.RenewalStages.{IsAuthenticated, IsChallengedAt, IsHeldAt, IsOutstandingAt, IsRenewedAt, IsRequestedAt, IsSecondLeft, IsStageAt, IsTurnedAt, KeepsSettings, queue_by}
+use Rattle.turn_desk_laws.specs.RenewalStages.{IsAuthenticated, IsChallengedAt, IsHeldAt, IsOutstandingAt, IsRenewedAt, IsRequestedAt, IsSecondLeft, IsStageAt, KeepsSettings, queue_by}
 
 -- ---- the server core
 

@@ -1,11 +1,9 @@
 -- A client that holds one allocation, and nothing else, and awaits the response to a REFRESH, also after the
 -- server challenged earlier ones (RFC 8489, section 9.2.5; RFC 8656, sections 8.1 to 8.3).
-use Rattle.std.specs.Prelude.{◌≡◌, ◌≢◌, ◌≤◌, ◌<◌, ◌^◌, ◌++◌, ℕ, max, Bool, true, false, List, [], ◌∷◌, map, length, Some}
+use Rattle.std.specs.Prelude.{◌≡◌, ◌≢◌, ◌≤◌, ◌<◌, ◌^◌, ◌++◌, ℕ, max, List, [], ◌∷◌, map, length, Some}
 use Rattle.std.specs.declared.net.socket_addr.SocketAddr.{SocketAddr}
 use Rattle.turn_client_proto_messages.specs.StunTypesWire.declared.algorithm.IntegrityAlgorithm.{IntegrityAlgorithm}
-use Rattle.turn_client_proto_messages.specs.StunTypesWire.Attributes.{kind_at}
 use Rattle.turn_client_proto_messages.specs.StunTypesWire.Grammar.{number_at}
-use Rattle.turn_client_proto_messages.specs.StunTypesWire.Types.{class_of}
 use Rattle.turn_client_proto_messages.specs.StunProtoClient.Challenges.{ChallengeFields, challenge_visible}
 use Rattle.turn_client_proto_messages.specs.Allocation.declared.refresh.PendingRefresh.{PendingRefresh}
 use Rattle.turn_client_proto_messages.specs.Api.declared.answer.TurnPollRet.{TurnPollRet}

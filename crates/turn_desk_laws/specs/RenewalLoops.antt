@@ -2,7 +2,7 @@
 -- renews the allocation by REFRESHs, which the server core grants, or challenges because its nonce has expired
 -- (RFC 8656, sections 8.1 to 8.3; RFC 8489, sections 6.2.1, 9.2.4 and 9.2.5).
 use Rattle.std.specs.Prelude.{◌≡◌, ◌≢◌, ◌<◌, ◌≤◌, ◌+◌, ◌*◌, ◌==◌, ◌⊎◌, ◌++◌, ◌&&◌, ℕ, nat_lt, nat_le, Bool, true, false, if◌then◌else◌}
-use Rattle.std.specs.Prelude.{List, [], ◌∷◌, Some, None, Vec}
+use Rattle.std.specs.Prelude.{List, [], ◌∷◌, Some, Vec}
 use Rattle.std.specs.declared.alloc.Global.{Global}
 use Rattle.turn_desk_core.specs.StunTypesBase.Times.{time_after}
 use Rattle.turn_desk_core.specs.StunTypesWire.Attributes.{kind_at}

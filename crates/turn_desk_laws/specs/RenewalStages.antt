@@ -1,12 +1,11 @@
 -- The state of the simulation at each position of the renewals (RenewalLoops.antt).
-use Rattle.std.specs.Prelude.{◌≡◌, ◌≢◌, ◌⊎◌, ◌≤◌, ◌<◌, ◌+◌, ◌^◌, ◌++◌, ℕ, Bool, true, false, List, [], ◌∷◌, length, Some, None}
+use Rattle.std.specs.Prelude.{◌≡◌, ◌≢◌, ◌⊎◌, ◌≤◌, ◌<◌, ◌+◌, ◌^◌, ◌++◌, ℕ, Bool, true, false, List, [], ◌∷◌, length, Some}
 use Rattle.std.specs.declared.net.socket_addr.SocketAddr.{SocketAddr}
-use Rattle.turn_desk_core.specs.StunTypesWire.Grammar.{number_at, refusal}
+use Rattle.turn_desk_core.specs.StunTypesWire.Grammar.{number_at}
 use Rattle.turn_client_proto_messages.specs.StunProtoClient.Challenges.{ChallengeFields, challenge_visible}
 use Rattle.turn_client_proto_messages.specs.Waiting.{Queued}
 use Rattle.turn_client_proto_api.specs.declared.event.TurnEvent.{TurnEvent}
 use Rattle.turn_client_proto_api.specs.Sent.{Sent}
-use Rattle.turn_client_proto_step_laws.specs.Recv.ClientState.{Protocol}
 use Rattle.turn_client_proto_handshake_laws.specs.Choosing.{Choice, signed_sent}
 use Rattle.turn_client_proto_handshake_laws.specs.Coming.{IsPartOf}
 use Rattle.turn_client_proto_handshake_laws.specs.Driving.{client_end}

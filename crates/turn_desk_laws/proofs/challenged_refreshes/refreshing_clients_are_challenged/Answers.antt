@@ -4,7 +4,7 @@ use Rattle.turn_client_proto_messages.specs.StunTypesWire.Grammar.{number_at}
 use Rattle.turn_client_proto_handshake_laws.specs.Choosing.{Choice, IsChoice}
 use Rattle.turn_client_proto_handshake_laws.specs.Sent.{Beginning, HasRoom}
 use Rattle.turn_client_proto_progress_laws.specs.Refreshed.{refresh_for, refresh_request, signed_by}
-use Rattle.turn_desk_laws.proofs.RefreshChallenged.{HasAnswered, challenge_processed, goes}
+use Rattle.turn_desk_laws.proofs.RefreshChallenged.{challenge_processed, goes}
 use Rattle.turn_desk_laws.proofs.challenged_refreshes.refreshing_clients_are_challenged.Goals as goal
 
 numbered_so : (c : goal.After-signed_allocates_answer) (b : Beginning) → HasRoom b.config → (k : Choice) → IsChoice b k → (n : ℕ) → n < 2 ^ 96 → number_at (refresh_request b k n) ≡ n

@@ -1,4 +1,4 @@
-use Rattle.std.proofs.Common.{◌≡◌, ◌++◌, ℕ, List, [], ◌∷◌, refl, sym, ◌∙◌, subst}
+use Rattle.std.proofs.Common.{◌≡◌, ℕ, refl, sym, ◌∙◌, subst}
 use Rattle.std.specs.declared.net.socket_addr.SocketAddr.{SocketAddr}
 use Rattle.turn_client_proto_api.specs.Sent.{Sent}
 use Rattle.turn_desk_event.specs.declared.answer.Answer.{Answer}
@@ -10,7 +10,7 @@ use Rattle.turn_desk_world_laws.specs.World.Model.{World}
 use Rattle.turn_desk_world_laws.specs.World.Runs.{IsStep}
 use Rattle.turn_desk_progress_laws.specs.Loops.{MayBegin}
 use Rattle.turn_desk_progress_laws.specs.Scripts.{Plan}
-use Rattle.turn_desk_laws.specs.RenewalLoops.{Challenged, Challenges, Draws, GivesChallenge, GivesSuccess, Grants, Holding, IsDrawnAt, IsDrawnBy, IsInTime, Looks, Polls, Receives, Refreshing, Renewal, RenewalPosition, Renewing, Renews, Turned, counted_draw, drawn_by, renewed_by, challenged_by}
+use Rattle.turn_desk_laws.specs.RenewalLoops.{Challenged, Challenges, Draws, GivesChallenge, GivesSuccess, Grants, Holding, IsDrawnAt, IsDrawnBy, IsInTime, Looks, Polls, Receives, Refreshing, Renewal, RenewalPosition, Renewing, Renews, Turned, counted_draw, drawn_by}
 use Rattle.turn_desk_laws.specs.RenewalStages.{IsAtRenewal, IsStageAt}
 use Rattle.turn_desk_laws.proofs.renewals.events_of_renewals_lead_on.Goals as goal
 

@@ -1,4 +1,4 @@
-use Rattle.std.proofs.Common.{◌≡◌, ◌≢◌, ◌<◌, ◌≤◌, ◌+◌, ◌⊎◌, ◌&&◌, ◌^◌, ℕ, arith, Bool, true, false, List, [], ◌∷◌, Option, Some, None, ap, refl, sym, ◌∙◌, subst, inl, inr}
+use Rattle.std.proofs.Common.{◌≡◌, ◌≢◌, ◌<◌, ◌≤◌, ◌⊎◌, ◌&&◌, ◌^◌, ℕ, arith, Bool, true, false, List, [], ◌∷◌, Option, Some, None, ap, refl, sym, ◌∙◌, subst, inl, inr}
 use Rattle.std.specs.Prelude.{find, nat_lt, if◌then◌else◌}
 use Rattle.std.proofs.lemmas.Bool.{eq-eqb, lt-ltb}
 use Rattle.std.specs.declared.net.socket_addr.SocketAddr.{SocketAddr}
@@ -13,16 +13,14 @@ use Rattle.turn_client_proto_step_laws.specs.Timers.Polling.{cadence}
 use Rattle.turn_client_proto_step_laws.specs.Recv.ClientState.{Protocol}
 use Rattle.turn_client_proto_handshake_laws.specs.Choosing.{Choice, allocate_of, signed_request, signed_sent, signer_by}
 use Rattle.turn_client_proto_handshake_laws.specs.Stages.{signed_queued}
-use Rattle.turn_client_proto_progress_laws.specs.Keeping.{IsKeeping, IsRefreshing, Term, due_of}
+use Rattle.turn_client_proto_progress_laws.specs.Keeping.{IsKeeping, IsRefreshing, Term}
 use Rattle.turn_client_proto_progress_laws.specs.Refreshed.{refresh_request, refresh_sent}
 use Rattle.turn_desk_event.specs.declared.answer.Answer.{Answer}
 use Rattle.turn_desk_event.specs.declared.answer.Answer.TheVariants as answer
-use Rattle.turn_desk_event.specs.declared.event.Event.TheVariants.{Draw}
 use Rattle.turn_desk_world_laws.specs.World.Calls.{IsTransmittedAs}
 use Rattle.turn_desk_world_laws.specs.World.Model.{World}
-use Rattle.turn_desk_world_laws.specs.World.Runs.{IsStep}
-use Rattle.turn_desk_progress_laws.specs.Loops.{Gives, MayBegin}
-use Rattle.turn_desk_progress_laws.specs.Promises.{HasClient, control_at, over}
+use Rattle.turn_desk_progress_laws.specs.Loops.{MayBegin}
+use Rattle.turn_desk_progress_laws.specs.Promises.{control_at, over}
 use Rattle.turn_desk_progress_laws.specs.Scripts.{Plan}
 use Rattle.turn_desk_progress_laws.specs.Turns.{due}
 use Rattle.turn_desk_progress_laws.specs.Watched.{term_of}
@@ -31,7 +29,7 @@ use Rattle.turn_desk_progress_laws.proofs.Indexes.{same_sent}
 use Rattle.turn_desk_progress_laws.proofs.Looping.{never}
 use Rattle.turn_desk_progress_laws.proofs.Times.{order}
 use Rattle.turn_desk_laws.specs.RefreshStages.{IsRefreshingOn, refresh_queued}
-use Rattle.turn_desk_laws.specs.RenewalLoops.{Holding, IsDrawnAt, IsDueRefresh, IsInTime, IsRefreshSent, IsSecondAgain, Refreshing, RenewalPosition, holding_draw, is_refresh}
+use Rattle.turn_desk_laws.specs.RenewalLoops.{Holding, IsDueRefresh, IsInTime, IsRefreshSent, IsSecondAgain, Refreshing, RenewalPosition, holding_draw, is_refresh}
 use Rattle.turn_desk_laws.specs.RenewalStages.{IsHeldAt, IsSecondLeft, IsStageAt, count_by, queue_by}
 use Rattle.turn_desk_laws.proofs.RenewalWorlds.{keeps_so, not_equal, refresh_so}
 use Rattle.turn_desk_laws.proofs.renewals.held_allocations_are_drawn.Goals as goal

@@ -1,4 +1,4 @@
-use Rattle.std.proofs.Common.{◌≡◌, ◌≢◌, ◌≤◌, ◌<◌, ◌+◌, ◌++◌, ℕ, arith, Bool, true, false, List, [], ◌∷◌, Some, refl, sym, ap, ◌∙◌, subst}
+use Rattle.std.proofs.Common.{◌≡◌, ◌≤◌, ◌<◌, ◌+◌, ◌++◌, ℕ, arith, Bool, false, List, [], ◌∷◌, Some, refl, ap, ◌∙◌, subst}
 use Rattle.std.specs.Prelude.{Vec, length}
 use Rattle.std.specs.declared.alloc.Global.{Global}
 use Rattle.std.specs.declared.net.socket_addr.SocketAddr.{SocketAddr}
@@ -24,7 +24,7 @@ use Rattle.turn_desk_laws.specs.RefreshStages.{IsRefreshedAgain, IsRefreshingOn,
 use Rattle.turn_desk_laws.specs.RenewalLoops.{RenewalPosition, challenged_by}
 use Rattle.turn_desk_laws.specs.RenewalStages.{IsAtRenewal, IsChallengedAt, count_by, queue_by}
 use Rattle.turn_desk_laws.proofs.RefreshChallenged.{one_longer}
-use Rattle.turn_desk_laws.proofs.RefreshComing.{DoCome, IsComeTo, IsTakenOn, challenge_comes, comes_on}
+use Rattle.turn_desk_laws.proofs.RefreshComing.{DoCome, IsComeTo, challenge_comes, comes_on}
 use Rattle.turn_desk_laws.proofs.RenewalWorlds.{keeps_so}
 use Rattle.turn_desk_laws.proofs.renewals.late_challenges_are_taken.Goals as goal
 

@@ -1,10 +1,8 @@
-use Rattle.std.proofs.Common.{◌≡◌, ◌<◌, ℕ, List, [], Some, None, ap, refl, sym, ◌∙◌, subst}
+use Rattle.std.proofs.Common.{◌≡◌, ◌<◌, ℕ, List, [], Some, None, ap, refl, ◌∙◌, subst}
 use Rattle.std.specs.Prelude.{Vec}
 use Rattle.std.specs.declared.alloc.Global.{Global}
 use Rattle.std.specs.declared.net.socket_addr.SocketAddr.{SocketAddr}
-use Rattle.turn_desk_core.specs.StunTypesWire.Attributes.{kind_at}
 use Rattle.turn_desk_core.specs.StunTypesWire.Grammar.{refusal}
-use Rattle.turn_desk_core.specs.StunTypesWire.Types.{method_of}
 use Rattle.turn_desk_core.specs.TurnTypesAttributes.TurnRegistry.{refresh_method}
 use Rattle.turn_client_proto_messages.specs.StunProtoClient.Challenges.{ChallengeFields, challenge_visible}
 use Rattle.turn_client_proto_api.specs.Sent.{Sent}

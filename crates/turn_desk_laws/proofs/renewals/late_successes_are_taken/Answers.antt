@@ -1,4 +1,4 @@
-use Rattle.std.proofs.Common.{◌≡◌, ◌≤◌, ◌++◌, ℕ, Bool, false, List, [], ◌∷◌, Some, refl, sym, ap, ◌∙◌, subst, inl}
+use Rattle.std.proofs.Common.{◌≡◌, ◌≤◌, ◌++◌, ℕ, Bool, false, List, [], ◌∷◌, Some, refl, ap, ◌∙◌, subst, inl}
 use Rattle.std.specs.Prelude.{Vec}
 use Rattle.std.specs.declared.alloc.Global.{Global}
 use Rattle.std.specs.declared.net.socket_addr.SocketAddr.{SocketAddr}
@@ -18,7 +18,7 @@ use Rattle.turn_desk_progress_laws.proofs.Clients.{stays}
 use Rattle.turn_desk_laws.specs.RefreshStages.{refresh_queued}
 use Rattle.turn_desk_laws.specs.RenewalLoops.{RenewalPosition, renewed_by}
 use Rattle.turn_desk_laws.specs.RenewalStages.{IsAtRenewal, IsRenewedAt, count_by, queue_by}
-use Rattle.turn_desk_laws.proofs.RefreshComing.{DoCome, IsComeTo, IsTakenOn, comes_on}
+use Rattle.turn_desk_laws.proofs.RefreshComing.{DoCome, IsComeTo, comes_on}
 use Rattle.turn_desk_laws.proofs.RenewalWorlds.{keeps_so}
 use Rattle.turn_desk_laws.proofs.renewals.late_successes_are_taken.Goals as goal
 

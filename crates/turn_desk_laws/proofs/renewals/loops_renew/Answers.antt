@@ -1,4 +1,4 @@
-use Rattle.std.proofs.Common.{◌≡◌, ◌≤◌, ◌++◌, ℕ, List, [], ◌∷◌, sym, subst}
+use Rattle.std.proofs.Common.{◌≡◌, ◌≤◌, ℕ, List, [], ◌∷◌, sym, subst}
 use Rattle.std.specs.declared.net.socket_addr.SocketAddr.{SocketAddr}
 use Rattle.turn_client_proto_api.specs.Sent.{Sent}
 use Rattle.turn_client_proto_handshake_laws.specs.Choosing.{Choice}
@@ -6,7 +6,7 @@ use Rattle.turn_desk_event.specs.declared.answer.Answer.{Answer}
 use Rattle.turn_desk_event.specs.declared.event.Event.{Event}
 use Rattle.turn_desk_event.specs.declared.event.Event.TheVariants.{Draw}
 use Rattle.turn_desk_world_laws.specs.World.Model.{World}
-use Rattle.turn_desk_world_laws.specs.World.Runs.{IsRun, IsStep}
+use Rattle.turn_desk_world_laws.specs.World.Runs.{IsRun}
 use Rattle.turn_desk_progress_laws.specs.Loops.{IsLoop, MayBegin, Position, start}
 use Rattle.turn_desk_progress_laws.specs.Renewals.{HoldsStill}
 use Rattle.turn_desk_progress_laws.specs.Scripts.{Done, Plan}

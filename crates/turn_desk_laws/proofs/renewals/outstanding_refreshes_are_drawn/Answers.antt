@@ -1,12 +1,11 @@
-use Rattle.std.proofs.Common.{◌≡◌, ◌≢◌, ◌<◌, ◌≤◌, ◌+◌, ◌⊎◌, ◌&&◌, ℕ, Bool, true, false, List, [], ◌∷◌, Some, None, ap, refl, sym, ◌∙◌, subst, inl, inr}
+use Rattle.std.proofs.Common.{◌≡◌, ◌<◌, ◌≤◌, ◌+◌, ◌⊎◌, ◌&&◌, ℕ, Bool, true, false, List, [], Some, None, ap, refl, sym, ◌∙◌, subst, inl, inr}
 use Rattle.std.specs.Prelude.{nat_le, nat_lt}
 use Rattle.std.proofs.lemmas.Bool.{cases_Bool, le-leb, lt-leb, lt-ltb, ltb-true}
 use Rattle.std.specs.declared.net.socket_addr.SocketAddr.{SocketAddr}
 use Rattle.turn_desk_core.specs.StunTypesBase.Times.{time_after}
-use Rattle.turn_desk_core.specs.StunTypesWire.Grammar.{number_at}
 use Rattle.turn_desk_event.specs.StunProtoTransaction.Schedule.{slot_at}
-use Rattle.turn_client_proto_messages.specs.StunProtoClient.Challenges.{ChallengeFields, challenge_visible}
-use Rattle.turn_client_proto_api.specs.StunProtoAuth.Claims.{Claimed, claimed}
+use Rattle.turn_client_proto_messages.specs.StunProtoClient.Challenges.{ChallengeFields}
+use Rattle.turn_client_proto_api.specs.StunProtoAuth.Claims.{Claimed}
 use Rattle.turn_client_proto_api.specs.declared.event.TurnEvent.{TurnEvent}
 use Rattle.turn_client_proto_api.specs.Sent.{Sent, sent_of}
 use Rattle.turn_client_proto_step_laws.specs.Timers.Polling.{cadence}
@@ -15,7 +14,7 @@ use Rattle.turn_client_proto_handshake_laws.specs.Choosing.{Choice}
 use Rattle.turn_client_proto_handshake_laws.specs.Driving.{client_end}
 use Rattle.turn_client_proto_handshake_laws.specs.Requested.{count_of}
 use Rattle.turn_client_proto_progress_laws.specs.Keeping.{Term}
-use Rattle.turn_client_proto_progress_laws.specs.Refreshed.{refresh_request, refresh_requested, refresh_sent}
+use Rattle.turn_client_proto_progress_laws.specs.Refreshed.{refresh_requested, refresh_sent}
 use Rattle.turn_desk_event.specs.declared.answer.Answer.{Answer}
 use Rattle.turn_desk_event.specs.declared.answer.Answer.TheVariants as answer
 use Rattle.turn_desk_event.specs.declared.event.Event.TheVariants.{Draw}
@@ -23,7 +22,7 @@ use Rattle.turn_desk_world_laws.specs.World.Calls.{IsTransmittedAs}
 use Rattle.turn_desk_world_laws.specs.World.Model.{World}
 use Rattle.turn_desk_world_laws.specs.World.Runs.{IsStep}
 use Rattle.turn_desk_progress_laws.specs.Loops.{Gives, IsNoneDue, IsTransmissionDue, MayBegin}
-use Rattle.turn_desk_progress_laws.specs.Promises.{HasClient, control_at, over}
+use Rattle.turn_desk_progress_laws.specs.Promises.{control_at, over}
 use Rattle.turn_desk_progress_laws.specs.Scripts.{Plan}
 use Rattle.turn_desk_progress_laws.specs.Watched.{term_of}
 use Rattle.turn_desk_progress_laws.proofs.Clients.{draws}
