@@ -66,7 +66,7 @@ module _ (c : goal.After-late_challenges_are_taken) (plan : Plan) (old : World) 
 
   one : Renews plan p event ret next → IsStep event w ret v → After next event
   one (Draws now in_time is_event to) = as_said _ _ is_event to (λ step. drawn_on now in_time step)
-  one (Polls now in_time open is_event to) = as_said _ _ is_event to (λ step. (c.renewals_are_polled.ensures plan old w v address secondly p.progress p now ret is in_time open step, tt))
+  one (Polls now in_time unended is_event to) = as_said _ _ is_event to (λ step. (c.renewals_are_polled.ensures plan old w v address secondly p.progress p now ret is in_time unended step, tt))
   one (Looks what now look in_time is_event to) = as_said _ _ is_event to (λ step. (c.renewals_stand_still.ensures.looks plan old w v address secondly p.progress p what now ret is look step, tt))
   one (Receives now in_time is_event to) = as_said _ _ is_event to (λ step. (c.renewals_stand_still.ensures.receives plan old w v address secondly p.progress p now ret may is step, tt))
   one (Grants request now more bytes reply seed at same enough is_event replied success to) = as_said _ _ is_event to (λ step. (

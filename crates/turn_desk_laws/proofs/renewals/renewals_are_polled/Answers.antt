@@ -75,11 +75,11 @@ module _ (c : goal.After-challenged_refreshes_wait) (plan : Plan) (old w v : Wor
       }
 
   by_progress : (progress : Renewal) → MayPollOn plan progress p.made now → IsStageAt plan old address secondly progress p w → IsStageAt plan old address secondly progress p v
-  by_progress Holding open s = held s
-  by_progress (Refreshing request) open s = stands_on plan old address secondly p w v (moves open) (Refreshing request) held s
-  by_progress (Renewing request more reply head) open s = stands_on plan old address secondly p w v (moves open) (Renewing request more reply head) held s
-  by_progress (Challenged request reply head) open s = stands_on plan old address secondly p w v (moves open) (Challenged request reply head) held s
-  by_progress (Turned request reply) open s = stands_on plan old address secondly p w v (moves open) (Turned request reply) held s
+  by_progress Holding unended s = held s
+  by_progress (Refreshing request) unended s = stands_on plan old address secondly p w v (moves unended) (Refreshing request) held s
+  by_progress (Renewing request more reply head) unended s = stands_on plan old address secondly p w v (moves unended) (Renewing request more reply head) held s
+  by_progress (Challenged request reply head) unended s = stands_on plan old address secondly p w v (moves unended) (Challenged request reply head) held s
+  by_progress (Turned request reply) unended s = stands_on plan old address secondly p w v (moves unended) (Turned request reply) held s
 
 pub returns : goal.returns
-returns c = λ plan old w v address secondly progress p now ret s in_time open step. by_progress c plan old w v address secondly p now ret in_time step progress open s
+returns c = λ plan old w v address secondly progress p now ret s in_time unended step. by_progress c plan old w v address secondly p now ret in_time step progress unended s
