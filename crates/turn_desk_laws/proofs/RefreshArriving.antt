@@ -32,14 +32,14 @@ module _ (b : Beginning) (k : ClientState) (u : IsOf b k.core) {T : Type 0} (ite
 
   own : refusal (items came.bytes) ≡ None → is_indication (class_of (kind_at (items came.bytes))) ≡ false → IsDatagramTaken items k.core came now answer k2.core → k2.control ≡ Datagrams
       → IsProcessedAs k (items came.bytes) came now Datagrams answer k2 ⊎ IsLost k came answer k2
-  own is no (Foreign foreign back) control = absurd (foreign of_server)
-  own is no (Own server taken) control =
+  own is other (Foreign foreign back) control = absurd (foreign of_server)
+  own is other (Own server taken) control =
       let reads = subst (λ (o : Option Payload). MatchOption o (IsRead (refusal (items came.bytes)) k.core (items came.bytes) came now answer k2.core)
-      (λ payload. IsDelivered items came payload answer × (k2.core ≡ k.core))) (gives_none k.core (items came.bytes) is no) taken in
+      (λ payload. IsDelivered items came payload answer × (k2.core ≡ k.core))) (gives_none k.core (items came.bytes) is other) taken in
       read (items came.bytes) (subst (λ (o : Option StunParseError). IsRead o k.core (items came.bytes) came now answer k2.core) is reads) control
 
   pub response_processed : k.control ≡ Datagrams → refusal (items came.bytes) ≡ None → is_indication (class_of (kind_at (items came.bytes))) ≡ false → IsReceived items k came now answer k2
       → IsProcessedAs k (items came.bytes) came now Datagrams answer k2 ⊎ IsLost k came answer k2
-  response_processed over is no received =
+  response_processed over is other received =
       let taken = subst (λ (c : Control). IsReceivedBy items now c k.core came answer k2) over received in
-      own is no taken.0 taken.1
+      own is other taken.0 taken.1

@@ -90,10 +90,10 @@ module _ (b : Beginning) (c : Choice) (chosen_before : IsChoice b c) (address : 
   no_indication = by (class_of (kind_at bytes)) responds
     where
       by : (k : MessageClass) → is_response_class k ≡ true → is_indication k ≡ false
-      by Request no = absurd (Prim.cc no)
-      by Indication no = absurd (Prim.cc no)
-      by Success yes = refl
-      by Error yes = refl
+      by Request wrong = absurd (Prim.cc wrong)
+      by Indication wrong = absurd (Prim.cc wrong)
+      by Success response = refl
+      by Error response = refl
 
   -- ---- what its request asks for
 

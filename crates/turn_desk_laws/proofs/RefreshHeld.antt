@@ -43,11 +43,12 @@ lifetime_found [] number sought same =
   where
     sym_of : (a b : ℕ) → a ≡ b → b ≡ a
     sym_of a b is = Prim.cc is
-lifetime_found (n ∷ rest) number sought same = by (n == sought)
+lifetime_found (n ∷ rest) number sought same = by (n == sought) (lifetime_found rest number sought same)
   where
-    by : (x : Bool) → option_map (λ (r : PendingRefresh). r.lifetime) (if x then Some (asked_as n) else find (λ (r : PendingRefresh). r.number == sought) (asked_by (rest ++ number ∷ []))) ≡ Some allocation_lifetime
-    by true = refl
-    by false = lifetime_found rest number sought same
+    by : (x : Bool) → lifetime_requested sought (asked_by (rest ++ number ∷ [])) ≡ Some allocation_lifetime
+        → option_map (λ (r : PendingRefresh). r.lifetime) (if x then Some (asked_as n) else find (λ (r : PendingRefresh). r.number == sought) (asked_by (rest ++ number ∷ []))) ≡ Some allocation_lifetime
+    by true later = refl
+    by false later = later
 
 -- ---- the allocation
 
