@@ -122,9 +122,20 @@ queued_after plan now p = p.queued && is_slot_due plan p.made (p.many + 1) now
 -- after the last message on, the second request leaves the queue if it is queued.
 abbrev pub holding_draw : (now : ℕ) → Answer → RenewalPosition → RenewalPosition
 holding_draw now (answer.Transmit message) p = if is_refresh (sent_of message)
-    then record p { progress = Refreshing (sent_of message); last = now; sent = now; made = now; many = 1; again = false }
+    then record p {
+      progress = Refreshing (sent_of message);
+      last = now;
+      sent = now;
+      made = now;
+      many = 1;
+      again = false;
+    }
     else record p { progress = Holding; last = now; sent = now; again = false }
-holding_draw now _ p = record p { progress = Holding; last = now; again = p.again && nat_lt now (time_after p.sent cadence) }
+holding_draw now _ p = record p {
+  progress = Holding;
+  last = now;
+  again = p.again && nat_lt now (time_after p.sent cadence);
+}
 
 -- A message that it transmits while a REFRESH is outstanding is counted.
 abbrev pub counted_draw : Plan → (now : ℕ) → Answer → RenewalPosition → RenewalPosition
@@ -144,7 +155,8 @@ drawn_by plan now ret (Turned request reply) p =
 drawn_by plan now ret _ p = counted_draw plan now ret p
 
 -- Once all of the success response has come, the allocation is granted for the new lifetime.
-abbrev pub renewed_by : (request : Sent) (more : ℕ) (reply head rest : List ℕ) (now : ℕ) → RenewalPosition → RenewalPosition
+abbrev pub renewed_by : (request : Sent) (more : ℕ) (reply head rest : List ℕ) (now : ℕ) → RenewalPosition
+    → RenewalPosition
 renewed_by request more reply head [] now p = record p {
   progress = Holding;
   last = now;
@@ -152,7 +164,8 @@ renewed_by request more reply head [] now p = record p {
   lifetime = more;
   challenges = 0;
 }
-renewed_by request more reply head (byte ∷ rest) now p = record p { progress = Renewing request more reply head; last = now }
+renewed_by request more reply head (byte ∷ rest) now p =
+    record p { progress = Renewing request more reply head; last = now }
 
 -- Once all of a challenge has come, the client makes another REFRESH.
 abbrev pub challenged_by : (request : Sent) (reply head rest : List ℕ) (now : ℕ) → RenewalPosition → RenewalPosition
@@ -164,13 +177,15 @@ challenged_by request reply head [] now p = record p {
   queued = true;
   challenges = p.challenges + 1;
 }
-challenged_by request reply head (byte ∷ rest) now p = record p { progress = Challenged request reply head; last = now }
+challenged_by request reply head (byte ∷ rest) now p =
+    record p { progress = Challenged request reply head; last = now }
 
 -- ---- what happens, and where it leads
 
 -- What happens at a position, and where its result leads. Of each REFRESH one transmission reaches the server
 -- core, unaltered from where it was sent, at any time by the server core's own clock.
-pub data Renews (plan : Plan) (p : RenewalPosition) (event : Event) (ret : Answer) (next : RenewalPosition) : Type 0 where
+pub data Renews (plan : Plan) (p : RenewalPosition) (event : Event) (ret : Answer) (next : RenewalPosition)
+    : Type 0 where
   Draws : (now : ℕ) → IsInTime p now → event ≡ Draw now → next ≡ drawn_by plan now ret p.progress p
       → Renews plan p event ret next
   Polls : (now : ℕ) → IsInTime p now → MayPollOn plan p.progress p.made now → event ≡ Call call.Poll now
@@ -188,8 +203,9 @@ pub data Renews (plan : Plan) (p : RenewalPosition) (event : Event) (ret : Answe
       → next ≡ record p { progress = Renewing request more reply.items [] } → Renews plan p event ret next
   -- The server core's nonce for the client has expired: its reply is a challenge, whatever is decided. It
   -- challenges a client no more often in a row than a client answers.
-  Challenges : (request : Sent) (now : ℕ) (bytes reply : Vec ℕ Global) (reported : ChallengeFields) (decision : Decision)
-      (seed : List ℕ) → p.progress ≡ Refreshing request → bytes.items ≡ request.bytes → p.challenges < most_challenges
+  Challenges : (request : Sent) (now : ℕ) (bytes reply : Vec ℕ Global) (reported : ChallengeFields)
+      (decision : Decision) (seed : List ℕ) → p.progress ≡ Refreshing request → bytes.items ≡ request.bytes
+      → p.challenges < most_challenges
       → event ≡ ToDesk bytes request.from now decision seed → ret ≡ answer.Reply reply
       → challenge_visible reply.items ≡ Some reported
       → next ≡ record p { progress = Challenged request reply.items [] } → Renews plan p event ret next
@@ -242,8 +258,8 @@ pub record IsDueRefresh (plan : Plan) (old : World) (secondly : Sent) (p : Renew
   pub rests : now < time_after p.sent cadence → ret ≡ answer.Nothing
 
 -- A REFRESH that is outstanding is transmitted again by its schedule (RFC 8489, section 6.2.1): never before a
--- slot, and at the first draw at or after it. While it is also queued, a draw may wait until 50 ms after the
--- last message.
+-- slot, and at the first draw at or after it. While it is still queued, the slot that comes next may wait until
+-- 50 ms after the last message, and at a draw then it comes, whether or not a slot is due.
 pub record IsRefreshAgain (plan : Plan) (p : RenewalPosition) (now : ℕ) (request : Sent) (ret : Answer) : Type 0 where
   pub in_time : p.queued ≡ false → IsTransmissionDue plan p.made p.many now → Gives ret (λ sent. sent ≡ request)
   pub late : IsTransmissionDue plan p.made p.many now → time_after p.sent cadence ≤ now

@@ -63,8 +63,8 @@ pub record IsHoldingSo (plan : Plan) (old : World) (reported : List TurnEvent) (
 -- ---- at each position
 
 -- The client holds the allocation, and no REFRESH is outstanding.
-pub record IsHeldAt (plan : Plan) (old : World) (address : SocketAddr) (secondly : Sent) (p : RenewalPosition) (w : World)
-    : Type 0 where
+pub record IsHeldAt (plan : Plan) (old : World) (address : SocketAddr) (secondly : Sent) (p : RenewalPosition)
+    (w : World) : Type 0 where
   pub choice : Choice
   pub signs : IsAuthenticated plan old choice w.desk
   pub first : ℕ
@@ -97,8 +97,8 @@ pub record IsOutstandingAt (plan : Plan) (old : World) (address : SocketAddr) (p
   pub count : length earlier ≡ p.challenges
   pub events : List TurnEvent
   pub client : HasClient plan head w (λ q. IsRefreshingOn plan.client choice address (term_of first p.from p.lifetime)
-      earlier number p.made (count_by p.queued p.many) p.sent (queue_by p.queued (refresh_queued plan.client choice number))
-      events q)
+      earlier number p.made (count_by p.queued p.many) p.sent
+      (queue_by p.queued (refresh_queued plan.client choice number)) events q)
 
 -- The client transmitted it, and awaits the reply.
 pub record IsRequestedAt (plan : Plan) (old : World) (address : SocketAddr) (p : RenewalPosition) (request : Sent)
