@@ -163,3 +163,47 @@ module _ (plan : Plan) (old : World) (address : SocketAddr) (secondly : Sent) (p
     visible = s.visible;
     other = s.other;
   }
+
+-- ---- a position that differs only in what was done, and when last
+
+module _ (plan : Plan) (old : World) (address : SocketAddr) (secondly : Sent) (p : RenewalPosition) (progress : Renewal) (last : ℕ) (w : World) where
+  abbrev q : RenewalPosition
+  q = record p { progress = progress; last = last }
+
+  outstanding_at : (choice : Choice) (number : ℕ) (head : List ℕ) → IsOutstandingAt plan old address p choice number head w → IsOutstandingAt plan old address q choice number head w
+  outstanding_at choice number head x = record {
+    signs = x.signs;
+    first = x.first;
+    lasts = x.lasts;
+    fits = x.fits;
+    earlier = x.earlier;
+    count = x.count;
+    events = x.events;
+    client = x.client;
+  }
+
+  pub stage_on : (x : Renewal) → IsStageAt plan old address secondly x p w → IsStageAt plan old address secondly x q w
+  stage_on Holding k = record {
+    choice = k.choice;
+    signs = k.signs;
+    first = k.first;
+    lasts = k.lasts;
+    unqueued = k.unqueued;
+    unchallenged = k.unchallenged;
+    queue = k.queue;
+    left = k.left;
+    events = k.events;
+    client = k.client;
+  }
+  stage_on (Refreshing request) s = requested_on plan old address p q refl w w outstanding_at request s
+  stage_on (Renewing request more reply head) s = renewed_on plan old address p q refl w w outstanding_at request more reply head s
+  stage_on (Challenged request reply head) s = challenged_on plan old address p q refl w w outstanding_at request reply head s
+  stage_on (Turned request reply) s = record {
+    choice = s.choice;
+    number = s.number;
+    is = outstanding_at s.choice s.number [] s.is;
+    still_queued = s.still_queued;
+    none_sent = s.none_sent;
+    visible = s.visible;
+    other = s.other;
+  }

@@ -10,8 +10,9 @@ use Rattle.turn_desk_world_laws.specs.World.Model.{World}
 use Rattle.turn_desk_world_laws.specs.World.Runs.{IsStep}
 use Rattle.turn_desk_progress_laws.specs.Loops.{MayBegin}
 use Rattle.turn_desk_progress_laws.specs.Scripts.{Plan}
-use Rattle.turn_desk_laws.specs.RenewalLoops.{Challenged, Challenges, Draws, GivesChallenge, GivesSuccess, Grants, Holding, IsDrawnAt, IsDrawnBy, IsInTime, Looks, Polls, Receives, Refreshing, Renewal, RenewalPosition, Renewing, Renews, Turned, counted_draw, drawn_by}
+use Rattle.turn_desk_laws.specs.RenewalLoops.{Challenged, Challenges, Draws, GivesChallenge, GivesSuccess, Grants, Holding, IsDrawnAt, IsDrawnBy, IsInTime, Looks, Polls, Receives, Refreshing, Renewal, RenewalPosition, Renewing, Renews, Turned, counted_draw, drawn_by, turned_next}
 use Rattle.turn_desk_laws.specs.RenewalStages.{IsAtRenewal, IsStageAt}
+use Rattle.turn_desk_laws.proofs.RenewalWorlds.{stage_on}
 use Rattle.turn_desk_laws.proofs.renewals.events_of_renewals_lead_on.Goals as goal
 
 same_progress : (plan : Plan) (now : ℕ) (p : RenewalPosition) (ret : Answer) → (counted_draw plan now ret p).progress ≡ p.progress
@@ -30,6 +31,10 @@ module _ (c : goal.After-late_challenges_are_taken) (plan : Plan) (old : World) 
 
   stage_at : (progress : Renewal) → p.progress ≡ progress → IsStageAt plan old address secondly progress p w
   stage_at progress at = subst (λ (x : Renewal). IsStageAt plan old address secondly x p w) at is
+
+  -- At a position that differs only in what was done, and when last.
+  on : (progress : Renewal) (last : ℕ) (x : Renewal) → IsStageAt plan old address secondly x p v → IsStageAt plan old address secondly x (record p { progress = progress; last = last }) v
+  on progress last x s = stage_on plan old address secondly p progress last v x s
 
   module _ (now : ℕ) (in_time : IsInTime p now) (step : IsStep (Draw now) w ret v) where
     abbrev q : RenewalPosition
@@ -57,26 +62,27 @@ module _ (c : goal.After-late_challenges_are_taken) (plan : Plan) (old : World) 
         let s = c.outstanding_refreshes_are_drawn.ensures.turned plan old w v address secondly p request reply now ret may (stage_at (Turned request reply) at) in_time.in_range step in
         (turned ret s.0, s.1)
       where
-        turned : (a : Answer) → IsStageAt plan old address secondly (drawn_by plan now a (Turned request reply) p).progress (counted_draw plan now a p) v → IsStageAt plan old address secondly (drawn_by plan now a (Turned request reply) p).progress (drawn_by plan now a (Turned request reply) p) v
-        turned (answer.Transmit message) s = s
-        turned _ s = s
+        turned : (a : Answer) → IsStageAt plan old address secondly (turned_next request reply a) (counted_draw plan now a p) v → IsStageAt plan old address secondly (turned_next request reply a) (drawn_by plan now a (Turned request reply) p) v
+        turned a s = stage_on plan old address secondly (counted_draw plan now a p) (turned_next request reply a) (counted_draw plan now a p).last v (turned_next request reply a) s
 
     drawn_on : After (drawn_by plan now ret p.progress p) (Draw now)
     drawn_on = drawn p.progress refl
 
   one : Renews plan p event ret next → IsStep event w ret v → After next event
   one (Draws now in_time is_event to) = as_said _ _ is_event to (λ step. drawn_on now in_time step)
-  one (Polls now in_time unended is_event to) = as_said _ _ is_event to (λ step. (c.renewals_are_polled.ensures plan old w v address secondly p.progress p now ret is in_time unended step, tt))
-  one (Looks what now look in_time is_event to) = as_said _ _ is_event to (λ step. (c.renewals_stand_still.ensures.looks plan old w v address secondly p.progress p what now ret is look step, tt))
-  one (Receives now in_time is_event to) = as_said _ _ is_event to (λ step. (c.renewals_stand_still.ensures.receives plan old w v address secondly p.progress p now ret may is step, tt))
+  one (Polls now in_time unended is_event to) = as_said _ _ is_event to (λ step. (on p.progress now p.progress (c.renewals_are_polled.ensures plan old w v address secondly p.progress p now ret is in_time unended step), tt))
+  one (Looks what now look in_time is_event to) = as_said _ _ is_event to (λ step. (on p.progress now p.progress (c.renewals_stand_still.ensures.looks plan old w v address secondly p.progress p what now ret is look step), tt))
+  one (Receives now in_time is_event to) = as_said _ _ is_event to (λ step. (on p.progress now p.progress (c.renewals_stand_still.ensures.receives plan old w v address secondly p.progress p now ret may is step), tt))
   one (Grants request now more bytes reply seed at same enough is_event replied success to) = as_said _ _ is_event to (λ step. (
-    c.late_refreshes_are_granted.ensures plan old w v address secondly p request now more bytes reply seed may (stage_at (Refreshing request) at) same enough
-        (subst (λ (a : Answer). IsStep (ToDesk bytes request.from now (by.Refresh more) seed) w a v) replied step) success,
+    on (Renewing request more reply.items []) p.last (Renewing request more reply.items [])
+        (c.late_refreshes_are_granted.ensures plan old w v address secondly p request now more bytes reply seed may (stage_at (Refreshing request) at) same enough
+        (subst (λ (a : Answer). IsStep (ToDesk bytes request.from now (by.Refresh more) seed) w a v) replied step) success),
     tt,
   ))
   one (Challenges request now bytes reply reported decision seed at same few is_event replied shows to) = as_said _ _ is_event to (λ step. (
-    c.late_refreshes_are_challenged.ensures plan old w v address secondly p request now bytes reply reported decision seed may (stage_at (Refreshing request) at) same few
-        (subst (λ (a : Answer). IsStep (ToDesk bytes request.from now decision seed) w a v) replied step) shows,
+    on (Challenged request reply.items []) p.last (Challenged request reply.items [])
+        (c.late_refreshes_are_challenged.ensures plan old w v address secondly p request now bytes reply reported decision seed may (stage_at (Refreshing request) at) same few
+        (subst (λ (a : Answer). IsStep (ToDesk bytes request.from now decision seed) w a v) replied step) shows),
     tt,
   ))
   one (GivesSuccess request more reply head rest bytes now at left on in_time is_event to) = as_said _ _ is_event to (λ step. (
