@@ -144,8 +144,8 @@ module _ (c : goal.After-challenged_refreshes_wait) (plan : Plan) (old w v : Wor
   abbrev t : Term
   t = term_of x.first p.from p.lifetime
 
-  abbrev request : Sent
-  request = refresh_sent plan.client choice number p.made
+  abbrev own_request : Sent
+  own_request = refresh_sent plan.client choice number p.made
 
   abbrev Does : Protocol → Answer → Type 0
   Does core ret = Drawn c plan choice address t x.earlier number p.made p.many p.sent x.events x.client.core core now p.queued ret
@@ -168,13 +168,13 @@ module _ (c : goal.After-challenged_refreshes_wait) (plan : Plan) (old w v : Wor
             (c.refreshing_clients_wait.ensures.cases plan.client (refresh_requested plan.client choice number p.made) (count_by p.queued p.many) now) (order now (time_after p.sent cadence));
       }
 
-  abbrev Next : Answer → Type 0
-  Next ret = IsOutstandingAt plan old address (counted_draw plan now ret p) choice number head v
+  abbrev Stays : Answer → Type 0
+  Stays ret = IsOutstandingAt plan old address (counted_draw plan now ret p) choice number head v
 
-  outstanding_after : (ret : Answer) → IsDrawnOn ret → Next ret
+  outstanding_after : (ret : Answer) → IsDrawnOn ret → Stays ret
   outstanding_after ret d = by ret d.does
     where
-      by : (a : Answer) → Does d.core a → Next a
+      by : (a : Answer) → Does d.core a → Stays a
       by (answer.Transmit message) (BySlot m is due after) = record {
         signs = keeps_so plan old choice w.desk v.desk d.desk x.signs;
         first = x.first;
@@ -212,10 +212,7 @@ module _ (c : goal.After-challenged_refreshes_wait) (plan : Plan) (old w v : Wor
       by _ (FromQueue m is some ready after) = absurd is
       by _ (Not nothing quiet why after) = absurd (Prim.cc nothing)
 
-  abbrev Request : Sent → Type 0
-  Request s = s ≡ request
-
-  again_so : (ret : Answer) → IsDrawnOn ret → (r : Sent) → r ≡ request → IsRefreshAgain plan p now r ret
+  again_so : (ret : Answer) → IsDrawnOn ret → (r : Sent) → r ≡ own_request → IsRefreshAgain plan p now r ret
   again_so ret d r same = subst (λ (s : Sent). IsRefreshAgain plan p now s ret) (sym same) (record {
     in_time = λ left due. gives_due c plan choice address t x.earlier number p.made p.many p.sent x.events x.client.core d.core now p.queued ret d.does (subst (λ (b : Bool). IsTransmissionDue plan p.made (count_by b p.many) now) (sym left) due);
     late = λ due late. elim (cases_Bool p.queued) [
@@ -248,7 +245,9 @@ module _ (c : goal.After-challenged_refreshes_wait) (plan : Plan) (old w v : Wor
         record {
           is = refresh_so plan old s.choice s.is.signs.agreed s.number p.made is;
           other = λ same. s.other (sym is.number_is ∙ same);
-          nonce = λ reported visible. ap (λ (x : Claimed). x.nonce) is.claims ∙ ap (λ (r : ChallengeFields). Some r.nonce) (Prim.cc (sym s.visible ∙ visible));
+          nonce = λ reported visible. (
+              let same : s.choice.reported ≡ reported = Prim.cc (sym s.visible ∙ visible) in
+              ap (λ (x : Claimed). x.nonce) is.claims ∙ ap (λ (r : ChallengeFields). Some r.nonce) same);
         }
 
     abbrev Next : Sent → Type 0

@@ -1,4 +1,4 @@
-use Rattle.std.proofs.Common.{◌≡◌, ◌<◌, ℕ, List, sym, subst}
+use Rattle.std.proofs.Common.{◌≡◌, ◌<◌, ℕ, List, sym, subst, []}
 use Rattle.std.specs.declared.net.socket_addr.SocketAddr.{SocketAddr}
 use Rattle.turn_desk_event.specs.StunProtoTransaction.Schedule.{end_at}
 use Rattle.turn_client_proto_api.specs.declared.answer.TurnPollRet.{TurnPollRet}
