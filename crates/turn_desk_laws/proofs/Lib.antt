@@ -5,3 +5,11 @@ pub mod ConnectionAgain
 pub mod ConnectionCalm
 pub mod ConnectionChunks
 pub mod ConnectionTools
+pub mod RefreshArriving
+pub mod RefreshChallenged
+pub mod RefreshComing
+pub mod RefreshHeld
+pub mod RefreshRenewed
+pub mod RefreshWaiting
+pub mod RenewalPolled
+pub mod RenewalWorlds

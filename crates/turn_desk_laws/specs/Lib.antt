@@ -4,3 +4,6 @@ pub mod ConnectionLoops
 pub mod ConnectionPromises
 pub mod ConnectionRequests
 pub mod ConnectionStages
+pub mod RefreshStages
+pub mod RenewalLoops
+pub mod RenewalStages

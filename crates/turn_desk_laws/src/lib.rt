@@ -31,3 +31,5 @@ pub mod beside;
 pub mod challenged_connects;
 pub mod connections;
 pub mod small;
+pub mod challenged_refreshes;
+pub mod renewals;
