@@ -1,0 +1,3 @@
+pub mod Unanswered
+pub mod UnansweredStages
+pub mod Schedules
