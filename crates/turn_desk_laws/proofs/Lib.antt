@@ -4,3 +4,4 @@ pub mod UnansweredStaying
 pub mod UnansweredPolls
 pub mod ScheduleDraws
 pub mod SchedulePolls
+pub mod ScheduleEnds

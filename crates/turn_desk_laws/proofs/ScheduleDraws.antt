@@ -162,7 +162,7 @@ module _ (numbered : AreNumbered) (r : Request) (many now : ℕ) (p : Protocol) 
         let more : transmitted (agents.is_tcp p.agent.transport) a.transaction ≡ transaction_of r (many + 1) = ap (λ (x : Transaction). transmitted (agents.is_tcp p.agent.transport) x) found ∙ one_more r many now p due in
         let after : q ≡ after_sending now (record p { agent = stored_under p.agent r.number (transaction_of r (many + 1)) }) =
         a.after ∙ (ap (λ (x : Transaction). after_sending now (record p { agent = stored_under p.agent a.number x })) more
-            ∙ ap (λ (n : ℕ). after_sending now (record p { agent = stored_under p.agent n (transaction_of r (many + 1)) })) same) in
+        ∙ ap (λ (n : ℕ). after_sending now (record p { agent = stored_under p.agent n (transaction_of r (many + 1)) })) same) in
         record {
           next = many + 1;
           drawn = OwnAgain due

@@ -1,3 +1,4 @@
 pub mod Unanswered
 pub mod UnansweredStages
 pub mod Schedules
+pub mod ScheduleEnds

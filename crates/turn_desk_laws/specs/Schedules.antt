@@ -1,6 +1,7 @@
 -- An outstanding request of a client, whatever it asks for, and what the calls of the client do with it (RFC
 -- 8489, section 6.2.1).
-use Rattle.std.specs.Prelude.{◌≡◌, ◌≢◌, ◌⊎◌, ◌<◌, ◌≤◌, ◌+◌, ℕ, max, true, false, length, List, [], ◌∷◌, Option, None, Some}
+use Rattle.std.specs.Prelude.{◌≡◌, ◌≢◌, ◌⊎◌, ◌<◌, ◌≤◌, ◌+◌, ℕ, max, true, length, List, [], ◌∷◌}
+use Rattle.std.specs.Prelude.{Option, None, Some}
 use Rattle.std.specs.FinMap as map
 use Rattle.std.specs.List.{list_any}
 use Rattle.std.specs.declared.net.socket_addr.SocketAddr.{SocketAddr}
@@ -107,16 +108,18 @@ pub data IsDrawn (r : Request) (many now : ℕ) (old : Protocol) (sent : Option 
 abbrev pub ComesFirst : Request → (now : ℕ) → Protocol → Type 0
 ComesFirst r now p = (p.events ≢ []) ⊎ ((list_any is_answer p.queue ≡ true)
     ⊎ ((other : ℕ) × (t : Transaction) × (map.get p.agent.outstanding other ≡ Some t) × (is_ended now t ≡ true)
-        × (other < r.number)))
+    × (other < r.number)))
 
 -- The request is still outstanding after `poll`. If that returns a later time than now, the end of the request
 -- hasn't come, and the time isn't later than that end, nor than the request's next slot (or now, if that slot
 -- has passed).
-pub record IsStillAwaited (r : Request) (many now : ℕ) (old : Protocol) (ret : TurnPollRet) (new : Protocol) : Type 0 where
+pub record IsStillAwaited (r : Request) (many now : ℕ) (old : Protocol) (ret : TurnPollRet) (new : Protocol)
+    : Type 0 where
   pub kept : IsOutstanding r many new
   pub over : end_of r ≤ now → ComesFirst r now old
   pub before : (time : ℕ) → ret ≡ poll.WaitUntil time → now < time → (now < end_of r) × (time ≤ end_of r)
-  pub by_slot : (time : ℕ) → ret ≡ poll.WaitUntil time → now < time → many < count_of r old → time ≤ max now (slot_of r many)
+  pub by_slot : (time : ℕ) → ret ≡ poll.WaitUntil time → now < time → many < count_of r old
+      → time ≤ max now (slot_of r many)
 
 -- The request was given up: its end has come, and it isn't outstanding any more.
 pub record IsGivenUp (r : Request) (now : ℕ) (new : Protocol) : Type 0 where
@@ -150,7 +153,7 @@ IsTraced r old many (Draws now sent ∷ calls) last =
 IsTraced r old many (DrawFails now ∷ calls) last = ⊥
 IsTraced r old many (Polls now ret ∷ calls) last =
     ((((time : ℕ) → ret ≡ poll.WaitUntil time → now < time → (now < end_of r) × (time ≤ end_of r)))
-        × IsTraced r old many calls last)
+    × IsTraced r old many calls last)
     ⊎ ((end_of r ≤ now) × (last ≡ None))
 IsTraced r old many (Takes event ∷ calls) last = IsTraced r old many calls last
 IsTraced r old many (Looks ∷ calls) last = IsTraced r old many calls last

@@ -1,6 +1,7 @@
 -- A client whose first request gets no response, in a simulation: what happens, by positions, and what the
 -- client does (RFC 8489, section 6.2.1; RFC 8656, section 7.1).
-use Rattle.std.specs.Prelude.{◌≡◌, ◌≢◌, ◌⊎◌, ◌<◌, ◌≤◌, ◌+◌, ◌++◌, ℕ, true, false, max, length, List, [], ◌∷◌, None, Some, Vec}
+use Rattle.std.specs.Prelude.{◌≡◌, ◌≢◌, ◌⊎◌, ◌<◌, ◌≤◌, ◌+◌, ◌++◌, ℕ, true, false, max, length}
+use Rattle.std.specs.Prelude.{List, [], ◌∷◌, None, Some, Vec}
 use Rattle.std.specs.List.{flat_map}
 use Rattle.std.specs.declared.alloc.Global.{Global}
 use Rattle.std.specs.declared.net.socket_addr.SocketAddr.{SocketAddr}
@@ -70,7 +71,7 @@ end_in plan = end_at plan.client.made plan.client.config.waits
 abbrev pub IsWithoutEffect : Config → (message : List ℕ) → Type 0
 IsWithoutEffect config message = (config.hardened ≡ true)
     ⊎ ((reported : ChallengeFields) (algorithm : IntegrityAlgorithm) → challenge_visible message ≡ Some reported
-        → IsAnsweredBy config reported algorithm → ⊥)
+    → IsAnsweredBy config reported algorithm → ⊥)
 
 -- A message that doesn't answer the client's request: it is an indication or a request, or a response with
 -- another transaction ID (RFC 8489, section 6.3).

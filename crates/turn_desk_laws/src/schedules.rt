@@ -8,8 +8,18 @@ ghost use Rattle.turn_client_proto_api.specs.declared.answer.TurnPollRet.{TurnPo
 ghost use Rattle.turn_client_proto_api.specs.declared.answer.TurnPollRet.TheVariants.{NoMemory};
 ghost use Rattle.turn_client_proto_core.specs.declared.protocol.Protocol.{Protocol};
 ghost use Rattle.turn_client_proto_handshake_laws.specs.Driving.{Call};
+ghost use Rattle.turn_client_proto_api.specs.declared.event.TurnEvent.TheVariants.{ChannelCreateFailed};
+ghost use Rattle.turn_client_proto_api.specs.declared.event.TurnEvent.TheVariants.{PermissionCreateFailed};
+ghost use Rattle.turn_client_proto_api.specs.declared.event.TurnEvent.TheVariants.{TcpConnectFailed};
+ghost use Rattle.turn_client_proto_core.specs.declared.protocol.Phase.TheVariants.{Authenticating};
+ghost use Rattle.turn_client_proto_core.specs.declared.protocol.Phase.TheVariants.{InitialSent};
+ghost use Rattle.turn_client_proto_messages.specs.TurnRuns.Members.{IsIn};
+ghost use Rattle.turn_client_proto_step_laws.specs.Held.{Allocation, Binding, Connecting, Connection};
+ghost use Rattle.turn_client_proto_step_laws.specs.Held.{PendingChannel, PendingPermission};
+ghost use Rattle.turn_client_proto_step_laws.specs.Held.{PendingRefresh};
 ghost use Rattle.turn_client_proto_timers.specs.Drawing.{IsTransmitted};
 ghost use Rattle.turn_client_proto_timers.specs.Polling.{IsPolled};
+ghost use Rattle.turn_desk_laws.specs.ScheduleEnds.{EndsAt, HasClosed, IsAttended, IsRefreshedAnew};
 ghost use Rattle.turn_desk_laws.specs.Schedules.{AreCalled, IsDrawn, IsGivenUp, IsInOrder};
 ghost use Rattle.turn_desk_laws.specs.Schedules.{IsLeft, IsNoneDue, IsOutstanding, IsStillAwaited};
 ghost use Rattle.turn_desk_laws.specs.Schedules.{IsTraced, Request};
@@ -69,3 +79,72 @@ pub fn requests_go_by_their_schedule()
 {
     proof_requests_are_read();
 }
+
+/// What becomes of what a request asked for, once a poll gave the request up (`EndsAt`). That poll
+/// reports nothing else before, since no event was queued.
+///
+/// - `allocate`: an ALLOCATE ends the client. `poll` returns `Closed`, and for each family in order
+///   an `AllocationCreateFailed` is queued (RFC 8656, section 7.4).
+/// - `permission`, `channel`: the new permission or channel that the request asked for is reported
+///   by `PermissionCreateFailed` or `ChannelCreateFailed`.
+/// - `connect`, `binding`: the connection that a CONNECT asked for, or that a CONNECTION_BIND was
+///   to bind, is reported by `TcpConnectFailed` (RFC 6062, section 4.3).
+/// - `refresh`: the allocation is kept, and another REFRESH is to be sent (`IsRefreshedAnew`).
+///
+/// All but the first presume that the server has allocated and that no socket is to be requested
+/// from the caller (`IsAttended`), and that the allocation hasn't expired: a caller learns the
+/// latter from `poll_event`.
+pub fn requests_that_end_are_reported()
+    ensures allocate { (r : Request) (many now : ℕ) (old new : Protocol) (ret : TurnPollRet)
+        (numbers : List ℕ)
+        → EndsAt r many now old ret new
+        → (old.phase ≡ InitialSent numbers) ⊎ (old.phase ≡ Authenticating numbers)
+        → IsIn r.number numbers
+        → HasClosed old ret new }
+    ensures permission { (r : Request) (many now : ℕ) (old new : Protocol) (ret : TurnPollRet)
+        (a : Allocation) (p : PendingPermission)
+        → EndsAt r many now old ret new
+        → IsAttended old
+        → IsIn a old.allocations
+        → now < a.expiry
+        → IsIn p a.pending_permissions
+        → IsIn r.number p.numbers
+        → IsIn (PermissionCreateFailed a.transport p.ip) new.events }
+    ensures channel { (r : Request) (many now : ℕ) (old new : Protocol) (ret : TurnPollRet)
+        (a : Allocation) (p : PendingChannel)
+        → EndsAt r many now old ret new
+        → IsAttended old
+        → IsIn a old.allocations
+        → now < a.expiry
+        → IsIn p a.pending_channels
+        → IsIn r.number p.numbers
+        → IsIn (ChannelCreateFailed a.transport p.peer) new.events }
+    ensures connect { (r : Request) (many now : ℕ) (old new : Protocol) (ret : TurnPollRet)
+        (a : Allocation) (p : Connecting)
+        → EndsAt r many now old ret new
+        → IsAttended old
+        → IsIn a old.allocations
+        → now < a.expiry
+        → IsIn p a.connecting
+        → p.number ≡ r.number
+        → IsIn (TcpConnectFailed p.peer) new.events }
+    ensures binding { (r : Request) (many now : ℕ) (old new : Protocol) (ret : TurnPollRet)
+        (a : Allocation) (p : Connection) (b : Binding)
+        → EndsAt r many now old ret new
+        → IsAttended old
+        → IsIn a old.allocations
+        → now < a.expiry
+        → IsIn p a.connections
+        → p.awaited ≡ Some b
+        → b.number ≡ r.number
+        → IsIn (TcpConnectFailed p.peer) new.events }
+    ensures refresh { (r : Request) (many now : ℕ) (old new : Protocol) (ret : TurnPollRet)
+        (a : Allocation) (p : PendingRefresh)
+        → EndsAt r many now old ret new
+        → IsAttended old
+        → IsIn a old.allocations
+        → now < a.expiry
+        → IsIn p a.pending_refreshes
+        → p.number ≡ r.number
+        → (left : Allocation) × IsIn left new.allocations × IsRefreshedAnew a left }
+{}

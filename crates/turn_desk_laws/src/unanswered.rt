@@ -74,10 +74,10 @@ use turn_desk_event::event;
 ///   has timed out, draws give nothing.
 /// - `sent`: nothing else was transmitted, the `k`-th not before slot `k`, and no more often than
 ///   there are slots (`HasSent`); over TCP there is one.
-/// - `polls`: before the end of the schedule a poll returns `WaitUntil` a time that isn't later than
-///   the end, nor than the next slot, and is later than now if no transmission is due. The first
-///   poll at or after the end returns `Closed`. Then it is `WaitUntil` now while an event is queued,
-///   and `Closed` again (`IsPolledAt`).
+/// - `polls`: before the end of the schedule a poll returns `WaitUntil` a time that isn't later
+///   than the end, nor than the next slot, and is later than now if no transmission is due. The
+///   first poll at or after the end returns `Closed`. Then it is `WaitUntil` now while an event is
+///   queued, and `Closed` again (`IsPolledAt`).
 /// - `reported`: no event is reported until then. Afterwards the client has ended, and for each
 ///   family in order it reports `AllocationCreateFailed` (`HasReported`).
 /// - `occurs`: the state of the simulation at each position, for what comes next.

@@ -39,14 +39,14 @@ module _ (c : goal.After-ended_clients_rest) (plan : Plan) (w v : World) (report
       let o = polls (control_at plan.client.transport head) w v is.client.core now ret is.client.there early step in
       let s = said_as is.client.core o.core now ret o.polled in (
         λ before. (
-          let a = c.asking_clients_wait.ensures.polled plan.client t.many t.sent is.client.core o.core now s.returned is.client.is before s.polled in
-          record {
-            time = a.time;
-            wait_is = s.ret_is ∙ ap said a.answer_is;
-            by_end = a.by_end;
-            by_slot = a.by_slot;
-            later = λ quiet. a.later early quiet tt;
-          }),
+            let a = c.asking_clients_wait.ensures.polled plan.client t.many t.sent is.client.core o.core now s.returned is.client.is before s.polled in
+            record {
+              time = a.time;
+              wait_is = s.ret_is ∙ ap said a.answer_is;
+              by_end = a.by_end;
+              by_slot = a.by_slot;
+              later = λ quiet. a.later early quiet tt;
+            }),
         λ over. elim (c.asking_clients_wait.ensures.ends plan.client t.many t.sent is.client.core o.core now s.returned is.client.is over s.polled) [
           | inl closed ↦ s.ret_is ∙ ap said closed.0
           | inr failed ↦ absurd (s.in_memory failed.0)
