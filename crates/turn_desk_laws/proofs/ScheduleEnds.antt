@@ -64,14 +64,14 @@ into_map f x (y ∷ xs) (inr later) = inr (into_map f x xs later)
 pub into_filter : {X : Type 0} (p : X → Bool) (x : X) (xs : List X) → IsIn x xs → p x ≡ true → IsIn x (filter p xs)
 into_filter p x [] is passes = absurd is
 into_filter {X = X} p x (y ∷ xs) is passes = elim (cases_Bool (p y)) [
-  | inl yes ↦ (let here : filter p (y ∷ xs) ≡ y ∷ filter p xs = rw yes refl in
+  | inl kept ↦ (let here : filter p (y ∷ xs) ≡ y ∷ filter p xs = rw kept refl in
       subst (λ (l : List X). IsIn x l) (sym here) (elim is [
         | inl same ↦ inl same
         | inr later ↦ inr (into_filter p x xs later passes)
       ]))
-  | inr no ↦ (let here : filter p (y ∷ xs) ≡ filter p xs = rw no refl in
+  | inr dropped ↦ (let here : filter p (y ∷ xs) ≡ filter p xs = rw dropped refl in
       subst (λ (l : List X). IsIn x l) (sym here) (elim is [
-        | inl same ↦ absurd (Prim.cc (sym (ap p same ∙ passes) ∙ no))
+        | inl same ↦ absurd (Prim.cc (sym (ap p same ∙ passes) ∙ dropped))
         | inr later ↦ into_filter p x xs later passes
       ]))
 ]

@@ -1,5 +1,5 @@
 -- Where the client has not changed, the stage of its first request stays the same.
-use Rattle.std.proofs.Common.{◌≡◌, ℕ, ◌+◌, ◌≤◌, List, [], ◌∷◌, ◌++◌, Some, refl, sym, ap, ◌∙◌, subst}
+use Rattle.std.proofs.Common.{◌≡◌, ℕ, ◌+◌, ◌≤◌, arith, List, [], ◌∷◌, ◌++◌, Some, refl, sym, ap, ◌∙◌, subst}
 use Rattle.std.specs.Prelude.{length, map as map_list}
 use Rattle.std.proofs.lemmas.List.{append-nil, length-append, map-append}
 use Rattle.turn_desk_event.specs.StunProtoTransaction.Schedule.{slot_at}
@@ -48,8 +48,12 @@ rests_so plan reported request t head ret w v r is = same_client plan reported r
 -- One more time, not before the next slot.
 slots_more : (plan : Plan) (index : ℕ) (times : List ℕ) (now : ℕ) → AreNotEarly plan index times → slot_at plan.client.made plan.client.config.waits (index + length times) ≤ now → AreNotEarly plan index (times ++ now ∷ [])
 unfolding AreNotEarly
-slots_more plan index [] now are late = (late, tt)
-slots_more plan index (time ∷ times) now are late = (are.0, slots_more plan (index + 1) times now are.1 late)
+slots_more plan index [] now are late =
+    let same : index + 0 ≡ index = omega arith in
+    (subst (λ (n : ℕ). slot_at plan.client.made plan.client.config.waits n ≤ now) same late, tt)
+slots_more plan index (time ∷ times) now are late =
+    let same : index + length (time ∷ times) ≡ (index + 1) + length times = omega arith in
+    (are.0, slots_more plan (index + 1) times now are.1 (subst (λ (n : ℕ). slot_at plan.client.made plan.client.config.waits n ≤ now) same late))
 
 -- The first request was transmitted once more.
 pub sent_more : (plan : Plan) (t : Timing) (now : ℕ) (sendings : List Sending) (sent : Sent) → sent ≡ first_sent plan.client → t.many + 1 ≤ count_of plan.client → slot_at plan.client.made plan.client.config.waits t.many ≤ now → HasSent plan t sendings
@@ -61,7 +65,7 @@ sent_more plan t now sendings sent same left late is = record {
       ∙ sym (map-append (λ (time : ℕ). record { now = time; sent = first_sent plan.client }) is.times (now ∷ []));
   many = length-append is.times (now ∷ []) ∙ ap (λ (n : ℕ). n + 1) is.many;
   most = left;
-  slots = slots_more plan 0 is.times now is.slots (subst (λ (n : ℕ). slot_at plan.client.made plan.client.config.waits n ≤ now) (sym is.many) late);
+  slots = slots_more plan 0 is.times now is.slots (let many = is.many in let same : t.many ≡ 0 + length is.times = omega (arith, many) in subst (λ (n : ℕ). slot_at plan.client.made plan.client.config.waits n ≤ now) same late);
 }
 
 -- Nothing was transmitted.

@@ -27,10 +27,10 @@ quiet_by r many now old new d (Still is none next) = (none, subst (λ (n : ℕ).
 -- ---- calls in a row
 
 -- The client's transport and own address are as at first, and nothing more is queued.
-record IsFrom (old p : Protocol) : Type 0 where
-  transport : p.agent.transport ≡ old.agent.transport
-  here : p.agent.here ≡ old.agent.here
-  queue : (one : Queued) → IsIn one p.queue → IsIn one old.queue
+pub record IsFrom (old p : Protocol) : Type 0 where
+  pub transport : p.agent.transport ≡ old.agent.transport
+  pub here : p.agent.here ≡ old.agent.here
+  pub queue : (one : Queued) → IsIn one p.queue → IsIn one old.queue
 
 module _ (r : Request) (old : Protocol) where
   module _ (many now : ℕ) (p : Protocol) (from : IsFrom old p) (sent : Option Sent) (next : ℕ) where
