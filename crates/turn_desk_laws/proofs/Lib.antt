@@ -13,3 +13,10 @@ pub mod RefreshRenewed
 pub mod RefreshWaiting
 pub mod RenewalPolled
 pub mod RenewalWorlds
+pub mod UnansweredComing
+pub mod UnansweredIgnoring
+pub mod UnansweredStaying
+pub mod UnansweredPolls
+pub mod ScheduleDraws
+pub mod SchedulePolls
+pub mod ScheduleEnds

@@ -7,3 +7,7 @@ pub mod ConnectionStages
 pub mod RefreshStages
 pub mod RenewalLoops
 pub mod RenewalStages
+pub mod Unanswered
+pub mod UnansweredStages
+pub mod Schedules
+pub mod ScheduleEnds

@@ -33,3 +33,5 @@ pub mod connections;
 pub mod small;
 pub mod challenged_refreshes;
 pub mod renewals;
+pub mod schedules;
+pub mod unanswered;
