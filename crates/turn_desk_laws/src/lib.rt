@@ -29,9 +29,9 @@ pub use turn_desk_world_laws::running::Runs;
 
 pub mod beside;
 pub mod challenged_connects;
-pub mod connections;
-pub mod small;
 pub mod challenged_refreshes;
+pub mod connections;
 pub mod renewals;
 pub mod schedules;
+pub mod small;
 pub mod unanswered;
