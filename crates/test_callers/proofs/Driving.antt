@@ -1,6 +1,6 @@
 -- Turns of the loop that drives a client are runs of a simulation.
 use Rattle.std.proofs.Common.{◌≡◌, ◌≢◌, ◌<◌, ◌≤◌, ◌+◌, ◌^◌, ◌++◌, ◌⊎◌, ℕ, Bool, List, [], ◌∷◌, length, Option, Some, None, Ok, Err, Vec, Global, refl, sym, ap, ◌∙◌, subst, append_assoc, arith, inl, inr}
-use Rattle.std.specs.Prelude.{MatchOption, option_to_list}
+use Rattle.std.specs.Prelude.{MatchOption, option_map, option_to_list}
 use Rattle.std.specs.Bool.{MatchBool}
 use Rattle.std.specs.Ptr.{null_ptr}
 use Rattle.std.specs.declared.net.ip_addr.IpAddr.{IpAddr}
@@ -29,6 +29,7 @@ use Rattle.turn_desk_event.specs.declared.answer.Answer.{Answer}
 use Rattle.turn_desk_event.specs.declared.answer.Answer.TheVariants as answer
 use Rattle.turn_desk_event.specs.declared.event.ClientCall.{ClientCall}
 use Rattle.turn_desk_event.specs.declared.event.ClientCall.TheVariants.{Poll, PollEvent, Delete, CreatePermission, BindChannel, SendTo}
+use Rattle.turn_desk_event.specs.declared.event.Event.{Event}
 use Rattle.turn_desk_event.specs.declared.event.Event.TheVariants.{Call, Draw}
 use Rattle.turn_desk_world.specs.Calls.{IsCallReported, IsCalled, IsPolledAs, IsTransmittedAs}
 use Rattle.turn_desk_world.specs.Model.{World}
@@ -153,6 +154,20 @@ was_polled now ret old p q early other so is =
       run = then_on so.draws part old p q so.run (called now Poll r.0 p q early (r.1, is.1));
     }
 
+-- Until `poll` was called. If it ran out of memory, no event is queued.
+pub polls : (now : ℕ) (ret : TurnPollRet) (old p q : ClientState) → now ≤ 2 ^ 62 → IsDrawn now old p
+    → Leaves (λ (a b : Protocol). IsPolled a now ret b) p q
+    → ((ret ≡ poll.NoMemory) × (q.core.events ≡ []) × (◌≡◌ {A = ℕ} 0 0)) ⊎ HasTaken now 0 old q
+polls now poll.NoMemory old p q early so is = inl (refl, is.0.failed.events ∙ is.0.no_event, refl)
+polls now (poll.WaitUntil time) old p q early so is =
+    inr (was_polled now (poll.WaitUntil time) old p q early (λ e. Prim.cc e) so is)
+polls now (poll.AllocateTcpSocket id socket peer) old p q early so is =
+    inr (was_polled now (poll.AllocateTcpSocket id socket peer) old p q early (λ e. Prim.cc e) so is)
+polls now (poll.TcpClose here there) old p q early so is =
+    inr (was_polled now (poll.TcpClose here there) old p q early (λ e. Prim.cc e) so is)
+polls now poll.Closed old p q early so is =
+    inr (was_polled now poll.Closed old p q early (λ e. Prim.cc e) so is)
+
 -- `poll_event` was called.
 abbrev pub Takes : ClientState → ClientState → Type 0
 Takes p q = Leaves (λ (a b : Protocol). b ≡ record a { events = b.events }) p q
@@ -169,7 +184,7 @@ pub one_taken : (now many : ℕ) (old p q r : ClientState) (event : TurnEvent) �
     → HasTaken now (many + 1) old r
 unfolding IsCallReported IsCalled
 one_taken now many old p q r event early so first others answered =
-    let pair = (Call PollEvent now, answer.Event event) in
+    let pair : Event × Answer = (Call PollEvent now, answer.Event event) in
     let part : Pairs = pair ∷ (Call answered.call now, answered.ret) ∷ [] in
     let took = called now PollEvent (answer.Event event) p q early ((first, others.0), others.1) in
     let done = called now answered.call answered.ret q r early answered.is in
@@ -259,7 +274,7 @@ data_of bytes = (Borrowed (record { 0 = record { ref_ptr = (0, 0); now = bytes }
 pub bytes_sent : (alloc : Global) (now : ℕ) (transport : TransportType) (to : SocketAddr) (bytes : List ℕ) (sent : Sent)
     (p q : ClientState) → length bytes < 2 ^ 63
     → Leaves (λ (a b : Protocol). IsSendAnswered a transport to bytes now (Ok (Some sent)) b) p q → IsAnswered now p q
-unfolding IsCallReported IsCalled
+unfolding IsCallReported IsCalled vec_of data_of
 bytes_sent alloc now transport to bytes sent p q small is =
     let v = vec_of alloc bytes small in
     let d = data_of sent.bytes in
@@ -269,6 +284,15 @@ bytes_sent alloc now transport to bytes sent p q small is =
       is_response = tt;
       is = (is.0, is.1);
     }
+
+-- The same, by what `send_to` returned.
+pub bytes_built : {T : Type 0} (f : T → Sent) (made : Option T) (sending : T) → made ≡ Some sending → (alloc : Global)
+    (now : ℕ) (transport : TransportType) (to : SocketAddr) (bytes : List ℕ) (p q : ClientState) → length bytes < 2 ^ 63
+    → Leaves (λ (a b : Protocol). IsSendAnswered a transport to bytes now (Ok (option_map f made)) b) p q
+    → IsAnswered now p q
+bytes_built {T} f made sending made_is alloc now transport to bytes p q small is =
+    bytes_sent alloc now transport to bytes (f sending) p q small (subst (λ (o : Option T).
+    Leaves (λ (a b : Protocol). IsSendAnswered a transport to bytes now (Ok (option_map f o)) b) p q) made_is is)
 
 -- `send_to` never succeeds with nothing to send.
 module _ (old new : Protocol) (to : SocketAddr) (bytes : List ℕ) where
@@ -288,3 +312,9 @@ module _ (old new : Protocol) (to : SocketAddr) (bytes : List ℕ) where
 
   pub never_nothing : (transport : TransportType) (now : ℕ) → IsSendAnswered old transport to bytes now (Ok None) new → ⊥
   never_nothing transport now is = refused transport now (send_refusal transport old to bytes) is
+
+  -- The same, by what `send_to` returned.
+  pub none_built : {T : Type 0} (f : T → Sent) (made : Option T) → made ≡ None → (transport : TransportType) (now : ℕ)
+      → IsSendAnswered old transport to bytes now (Ok (option_map f made)) new → ⊥
+  none_built {T} f made made_is transport now is = never_nothing transport now (subst (λ (o : Option T).
+      IsSendAnswered old transport to bytes now (Ok (option_map f o)) new) made_is is)
