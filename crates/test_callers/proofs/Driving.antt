@@ -1,6 +1,6 @@
 -- Turns of the loop that drives a client are runs of a simulation.
 use Rattle.std.proofs.Common.{◌≡◌, ◌≢◌, ◌<◌, ◌≤◌, ◌+◌, ◌^◌, ◌++◌, ◌⊎◌, ℕ, Bool, List, [], ◌∷◌, length, Option, Some, None, Ok, Err, Vec, Global, refl, sym, ap, ◌∙◌, subst, append_assoc, arith, inl, inr}
-use Rattle.std.specs.Prelude.{MatchOption, option_map, option_to_list}
+use Rattle.std.specs.Prelude.{MatchOption, Result, option_map, option_to_list}
 use Rattle.std.specs.Bool.{MatchBool}
 use Rattle.std.specs.Ptr.{null_ptr}
 use Rattle.std.specs.declared.net.ip_addr.IpAddr.{IpAddr}
@@ -51,14 +51,28 @@ at_client now Does p q ret early is old has =
 called : (now : ℕ) (call : ClientCall) (ret : Answer) (p q : ClientState) → now ≤ 2 ^ 62
     → IsCallReported call ret p now q → IsRunOfClient ((Call call now, ret) ∷ []) p q
 unfolding IsRun
-called now call ret p q early is w has = (record w { client = Some q }, (at_client now
-    (λ (a b : ClientState). IsCallReported call ret a now b) p q ret early is w.client has, refl), refl)
+called now call ret p q early is w has = (
+  record w { client = Some q },
+  (
+    at_client now
+        (λ (a b : ClientState). IsCallReported call ret a now b) p q ret early is w.client has,
+    refl,
+  ),
+  refl,
+)
 
 drew : (now : ℕ) (ret : Answer) (p q : ClientState) → now ≤ 2 ^ 62
     → Leaves (λ (a b : Protocol). IsTransmittedAs ret a now b) p q → IsRunOfClient ((Draw now, ret) ∷ []) p q
 unfolding IsRun
-drew now ret p q early is w has = (record w { client = Some q }, (at_client now
-    (Leaves (λ (a b : Protocol). IsTransmittedAs ret a now b)) p q ret early is w.client has, refl), refl)
+drew now ret p q early is w has = (
+  record w { client = Some q },
+  (
+    at_client now
+        (Leaves (λ (a b : Protocol). IsTransmittedAs ret a now b)) p q ret early is w.client has,
+    refl,
+  ),
+  refl,
+)
 
 run_on : (first second : Pairs) (w v u : World) → IsRun w first v → IsRun v second u → IsRun w (first ++ second) u
 unfolding IsRun
@@ -258,15 +272,18 @@ end_asked now p q is = record { call = Delete; ret = answer.Done; is_response = 
 
 -- Bytes as a vector has them, and as a message has them.
 vec_of : (alloc : Global) (bytes : List ℕ) → length bytes < 2 ^ 63 → (v : Vec ℕ Global) × (v.items ≡ bytes)
-vec_of alloc bytes small = (record {
-  ptr = null_ptr;
-  len = length bytes;
-  cap = length bytes;
-  alloc = alloc;
-  items = bytes;
-  ok = (refl, omega arith);
-  small = small;
-}, refl)
+vec_of alloc bytes small = (
+  record {
+    ptr = null_ptr;
+    len = length bytes;
+    cap = length bytes;
+    alloc = alloc;
+    items = bytes;
+    ok = (refl, omega arith);
+    small = small;
+  },
+  refl,
+)
 
 data_of : (bytes : List ℕ) → (d : Data) × (data_bytes d ≡ bytes)
 data_of bytes = (Borrowed (record { 0 = record { ref_ptr = (0, 0); now = bytes } }), refl)
@@ -306,7 +323,7 @@ module _ (old new : Protocol) (to : SocketAddr) (bytes : List ℕ) where
 
   refused : (transport : TransportType) (now : ℕ) (refusal : Option SendError)
       → MatchOption refusal (IsSentOver transport old to bytes now (Ok None) new)
-      (λ (error : SendError). (Ok None ≡ Err error) × (new ≡ old)) → ⊥
+      (λ (error : SendError). (◌≡◌ {A = Result (Option Sent) SendError} (Ok None) (Err error)) × (new ≡ old)) → ⊥
   refused transport now None is = over transport now is
   refused transport now (Some error) is = Prim.cc is.0
 
