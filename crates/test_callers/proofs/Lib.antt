@@ -1,2 +1,3 @@
+pub mod Driving
 pub mod Growing
 pub mod Sending

@@ -25,7 +25,8 @@ module _ (old : Protocol) (to : SocketAddr) (bytes : List ℕ) where
       (λ error. (answer ≡ Err error) × (new ≡ old))) (is_refused none) is
 
   module _ (new : Protocol) where
-    always_sent : (found : Option Channel) → IsSentBy found old to bytes (Ok None) new → ⊥
+    -- A call that sends by a channel or an indication never succeeds with nothing to send.
+    pub always_sent : (found : Option Channel) → IsSentBy found old to bytes (Ok None) new → ⊥
     always_sent None (Numbered number is reported, same) = Prim.cc reported
     always_sent None (Full all reported, same) = Prim.cc reported
     always_sent (Some channel) is = Prim.cc is.0

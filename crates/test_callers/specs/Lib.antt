@@ -1,3 +1,4 @@
 pub mod Requested
 pub mod Looked
 pub mod Redirected
+pub mod Driven

@@ -1,7 +1,8 @@
 //! The loop that drives a client: what it receives, what it sends, how long it waits, its events,
 //! and what its user does in response.
 
-ghost use Rattle.std.specs.Prelude.{◌≡◌, ◌≢◌, [], IfOk};
+ghost use Rattle.std.specs.Prelude.{◌≡◌, ◌≢◌, ◌≤◌, ◌^◌, [], IfOk};
+ghost use Rattle.test_callers.specs.Driven.{HasTakenTurn};
 
 use crate::line::Line;
 use crate::print_hex;
@@ -21,6 +22,10 @@ use turn_client_proto::udp::TurnClientUdp;
 ///
 /// Call it again at once, unless it returns `Closed` or a wait until a later time. Unless it
 /// returns a wait until `now`, no event is queued any more.
+///
+/// What it does with the client is a turn of a driver's loop, as a run of any simulation that has
+/// the client (`HasTakenTurn`). So until an allocation is held, such turns are the loop of the
+/// theorem `honest_loops_allocate`.
 pub(crate) fn drive<C: TurnClientApi>(
     rt: &impl Print,
     alloc: Global,
@@ -29,8 +34,10 @@ pub(crate) fn drive<C: TurnClientApi>(
     peer: SocketAddr,
     now: Instant,
 ) -> anyhow::Result<TurnPollRet>
-    ensures { IfOk result (λ answer. answer ≢ TurnPollRet.WaitUntil now
+    ensures events { IfOk result (λ answer. answer ≢ TurnPollRet.WaitUntil now
         → (C.stored client.new).core.events ≡ []) }
+    ensures turn { IfOk result (λ answer. answer ≢ TurnPollRet.NoMemory → now ≤ 2 ^ 62
+        → HasTakenTurn now (C.stored client.old) (C.stored client.new)) }
 {
     for _ in 0..u64::MAX {
         let Some(sent) = client.poll_transmit(now)? else {
