@@ -35,7 +35,7 @@ use Rattle.turn_desk_world.specs.Calls.{IsCallReported, IsCalled, IsPolledAs, Is
 use Rattle.turn_desk_world.specs.Model.{World}
 use Rattle.turn_desk_world.specs.Runs.{IsAtClient, IsInRange, IsRun, is_in_range}
 use Rattle.test_callers.proofs.Sending.{always_sent}
-use Rattle.test_callers.specs.Driven.{Answered, AreParts, AreRepeated, HasTakenTurn, IsEventTaken, IsMessageDrawn, IsResponse, IsRunOfClient, NoPart, OneMore, Pairs, UpToLimit, UpToNothing}
+use Rattle.test_callers.specs.Driven.{Answered, AreParts, AreRepeated, HasTakenTurn, IsEventTaken, IsMessageDraw, IsResponse, IsRunOfClient, NoPart, OneMore, Pairs, UpToLimit, UpToNothing}
 
 -- ---- runs of a client
 
@@ -95,7 +95,7 @@ none p w has = ap (λ (o : Option ClientState). record w { client = o }) (sym ha
 -- `many` messages were drawn.
 pub record HasDrawn (now many : ℕ) (old new : ClientState) : Type 0 where
   pub draws : Pairs
-  pub parts : AreParts (IsMessageDrawn now) many draws
+  pub parts : AreParts (IsMessageDraw now) many draws
   pub run : IsRunOfClient draws old new
 
 pub nothing_drawn : (now : ℕ) (p : ClientState) → HasDrawn now 0 p p
@@ -113,32 +113,32 @@ one_drawn now many old p q sent early so is =
     }
 
 -- No more is drawn.
-pub record IsDrawn (now : ℕ) (old new : ClientState) : Type 0 where
+pub record IsDrawOf (now : ℕ) (old new : ClientState) : Type 0 where
   pub draws : Pairs
-  pub drawn : AreRepeated (Draw now) (IsMessageDrawn now) draws
+  pub by_draw : AreRepeated (Draw now) (IsMessageDraw now) draws
   pub run : IsRunOfClient draws old new
 
 pub up_to_nothing : (now many : ℕ) (old p q : ClientState) → now ≤ 2 ^ 62 → HasDrawn now many old p
-    → Leaves (λ (a b : Protocol). IsTransmitted a now None b) p q → IsDrawn now old q
+    → Leaves (λ (a b : Protocol). IsTransmitted a now None b) p q → IsDrawOf now old q
 unfolding IsTransmittedAs
 up_to_nothing now many old p q early so is =
     let part : Pairs = (Draw now, answer.Nothing) ∷ [] in
     record {
       draws = so.draws ++ part;
-      drawn = UpToNothing many so.draws so.parts refl;
+      by_draw = UpToNothing many so.draws so.parts refl;
       run = then_on so.draws part old p q so.run (drew now answer.Nothing p q early is);
     }
 
-pub up_to_limit : (now many : ℕ) (old p : ClientState) → many + 1 ≡ 2 ^ 64 → HasDrawn now many old p → IsDrawn now old p
+pub up_to_limit : (now many : ℕ) (old p : ClientState) → many + 1 ≡ 2 ^ 64 → HasDrawn now many old p → IsDrawOf now old p
 up_to_limit now many old p last so =
-    record { draws = so.draws; drawn = UpToLimit many so.parts last; run = so.run }
+    record { draws = so.draws; by_draw = UpToLimit many so.parts last; run = so.run }
 
 -- ---- the call of `poll`, and those of `poll_event`
 
 -- `poll` was called, and `many` events were taken.
 pub record HasTaken (now many : ℕ) (old new : ClientState) : Type 0 where
   pub draws : Pairs
-  pub drawn : AreRepeated (Draw now) (IsMessageDrawn now) draws
+  pub by_draw : AreRepeated (Draw now) (IsMessageDraw now) draws
   pub polled : Answer
   pub takes : Pairs
   pub parts : AreParts (IsEventTaken now) many takes
@@ -154,14 +154,14 @@ reported poll.Closed p q now other is = (answer.Closed, is)
 reported poll.NoMemory p q now other is = absurd (other refl)
 
 pub was_polled : (now : ℕ) (ret : TurnPollRet) (old p q : ClientState) → now ≤ 2 ^ 62 → ret ≢ poll.NoMemory
-    → IsDrawn now old p → Leaves (λ (a b : Protocol). IsPolled a now ret b) p q → HasTaken now 0 old q
+    → IsDrawOf now old p → Leaves (λ (a b : Protocol). IsPolled a now ret b) p q → HasTaken now 0 old q
 unfolding IsCallReported IsCalled
 was_polled now ret old p q early other so is =
     let r = reported ret p.core q.core now other is.0 in
     let part : Pairs = (Call Poll now, r.0) ∷ [] in
     record {
       draws = so.draws;
-      drawn = so.drawn;
+      by_draw = so.by_draw;
       polled = r.0;
       takes = [];
       parts = NoPart;
@@ -169,7 +169,7 @@ was_polled now ret old p q early other so is =
     }
 
 -- Until `poll` was called. If it ran out of memory, no event is queued.
-pub polls : (now : ℕ) (ret : TurnPollRet) (old p q : ClientState) → now ≤ 2 ^ 62 → IsDrawn now old p
+pub polls : (now : ℕ) (ret : TurnPollRet) (old p q : ClientState) → now ≤ 2 ^ 62 → IsDrawOf now old p
     → Leaves (λ (a b : Protocol). IsPolled a now ret b) p q
     → ((ret ≡ poll.NoMemory) × (q.core.events ≡ []) × (◌≡◌ {A = ℕ} 0 0)) ⊎ HasTaken now 0 old q
 polls now poll.NoMemory old p q early so is = inl (refl, is.0.failed.events ∙ is.0.no_event, refl)
@@ -205,7 +205,7 @@ one_taken now many old p q r event early so first others answered =
     let both = then_on (pair ∷ []) ((Call answered.call now, answered.ret) ∷ []) p q r took done in
     record {
       draws = so.draws;
-      drawn = so.drawn;
+      by_draw = so.by_draw;
       polled = so.polled;
       takes = so.takes ++ part;
       parts = OneMore so.parts (Answered event answered.call answered.ret answered.is_response refl);
@@ -226,7 +226,7 @@ all_taken now many old p q early so no_event first others =
       pairs = so.draws ++ (Call Poll now, so.polled) ∷ (so.takes ++ part);
       turn = record {
         draws = so.draws;
-        drawn = so.drawn;
+        by_draw = so.by_draw;
         polled = so.polled;
         takes = so.takes ++ part;
         taken = UpToNothing many so.takes so.parts refl;
@@ -242,7 +242,7 @@ limit_taken now many old p last so = record {
   pairs = so.draws ++ (Call Poll now, so.polled) ∷ so.takes;
   turn = record {
     draws = so.draws;
-    drawn = so.drawn;
+    by_draw = so.by_draw;
     polled = so.polled;
     takes = so.takes;
     taken = UpToLimit many so.parts last;

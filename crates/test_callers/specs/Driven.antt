@@ -34,7 +34,7 @@ pub data AreRepeated (event : Event) (IsPart : Pairs → Type 0) (pairs : Pairs)
 -- ---- a turn
 
 -- `poll_transmit` gives a message.
-pub record IsMessageDrawn (now : ℕ) (pairs : Pairs) : Type 0 where
+pub record IsMessageDraw (now : ℕ) (pairs : Pairs) : Type 0 where
   pub sent : Transmit Data
   pub is : pairs ≡ (Draw now, answer.Transmit sent) ∷ []
 
@@ -56,7 +56,7 @@ pub data IsEventTaken (now : ℕ) (pairs : Pairs) : Type 0 where
 -- `poll_event` until it gives nothing, where each event may be answered by a call.
 pub record IsTurn (now : ℕ) (pairs : Pairs) : Type 0 where
   pub draws : Pairs
-  pub drawn : AreRepeated (Draw now) (IsMessageDrawn now) draws
+  pub by_draw : AreRepeated (Draw now) (IsMessageDraw now) draws
   pub polled : Answer
   pub takes : Pairs
   pub taken : AreRepeated (Call PollEvent now) (IsEventTaken now) takes

@@ -166,8 +166,8 @@ module _ (alone : AloneLaw) (unlimited : UnlimitedLaw) where
             (alike_then address old.desk desk left (each address among) (alike_back address left desk (from_other address beside (record beside { desk = left }) limit again apart)))
       ]
 
-      kept : is_same_address from from ≡ true → IsIn from own → IsKeptStep own message ret old next desk
-      kept itself among =
+      stays_stored : is_same_address from from ≡ true → IsIn from own → IsKeptStep own message ret old next desk
+      stays_stored itself among =
           let one = from_own from old next none step beside (each from among) itself in
           record {
             left = one.left;
@@ -186,7 +186,7 @@ module _ (alone : AloneLaw) (unlimited : UnlimitedLaw) where
     kept_step (Call call now) is step = record { left = desk; step = (step.0, ap (λ (w : World). record w { desk = desk }) step.1); each = same_desk (ap (λ (w : World). w.desk) step.1) }
     kept_step (Draw now) is step = record { left = desk; step = (step.0, ap (λ (w : World). record w { desk = desk }) step.1); each = same_desk (ap (λ (w : World). w.desk) step.1) }
     kept_step (ToClient bytes from to now) is step = record { left = desk; step = (step.0, ap (λ (w : World). record w { desk = desk }) step.1); each = same_desk (ap (λ (w : World). w.desk) step.1) }
-    kept_step (ToDesk bytes from now decision seed) is step = kept bytes from now decision seed ret own old next desk none limit each step (same_itself from) is
+    kept_step (ToDesk bytes from now decision seed) is step = stays_stored bytes from now decision seed ret own old next desk none limit each step (same_itself from) is
 
     apart_each : (event : Event) → IsOfOther own event → IsStep event old ret next → AreEachAlike own next.desk desk
     apart_each (ToDesk bytes from now decision seed) is step = others_alike bytes from now decision seed ret own old next desk none limit each step is

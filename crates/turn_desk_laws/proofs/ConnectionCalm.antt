@@ -31,7 +31,7 @@ use Rattle.turn_client_proto_progress_laws.specs.TcpBinding.{allocation_with}
 use Rattle.turn_client_proto_progress_laws.specs.Resting.{AreStanding, IsResting}
 use Rattle.turn_client_proto_progress_laws.proofs.TcpBinding.Calm.{all_pass, none_passes}
 use Rattle.turn_client_proto_progress_laws.proofs.TcpBinding.Polled.{IsCalm}
-use Rattle.turn_desk_laws.specs.ConnectionRequests.{AreAsked, AreInTime}
+use Rattle.turn_desk_laws.specs.ConnectionRequests.{AreRequestsMade, AreInTime}
 
 abbrev nothing_of : (X : Type 0) → Option X
 nothing_of X = None
@@ -109,9 +109,9 @@ none_found (x ∷ rest) = none_found rest
 none_lost : (waiting : List Waiting) → peers_lost None waiting ≡ []
 none_lost waiting = ap (λ (o : Option Waiting). map_list (λ (w : Waiting). w.peer) (option_to_list o)) (none_found waiting)
 
-all_asked : (waiting : List Waiting) → AreAsked waiting → list_any is_unasked waiting ≡ false
-all_asked [] asked = refl
-all_asked (x ∷ rest) asked = ap (λ (b : Bool). not b || list_any is_unasked rest) asked.0 ∙ all_asked rest asked.1
+all_asked : (waiting : List Waiting) → AreRequestsMade waiting → list_any is_unasked waiting ≡ false
+all_asked [] request_made = refl
+all_asked (x ∷ rest) request_made = ap (λ (b : Bool). not b || list_any is_unasked rest) request_made.0 ∙ all_asked rest request_made.1
 
 module _ (h : Holder) (permissions : List Permission) (now : ℕ) (r : IsResting h permissions now) (pending : List PendingPermission) (connecting : List Connecting) (waiting : List Waiting) (connections : List Connection) where
   abbrev a : Allocation
@@ -128,7 +128,7 @@ module _ (h : Holder) (permissions : List Permission) (now : ℕ) (r : IsResting
   unfolding polled
   as_it_was = refl
 
-  module _ (asked : AreAsked waiting) (early : AreInTime now connections) where
+  module _ (request_made : AreRequestsMade waiting) (early : AreInTime now connections) where
     same : reporting.polled None now a ≡ a
     unfolding permissions_reported.polled channels.polled channels.expired joined.polled given_up
     same =
@@ -143,7 +143,7 @@ module _ (h : Holder) (permissions : List Permission) (now : ℕ) (r : IsResting
     silent = rw (none_expired now permissions r.standing, none_passes pending, none_passes connecting, none_gone now connections early, none_found waiting) refl
 
     unasked_none : unasked (a ∷ []) ≡ None
-    unasked_none = ap (λ (b : Bool). option_and_then unasked_of (if b then Some a else None)) (all_asked waiting asked)
+    unasked_none = ap (λ (b : Bool). option_and_then unasked_of (if b then Some a else None)) (all_asked waiting request_made)
 
     pub calm : IsCalm now a
     calm = record {

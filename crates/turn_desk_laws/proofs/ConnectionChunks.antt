@@ -32,7 +32,7 @@ use Rattle.turn_desk_progress_laws.specs.Scripts.{Plan}
 use Rattle.turn_desk_progress_laws.proofs.Clients.{stays}
 use Rattle.turn_desk_progress_laws.proofs.Worlds.{DoHold, IsFedOn, fed_on, open_at, stored_on}
 use Rattle.turn_desk_laws.specs.ConnectionLoops.{Bind, Connect, Method, Permission, Target, Timing}
-use Rattle.turn_desk_laws.specs.ConnectionStages.{IsAsked, IsTransmitted, earlier_of, holder_at, own_head, permitted_at}
+use Rattle.turn_desk_laws.specs.ConnectionStages.{IsRequestMade, IsTransmitted, earlier_of, holder_at, own_head, permitted_at}
 use Rattle.turn_desk_laws.proofs.ConnectionTools.{asked_on}
 
 -- The request is outstanding still, and these first bytes have come.
@@ -40,7 +40,7 @@ pub record IsBuffered (plan : Plan) (w v : World) (target : Target) (t : Timing)
   pub core : Protocol
   pub there : v.client ≡ Some (over (control_at plan.client.transport (own_head method head)) core)
   pub desk : v.desk ≡ w.desk
-  pub asked : IsAsked plan target method t [] head h events core n
+  pub request_made : IsRequestMade plan target method t [] head h events core n
 
 -- How a chunk comes over the socket, by the contract of the client's theorem.
 abbrev pub DoesBuffer : Type 0
@@ -68,7 +68,7 @@ module _ (plan : Plan) (w v : World) (target : Target) (address : SocketAddr) (l
   fed = fed_on control w v p now ret at in_range bytes plan.client.server target.local own_step
 
   pub from_server : IsFromServerTo plan.client target.local fed.fed.came
-  from_server = record { transport = fed.fed.transport_is ∙ is.asked.is.settings.transport; from = fed.fed.from_is; to = fed.fed.to_is }
+  from_server = record { transport = fed.fed.transport_is ∙ is.request_made.is.settings.transport; from = fed.fed.from_is; to = fed.fed.to_is }
 
   pub some_came : fed.fed.came.bytes.now ≢ []
   some_came = λ none. some (sym fed.fed.bytes_are ∙ none)
@@ -85,26 +85,26 @@ module _ (plan : Plan) (w v : World) (target : Target) (address : SocketAddr) (l
   bind_buffered : DoesBuffer → (reply : List ℕ) → IsPartOf (head ++ bytes.items) reply → IsBuffered plan w v target t Bind (head ++ bytes.items) h events is.transaction_id
   bind_buffered buffers reply part =
       let n = is.transaction_id in
-      let taken = buffers h is.asked.older (permitted_at target t.granted) target.local target.peer target.number n t.made t.sent head events (over control p) fed.after fed.fed.came now fed.fed.took reply
-      is.asked.is is.asked.apart come from_server some_came (subst (λ (l : List ℕ). IsPartOf (head ++ l) reply) (sym fed.fed.bytes_are) part) fed.fed.received in
+      let taken = buffers h is.request_made.older (permitted_at target t.granted) target.local target.peer target.number n t.made t.sent head events (over control p) fed.after fed.fed.came now fed.fed.took reply
+      is.request_made.is is.request_made.apart come from_server some_came (subst (λ (l : List ℕ). IsPartOf (head ++ l) reply) (sym fed.fed.bytes_are) part) fed.fed.received in
       elim taken [
-        | inl k ↦ (let sent = subst (λ (l : List ℕ). HasSentBind h is.asked.older (permitted_at target t.granted) target.local target.peer target.number n t.made t.sent (head ++ l) events fed.after.core) fed.fed.bytes_are k.0 in
+        | inl k ↦ (let sent = subst (λ (l : List ℕ). HasSentBind h is.request_made.older (permitted_at target t.granted) target.local target.peer target.number n t.made t.sent (head ++ l) events fed.after.core) fed.fed.bytes_are k.0 in
             record {
               core = fed.after.core;
               there = there_so k.1;
               desk = fed.desk;
-              asked = record {
-                fits = is.asked.fits;
-                ids = is.asked.ids;
-                among = is.asked.among;
-                older = is.asked.older;
-                since_oldest = is.asked.since_oldest;
-                made_later = is.asked.made_later;
-                lawful = is.asked.lawful;
-                apart = is.asked.apart;
+              request_made = record {
+                fits = is.request_made.fits;
+                ids = is.request_made.ids;
+                among = is.request_made.among;
+                older = is.request_made.older;
+                since_oldest = is.request_made.since_oldest;
+                made_later = is.request_made.made_later;
+                lawful = is.request_made.lawful;
+                apart = is.request_made.apart;
                 is = sent;
                 counts = tt;
-                again = is.asked.again;
+                again = is.request_made.again;
               };
             })
         | inr lost ↦ never_lost lost
@@ -118,10 +118,10 @@ pub buffered : DoHold → DoesBuffer → (plan : Plan) (w v : World) (target : T
     → (is : IsTransmitted plan target method t request head (holder_at plan address lifetime since auth standing) events p) → (reply : List ℕ) → IsPartOf (head ++ bytes.items) reply
     → IsBuffered plan w v target t method (head ++ bytes.items) (holder_at plan address lifetime since auth standing) events is.transaction_id
 buffered reach buffers plan w v target address lifetime since t Permission request head bytes now ret tcp in_range some step auth standing events p at is reply part =
-    let k = stored_on reach plan.client tcp.over w v p is.asked.is.settings head at bytes now ret in_range some (subst (λ (r : Sent). IsStep (ToClient bytes r.to r.from now) w ret v) is.request_is step) reply part in
-    record { core = p; there = k.0; desk = k.1; asked = asked_on plan target Permission t [] [] head (head ++ bytes.items) (holder_at plan address lifetime since auth standing) events events p p is.transaction_id is.asked refl is.asked.is }
+    let k = stored_on reach plan.client tcp.over w v p is.request_made.is.settings head at bytes now ret in_range some (subst (λ (r : Sent). IsStep (ToClient bytes r.to r.from now) w ret v) is.request_is step) reply part in
+    record { core = p; there = k.0; desk = k.1; request_made = asked_on plan target Permission t [] [] head (head ++ bytes.items) (holder_at plan address lifetime since auth standing) events events p p is.transaction_id is.request_made refl is.request_made.is }
 buffered reach buffers plan w v target address lifetime since t Connect request head bytes now ret tcp in_range some step auth standing events p at is reply part =
-    let k = stored_on reach plan.client tcp.over w v p is.asked.is.settings head at bytes now ret in_range some (subst (λ (r : Sent). IsStep (ToClient bytes r.to r.from now) w ret v) is.request_is step) reply part in
-    record { core = p; there = k.0; desk = k.1; asked = asked_on plan target Connect t [] [] head (head ++ bytes.items) (holder_at plan address lifetime since auth standing) events events p p is.transaction_id is.asked refl is.asked.is }
+    let k = stored_on reach plan.client tcp.over w v p is.request_made.is.settings head at bytes now ret in_range some (subst (λ (r : Sent). IsStep (ToClient bytes r.to r.from now) w ret v) is.request_is step) reply part in
+    record { core = p; there = k.0; desk = k.1; request_made = asked_on plan target Connect t [] [] head (head ++ bytes.items) (holder_at plan address lifetime since auth standing) events events p p is.transaction_id is.request_made refl is.request_made.is }
 buffered reach buffers plan w v target address lifetime since t Bind request head bytes now ret tcp in_range some step auth standing events p at is reply part =
     bind_buffered plan w v target address lifetime since t request head bytes now ret tcp in_range some step auth standing events p at is buffers reply part

@@ -47,8 +47,8 @@ use Rattle.turn_desk_progress_laws.proofs.Same.{step_same}
 use Rattle.turn_desk_progress_laws.proofs.Successes.{IsMethod, message_is, method_same, number_same, reply_right}
 use Rattle.turn_desk_progress_laws.proofs.Worlds.{IsServedOn, served_on}
 use Rattle.turn_desk_laws.specs.ConnectionLoops.{Bind, Connect, Method, Permission, Target, Timing}
-use Rattle.turn_desk_laws.specs.ConnectionPromises.{asked_for, from_of, number_of}
-use Rattle.turn_desk_laws.specs.ConnectionStages.{Counts, IsAsked, IsHeldFor, IsSameServer, ReportsFirst, earlier_of, holder_at, pending_for, request_at, socket_head}
+use Rattle.turn_desk_laws.specs.ConnectionPromises.{request_made_for, from_of, number_of}
+use Rattle.turn_desk_laws.specs.ConnectionStages.{Counts, IsRequestMade, IsHeldFor, IsSameServer, ReportsFirst, earlier_of, holder_at, pending_for, request_at, socket_head}
 
 -- ---- times
 
@@ -76,12 +76,12 @@ oldest_of one older oldest sooner since x (inr listed) = since x listed
 
 -- ---- methods
 
-pub signs_so : (target : Target) (method : Method) → is_signed (asked_for target method) ≡ true
+pub signs_so : (target : Target) (method : Method) → is_signed (request_made_for target method) ≡ true
 signs_so target Permission = refl
 signs_so target Connect = refl
 signs_so target Bind = refl
 
-pub method_so : (target : Target) (method : Method) → request_method (asked_for target method) ≡ number_of method
+pub method_so : (target : Target) (method : Method) → request_method (request_made_for target method) ≡ number_of method
 method_so target Permission = refl
 method_so target Connect = refl
 method_so target Bind = refl
@@ -169,9 +169,9 @@ counts_on Bind challenges p q same is = tt
 
 -- The request is outstanding still, if all else of the client's state is as stated.
 pub asked_on : (plan : Plan) (target : Target) (method : Method) (t : Timing) (queue more : List QueuedMessage) (head next : List ℕ) (h : Holder) (events left : List TurnEvent) (p q : Protocol) (n : ℕ)
-    → (is : IsAsked plan target method t queue head h events p n) → q.resends ≡ p.resends
+    → (is : IsRequestMade plan target method t queue head h events p n) → q.resends ≡ p.resends
     → IsTcpBinding h (Some (request_at target method h t n)) (earlier_of method is.older) (pending_for target method h t.granted t.made is.ids n (socket_head method next)) more t.sent left q
-    → IsAsked plan target method t more next h left q n
+    → IsRequestMade plan target method t more next h left q n
 asked_on plan target method t queue more head next h events left p q n is same binding = record {
   fits = is.fits;
   ids = is.ids;

@@ -55,7 +55,7 @@ use Rattle.turn_client_proto_handshake_laws.specs.Sent.{Beginning}
 use Rattle.turn_client_proto_progress_laws.specs.Keeping.{Term, held_for}
 use Rattle.turn_client_proto_progress_laws.specs.Refreshed.{refresh_for, refresh_request, refresh_requested, signed_by}
 use Rattle.turn_client_proto_messages.proofs.StunProtoTransaction.Leasts.{same_number}
-use Rattle.turn_desk_laws.specs.RefreshStages.{IsRefreshChallenge, IsRefreshedAgain, IsRefreshingOn, asked_as, asked_by, most_challenges, rechosen, refresh_queued}
+use Rattle.turn_desk_laws.specs.RefreshStages.{IsRefreshChallenge, IsRefreshedAgain, IsRefreshingOn, request_made_as, request_made_by, most_challenges, rechosen, refresh_queued}
 use Rattle.turn_desk_laws.proofs.RefreshHeld.{lifetime_found}
 
 -- ---- tools
@@ -67,9 +67,9 @@ apart m n differ = elim (is_eq (nat_cmp m n)) as (λ (z : Bool). is_eq (nat_cmp 
   | false ↦ λ is. refl
 ] refl
 
-asked_more : (l : List ℕ) (number : ℕ) → asked_by l ++ asked_as number ∷ [] ≡ asked_by (l ++ number ∷ [])
+asked_more : (l : List ℕ) (number : ℕ) → request_made_by l ++ request_made_as number ∷ [] ≡ request_made_by (l ++ number ∷ [])
 asked_more [] number = refl
-asked_more (n ∷ rest) number = ap (λ (l : List PendingRefresh). asked_as n ∷ l) (asked_more rest number)
+asked_more (n ∷ rest) number = ap (λ (l : List PendingRefresh). request_made_as n ∷ l) (asked_more rest number)
 
 pub one_longer : (l : List ℕ) (number : ℕ) → length (l ++ number ∷ []) ≡ length l + 1
 one_longer [] number = refl
@@ -98,7 +98,7 @@ module _ (b : Beginning) (c : Choice) (chosen_before : IsChoice b c) (address : 
   -- ---- what its request asks for
 
   abbrev pending : Allocation
-  pending = held_for b address t (asked_by (earlier ++ number ∷ []))
+  pending = held_for b address t (request_made_by (earlier ++ number ∷ []))
 
   its_own : requested_of (number_at bytes) pending ≡ Some (Lifetime allocation_lifetime)
   unfolding requested_of
@@ -110,8 +110,8 @@ module _ (b : Beginning) (c : Choice) (chosen_before : IsChoice b c) (address : 
   awaits_it : awaits_reply (number_at bytes) pending ≡ true
   awaits_it = ap is_some its_own
 
-  asked : pending_request (number_at bytes) p.allocations ≡ Some (Lifetime allocation_lifetime)
-  asked = ap (λ (l : List Allocation). pending_request (number_at bytes) l) w.allocations
+  request_made : pending_request (number_at bytes) p.allocations ≡ Some (Lifetime allocation_lifetime)
+  request_made = ap (λ (l : List Allocation). pending_request (number_at bytes) l) w.allocations
       ∙ (ap (λ (x : Bool). option_and_then (requested_of (number_at bytes)) (if x then Some pending else None)) awaits_it ∙ its_own)
 
   -- ---- it is answered
@@ -144,7 +144,7 @@ module _ (b : Beginning) (c : Choice) (chosen_before : IsChoice b c) (address : 
       let on = where_false (IsHandled (ended (judged client p)) handled q)
       (MatchBool (is_awaited p.agent bytes) (IsRequestedAgain (pending_request (number_at bytes) p.allocations) (judged client p) bytes now handled q) (IsIgnored (judged client p) handled q)) (is_tired (judged client p)) tired out in
       let asks = where_true (IsRequestedAgain (pending_request (number_at bytes) p.allocations) (judged client p) bytes now handled q) (IsIgnored (judged client p) handled q) (is_awaited p.agent bytes) awaited on in
-      let again = subst (λ (o : Option PendingRequest). IsRequestedAgain o (judged client p) bytes now handled q) asked asks in
+      let again = subst (λ (o : Option PendingRequest). IsRequestedAgain o (judged client p) bytes now handled q) request_made asks in
       let same = same_decoded j.reported j.visible in
       let stored : client ≡ keeping p.auth reported choice = j.stored ∙ ap (λ (x : ChallengeFields). keeping p.auth x choice) same in
       record {
@@ -205,10 +205,10 @@ module _ (b : Beginning) (c : Choice) (chosen_before : IsChoice b c) (address : 
     key_is : number_at text ≡ h.next
     key_is = ap number_at text_is ∙ numbered choice chosen h.next next_fits
 
-    abbrev begun : Transaction
-    begun = started p.agent text p.server now
+    abbrev loop_end : Transaction
+    loop_end = started p.agent text p.server now
 
-    begun_is : begun ≡ transaction_of b (refresh_requested b choice h.next now) 1
+    begun_is : loop_end ≡ transaction_of b (refresh_requested b choice h.next now) 1
     begun_is =
         ap (λ (l : List ℕ). started p.agent l p.server now) text_is
         ∙ (ap (λ (s : SocketAddr). started p.agent (refresh_request b choice h.next) s now) w.settings.server
@@ -216,23 +216,23 @@ module _ (b : Beginning) (c : Choice) (chosen_before : IsChoice b c) (address : 
 
     -- Both requests are outstanding, and then the second alone.
     abbrev both : Table
-    both = map.insert p.agent.outstanding (number_at text) begun
+    both = map.insert p.agent.outstanding (number_at text) loop_end
 
     first_stays : map.get both number ≡ Some (transaction_of b (refresh_requested b c number made) many)
     first_stays =
         let differ : is_eq (nat_cmp number (number_at text)) ≡ false = apart number (number_at text) (λ same. new_number (sym (same ∙ key_is))) in
-        map.get-insert nat_cmp_total p.agent.outstanding (number_at text) begun number
-        ∙ (ap (λ (z : Bool). if z then Some begun else map.get p.agent.outstanding number) differ ∙ w.requested.there)
+        map.get-insert nat_cmp_total p.agent.outstanding (number_at text) loop_end number
+        ∙ (ap (λ (z : Bool). if z then Some loop_end else map.get p.agent.outstanding number) differ ∙ w.requested.there)
 
     second_only : IsOnlyRequested b (refresh_requested b choice h.next now) 1 (answered_by (with_request p.agent text p.server now) bytes p.server)
     second_only = record {
       there =
           ap (λ (n : ℕ). map.get (map.remove both n) h.next) is.number_is
           ∙ (stays_there both number h.next (apart h.next number new_number)
-          ∙ (ap (map.get both) (sym key_is) ∙ (put_there p.agent.outstanding (number_at text) begun ∙ ap Some begun_is)));
+          ∙ (ap (map.get both) (sym key_is) ∙ (put_there p.agent.outstanding (number_at text) loop_end ∙ ap Some begun_is)));
       only = λ other y there. (
           let found = taken_out both (number_at bytes) other y there in
-          elim (put_or p.agent.outstanding (number_at text) begun other y found.1) [
+          elim (put_or p.agent.outstanding (number_at text) loop_end other y found.1) [
             | inl same ↦ same.0 ∙ key_is
             | inr old ↦ clash (is_eq (nat_cmp other (number_at bytes)))
                 (ap (λ (n : ℕ). is_eq (nat_cmp n (number_at bytes))) (w.requested.only other y old.1 ∙ sym is.number_is) ∙ (eq_by_cmp_equiv nat_cmp_total).refl (number_at bytes)) found.0
@@ -246,12 +246,12 @@ module _ (b : Beginning) (c : Choice) (chosen_before : IsChoice b c) (address : 
         (ap (λ (x : Bool). x && is_awaited (with_request p.agent text p.server now) bytes) responds ∙ there)
 
     abbrev more : Allocation
-    more = held_for b address t (asked_by ((earlier ++ number ∷ []) ++ h.next ∷ []))
+    more = held_for b address t (request_made_by ((earlier ++ number ∷ []) ++ h.next ∷ []))
 
     allocations_after : all_reissued_under (Lifetime allocation_lifetime) (number_at bytes) h.next p.allocations ≡ more ∷ []
     allocations_after =
         ap (λ (l : List Allocation). all_reissued_under (Lifetime allocation_lifetime) (number_at bytes) h.next l) w.allocations
-        ∙ (ap (λ (x : Bool). if x then held_for b address t (asked_by (earlier ++ number ∷ []) ++ asked_as h.next ∷ []) ∷ [] else pending ∷ []) awaits_it
+        ∙ (ap (λ (x : Bool). if x then held_for b address t (request_made_by (earlier ++ number ∷ []) ++ request_made_as h.next ∷ []) ∷ [] else pending ∷ []) awaits_it
         ∙ ap (λ (l : List PendingRefresh). held_for b address t l ∷ []) (asked_more (earlier ++ number ∷ []) h.next))
 
     -- The client's state afterwards.

@@ -27,26 +27,26 @@ use Rattle.turn_client_proto_messages.specs.Requests.{allocation_lifetime}
 use Rattle.turn_client_proto_handshake_laws.specs.Sent.{Beginning}
 use Rattle.turn_client_proto_progress_laws.specs.Keeping.{Term, held_for}
 use Rattle.turn_client_proto_progress_laws.proofs.Renewing.Lasting.{expiry}
-use Rattle.turn_desk_laws.specs.RefreshStages.{asked_as, asked_by}
+use Rattle.turn_desk_laws.specs.RefreshStages.{request_made_as, request_made_by}
 
 -- ---- the REFRESHs
 
 -- One is outstanding.
-pub unsettled : (earlier : List ℕ) (number : ℕ) → is_settled (asked_by (earlier ++ number ∷ [])) ≡ false
+pub unsettled : (earlier : List ℕ) (number : ℕ) → is_settled (request_made_by (earlier ++ number ∷ [])) ≡ false
 unsettled [] number = refl
 unsettled (n ∷ rest) number = refl
 
 -- Each requests the same lifetime.
-pub lifetime_found : (earlier : List ℕ) (number sought : ℕ) → sought ≡ number → lifetime_requested sought (asked_by (earlier ++ number ∷ [])) ≡ Some allocation_lifetime
+pub lifetime_found : (earlier : List ℕ) (number sought : ℕ) → sought ≡ number → lifetime_requested sought (request_made_by (earlier ++ number ∷ [])) ≡ Some allocation_lifetime
 lifetime_found [] number sought same =
-    ap (λ (x : Bool). option_map (λ (r : PendingRefresh). r.lifetime) (if x then Some (asked_as number) else None)) (eq-eqb number sought (sym_of sought number same))
+    ap (λ (x : Bool). option_map (λ (r : PendingRefresh). r.lifetime) (if x then Some (request_made_as number) else None)) (eq-eqb number sought (sym_of sought number same))
   where
     sym_of : (a b : ℕ) → a ≡ b → b ≡ a
     sym_of a b is = Prim.cc is
 lifetime_found (n ∷ rest) number sought same = by (n == sought) (lifetime_found rest number sought same)
   where
-    by : (x : Bool) → lifetime_requested sought (asked_by (rest ++ number ∷ [])) ≡ Some allocation_lifetime
-        → option_map (λ (r : PendingRefresh). r.lifetime) (if x then Some (asked_as n) else find (λ (r : PendingRefresh). r.number == sought) (asked_by (rest ++ number ∷ []))) ≡ Some allocation_lifetime
+    by : (x : Bool) → lifetime_requested sought (request_made_by (rest ++ number ∷ [])) ≡ Some allocation_lifetime
+        → option_map (λ (r : PendingRefresh). r.lifetime) (if x then Some (request_made_as n) else find (λ (r : PendingRefresh). r.number == sought) (request_made_by (rest ++ number ∷ []))) ≡ Some allocation_lifetime
     by true later = refl
     by false later = later
 
@@ -54,7 +54,7 @@ lifetime_found (n ∷ rest) number sought same = by (n == sought) (lifetime_foun
 
 module _ (b : Beginning) (address : SocketAddr) (t : Term) (earlier : List ℕ) (number now : ℕ) where
   abbrev pub asking : List PendingRefresh
-  asking = asked_by (earlier ++ number ∷ [])
+  asking = request_made_by (earlier ++ number ∷ [])
 
   abbrev pub pending : Allocation
   pending = held_for b address t asking

@@ -49,7 +49,7 @@ use Rattle.turn_client_proto_handshake_laws.specs.Sent.{Beginning}
 use Rattle.turn_client_proto_progress_laws.specs.Keeping.{IsKeeping, Term, held_for, next_term}
 use Rattle.turn_client_proto_progress_laws.specs.Refreshed.{IsRenewal, signed_by}
 use Rattle.turn_client_proto_progress_laws.proofs.Renewing.Tools.{none_left, where_false, where_true}
-use Rattle.turn_desk_laws.specs.RefreshStages.{IsRefreshingOn, asked_by}
+use Rattle.turn_desk_laws.specs.RefreshStages.{IsRefreshingOn, request_made_by}
 use Rattle.turn_desk_laws.proofs.RefreshHeld.{lifetime_found}
 
 module _ (b : Beginning) (c : Choice) (address : SocketAddr) (t : Term) (earlier : List ℕ) (number made many last : ℕ) (queue : List Queued) (events : List TurnEvent) (p : Protocol) (w : IsRefreshingOn b c address t earlier number made many last queue events p)
@@ -72,12 +72,12 @@ module _ (b : Beginning) (c : Choice) (address : SocketAddr) (t : Term) (earlier
   -- ---- the allocation
 
   abbrev pending : Allocation
-  pending = held_for b address t (asked_by (earlier ++ number ∷ []))
+  pending = held_for b address t (request_made_by (earlier ++ number ∷ []))
 
   abbrev stored : Allocation
   stored = held_for b address (next_term t lifetime now) []
 
-  its_own : lifetime_requested (number_at bytes) (asked_by (earlier ++ number ∷ [])) ≡ Some allocation_lifetime
+  its_own : lifetime_requested (number_at bytes) (request_made_by (earlier ++ number ∷ [])) ≡ Some allocation_lifetime
   its_own = lifetime_found earlier number (number_at bytes) is.number_is
 
   not_ended : ends_by (number_at bytes) pending ≡ false

@@ -35,7 +35,7 @@ use Rattle.turn_client_proto_timers.specs.Drawing.{Again, Fresh, IsAnswerSent, I
 use Rattle.turn_client_proto_timers.specs.Wanting.{wanted}
 use Rattle.turn_client_proto_timers.specs.declared.wanting.Want.{Want}
 use Rattle.turn_client_proto_timers.specs.declared.wanting.Want.TheVariants.{Refresh, Channel, Permission}
-use Rattle.turn_desk_laws.specs.Schedules.{Again as OwnAgain, IsDrawn, IsDue, IsInOrder, IsNoneDue, IsOther, IsOutstanding, Other, Request, Still, count_of, sent_of, slot_of, transaction_of}
+use Rattle.turn_desk_laws.specs.Schedules.{Again as OwnAgain, IsDrawOf, IsDue, IsInOrder, IsNoneDue, IsOther, IsOutstanding, Other, Request, Still, count_of, sent_of, slot_of, transaction_of}
 
 -- ---- tools
 
@@ -103,8 +103,8 @@ AreNumbered = (a : auth.Client) (request : TurnRequest) (number : ℕ) → HasSh
 -- The outcome of a draw, and the request and the client after it.
 pub record IsDrawnTo (r : Request) (many now : ℕ) (p : Protocol) (sent : Option Sent) (q : Protocol) : Type 0 where
   pub next : ℕ
-  pub drawn : IsDrawn r many now p sent next
-  pub kept : IsOutstanding r next q
+  pub by_draw : IsDrawOf r many now p sent next
+  pub stays_stored : IsOutstanding r next q
   pub order : IsInOrder q
   pub transport : q.agent.transport ≡ p.agent.transport
   pub here : q.agent.here ≡ p.agent.here
@@ -112,12 +112,12 @@ pub record IsDrawnTo (r : Request) (many now : ℕ) (p : Protocol) (sent : Optio
 
 module _ (numbered : AreNumbered) (r : Request) (many now : ℕ) (p : Protocol) (there : IsOutstanding r many p) (order : IsInOrder p) where
   -- The client stays as it was.
-  module _ (q : Protocol) (same : q ≡ p) (sent : Option Sent) (drawn : IsDrawn r many now p sent many) where
+  module _ (q : Protocol) (same : q ≡ p) (sent : Option Sent) (by_draw : IsDrawOf r many now p sent many) where
     pub as_before : IsDrawnTo r many now p sent q
     as_before = record {
       next = many;
-      drawn = drawn;
-      kept = subst (λ (x : Protocol). IsOutstanding r many x) (sym same) there;
+      by_draw = by_draw;
+      stays_stored = subst (λ (x : Protocol). IsOutstanding r many x) (sym same) there;
       order = subst (λ (x : Protocol). IsInOrder x) (sym same) order;
       transport = ap (λ (x : Protocol). x.agent.transport) same;
       here = ap (λ (x : Protocol). x.agent.here) same;
@@ -125,12 +125,12 @@ module _ (numbered : AreNumbered) (r : Request) (many now : ℕ) (p : Protocol) 
     }
 
   -- Only what is queued has changed, and the time of the last message.
-  module _ (q : Protocol) (queue : List Queued) (last : Option ℕ) (same : q ≡ record p { queue = queue; last_send = last }) (less : (one : Queued) → IsIn one queue → IsIn one p.queue) (sent : Option Sent) (drawn : IsDrawn r many now p sent many) where
+  module _ (q : Protocol) (queue : List Queued) (last : Option ℕ) (same : q ≡ record p { queue = queue; last_send = last }) (less : (one : Queued) → IsIn one queue → IsIn one p.queue) (sent : Option Sent) (by_draw : IsDrawOf r many now p sent many) where
     pub from_queue : IsDrawnTo r many now p sent q
     from_queue = record {
       next = many;
-      drawn = drawn;
-      kept = ap (λ (x : Protocol). map.get x.agent.outstanding r.number) same ∙ there;
+      by_draw = by_draw;
+      stays_stored = ap (λ (x : Protocol). map.get x.agent.outstanding r.number) same ∙ there;
       order = subst (λ (x : Protocol). IsInOrder x) (sym same) (record { texts = order.texts; families = order.families; numbers = order.numbers });
       transport = ap (λ (x : Protocol). x.agent.transport) same;
       here = ap (λ (x : Protocol). x.agent.here) same;
@@ -165,10 +165,10 @@ module _ (numbered : AreNumbered) (r : Request) (many now : ℕ) (p : Protocol) 
         ∙ ap (λ (n : ℕ). after_sending now (record p { agent = stored_under p.agent n (transaction_of r (many + 1)) })) same) in
         record {
           next = many + 1;
-          drawn = OwnAgain due
+          by_draw = OwnAgain due
               (is ∙ ap Some (a.is_sent ∙ ap (λ (x : Transaction). record { bytes = x.bytes; transport = p.agent.transport; from = p.agent.here; to = x.to }) found))
               refl;
-          kept = ap (λ (x : Protocol). map.get x.agent.outstanding r.number) after ∙ put_there p.agent.outstanding r.number (transaction_of r (many + 1));
+          stays_stored = ap (λ (x : Protocol). map.get x.agent.outstanding r.number) after ∙ put_there p.agent.outstanding r.number (transaction_of r (many + 1));
           order = counted_order;
           transport = ap (λ (x : Protocol). x.agent.transport) after;
           here = ap (λ (x : Protocol). x.agent.here) after;
@@ -184,10 +184,10 @@ module _ (numbered : AreNumbered) (r : Request) (many now : ℕ) (p : Protocol) 
         let differ : a.number ≡ r.number → ⊥ = λ same. clash (is_eq (nat_cmp r.number a.number)) (same_key r.number a.number (sym same)) apart in
         record {
           next = many;
-          drawn = Other message is (inl (λ same. differ (sym number_is ∙ same)))
+          by_draw = Other message is (inl (λ same. differ (sym number_is ∙ same)))
               (λ due. subst (λ (n : ℕ). n < r.number) (sym number_is) (less_of a.number r.number (a.least.least r.number (transaction_of r many) there (due_of_it r many now p due)) differ))
               refl;
-          kept = ap (λ (x : Protocol). map.get x.agent.outstanding r.number) a.after
+          stays_stored = ap (λ (x : Protocol). map.get x.agent.outstanding r.number) a.after
               ∙ stays_put p.agent.outstanding a.number r.number (transmitted (agents.is_tcp p.agent.transport) a.transaction) apart ∙ there;
           order = counted_order;
           transport = ap (λ (x : Protocol). x.agent.transport) a.after;
@@ -254,8 +254,8 @@ module _ (numbered : AreNumbered) (r : Request) (many now : ℕ) (p : Protocol) 
       makes : q.agent ≡ with_it → q.auth ≡ p.auth → q.families ≡ p.families → q.queue ≡ p.queue → IsDrawnTo r many now p sent q
       makes agent auth_is families queue = record {
         next = many;
-        drawn = Other s sent_is (inl (λ same. differs (ap number_at (sym (ap (λ (m : Sent). m.bytes) made.is_sent)) ∙ same))) (λ due. never due) refl;
-        kept = ap (λ (x : agents.Agent). map.get x.outstanding r.number) agent ∙ (stays_put p.agent.outstanding (number_at text) r.number (started p.agent text p.server now) apart ∙ there);
+        by_draw = Other s sent_is (inl (λ same. differs (ap number_at (sym (ap (λ (m : Sent). m.bytes) made.is_sent)) ∙ same))) (λ due. never due) refl;
+        stays_stored = ap (λ (x : agents.Agent). map.get x.outstanding r.number) agent ∙ (stays_put p.agent.outstanding (number_at text) r.number (started p.agent text p.server now) apart ∙ there);
         order = record {
           texts = subst (λ (x : auth.Client). HasShortTexts x) (sym auth_is) order.texts;
           families = subst (λ (n : ℕ). n ≤ 2) (ap length (sym families)) order.families;

@@ -64,7 +64,7 @@ into_map f x (y ∷ xs) (inr later) = inr (into_map f x xs later)
 pub into_filter : {X : Type 0} (p : X → Bool) (x : X) (xs : List X) → IsIn x xs → p x ≡ true → IsIn x (filter p xs)
 into_filter p x [] is passes = absurd is
 into_filter {X = X} p x (y ∷ xs) is passes = elim (cases_Bool (p y)) [
-  | inl kept ↦ (let here : filter p (y ∷ xs) ≡ y ∷ filter p xs = rw kept refl in
+  | inl stays_stored ↦ (let here : filter p (y ∷ xs) ≡ y ∷ filter p xs = rw stays_stored refl in
       subst (λ (l : List X). IsIn x l) (sym here) (elim is [
         | inl same ↦ inl same
         | inr later ↦ inr (into_filter p x xs later passes)
@@ -182,7 +182,7 @@ module _ (r : Request) (many now : ℕ) (p : Protocol) (ret : TurnPollRet) (q : 
         let g = given_by in
         let x : Protocol = record p { agent = g.agent } in
         let standing = subst (λ (f : Phase). IsPolledIn f over g.wait x now ret q) at.phase g.out in
-        let walked = subst (λ (o : Option Waiting). MatchOption o (AreAllocationsPolled over g.wait x now ret q) (λ (w : Waiting). Answers (socket_for x w) (after_asking x) ret q)) at.none_asked standing in
+        let walked = subst (λ (o : Option Waiting). MatchOption o (AreAllocationsPolled over g.wait x now ret q) (λ (w : Waiting). Answers (socket_for x w) (after_asking x) ret q)) at.no_request_made standing in
         closing_so g (x.closing ++ joined.all_gone over now (left over now x)) (answer_of (left over now x) over now walked.first) walked.outcome
 
     module _ (a : Allocation) (held : IsIn a p.allocations) (lasts : now < a.expiry) where

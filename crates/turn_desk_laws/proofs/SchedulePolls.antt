@@ -190,7 +190,7 @@ module _ (r : Request) (many now : ℕ) (p : Protocol) (there : IsOutstanding r 
     put_off : IsPolledTo r many now p ret q
     put_off = record {
       outcome = inl (record {
-        kept = subst (λ (x : Protocol). IsOutstanding r many x) (sym same) there;
+        stays_stored = subst (λ (x : Protocol). IsOutstanding r many x) (sym same) there;
         over = λ reached. first;
         before = λ time is later. not_now now now p ret q time is later at_once;
         by_slot = λ time is later left. not_now now now p ret q time is later at_once;
@@ -244,7 +244,7 @@ module _ (r : Request) (many now : ℕ) (p : Protocol) (there : IsOutstanding r 
         let before = before_end in
         polled_to None (min pause until) agent out (subst (λ (x : agents.Agent). ShowsNumbers x) (sym same) order.numbers) (ap (λ (x : agents.Agent). x.transport) same) (ap (λ (x : agents.Agent). x.here) same)
         (inl (record {
-          kept = ap (λ (x : agents.Agent). map.get x.outstanding r.number) ((parts None (min pause until) agent out).agent ∙ same) ∙ there;
+          stays_stored = ap (λ (x : agents.Agent). map.get x.outstanding r.number) ((parts None (min pause until) agent out).agent ∙ same) ∙ there;
           over = λ reached. absurd (omega (arith, before, reached));
           before = λ time is later. (before_end, (let within = within_wait (min pause until) now (record p { agent = agent }) ret q time is later p.phase out in omega (arith, within, soon, by, before)));
           by_slot = λ time is later left. (let within = within_wait (min pause until) now (record p { agent = agent }) ret q time is later p.phase out in let slot = to_slot left in omega (arith, within, soon, slot));
@@ -275,7 +275,7 @@ module _ (r : Request) (many now : ℕ) (p : Protocol) (there : IsOutstanding r 
     other apart =
         let differ : number ≡ r.number → ⊥ = λ same. clash (is_eq (nat_cmp r.number number)) (same_key r.number number (sym same)) apart in
         to (inl (record {
-          kept = ap (λ (x : agents.Agent). map.get x.outstanding r.number) agent_after ∙ stays_there p.agent.outstanding number r.number apart ∙ there;
+          stays_stored = ap (λ (x : agents.Agent). map.get x.outstanding r.number) agent_after ∙ stays_there p.agent.outstanding number r.number apart ∙ there;
           over = λ reached. inr (inr (number, e.transaction, e.least.present, e.least.passes, less_of number r.number (e.least.least r.number t there (le-leb (end_of r) now reached)) differ));
           before = λ time is later. never_over pause now (record p { agent = agent }) ret q time is later number p.phase out;
           by_slot = λ time is later left. never_over pause now (record p { agent = agent }) ret q time is later number p.phase out;

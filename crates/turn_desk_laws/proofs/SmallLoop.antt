@@ -13,7 +13,7 @@ use Rattle.turn_desk_event.specs.declared.event.Event.{Event}
 use Rattle.turn_client_proto_handshake_laws.specs.Requested.{count_of}
 use Rattle.turn_desk_progress_laws.specs.Loops.{AsksFirst, AsksSecond, DrawsFirst, DrawsOn, GivesFirst, GivesSecond, IsLoop, IsNext, IsNoneDue, IsTransmissionDue, Leads, Looks, Polls, Position, Receives, Timing, start}
 use Rattle.turn_desk_progress_laws.specs.Scripts.{Came, Challenged, Done, Granted, Plan, Progress, Requested, Signed}
-use Rattle.turn_desk_laws.specs.Small.{Exchange, MayHappen, asked_once, challenged_early, signed_once, small_end, small_loop, small_plan}
+use Rattle.turn_desk_laws.specs.Small.{Exchange, MayHappen, request_made_once, challenged_early, signed_once, small_end, small_loop, small_plan}
 
 module _ (e : Exchange) where
   abbrev plan : Plan
@@ -75,7 +75,7 @@ module _ (e : Exchange) where
   at progress last timing = record { progress = progress; last = last; timing = timing }
 
   abbrev challenged : Timing
-  challenged = record asked_once { challenged = 7_200_010_000_000 }
+  challenged = record request_made_once { challenged = 7_200_010_000_000 }
 
   abbrev signed_twice : Timing
   signed_twice = record signed_once { many = 2; sent = 520_000_000 }
@@ -94,8 +94,8 @@ module _ (e : Exchange) where
 
     pub is_loop : IsLoop plan server start (small_loop e) (small_end e)
     is_loop =
-        onward _ (at (Requested (sent_of e.first)) 0 asked_once) _ _ _ (DrawsFirst refl (record { later = omega arith; in_range = omega arith }) refl refl)
-        (onward _ (at (Requested (sent_of e.first)) 0 asked_once) _ _ _ (Polls 0 before_first_end (record { later = omega arith; in_range = omega arith }) refl refl)
+        onward _ (at (Requested (sent_of e.first)) 0 request_made_once) _ _ _ (DrawsFirst refl (record { later = omega arith; in_range = omega arith }) refl refl)
+        (onward _ (at (Requested (sent_of e.first)) 0 request_made_once) _ _ _ (Polls 0 before_first_end (record { later = omega arith; in_range = omega arith }) refl refl)
         (onward _ (at (Challenged (sent_of e.first) e.challenge.items []) 0 challenged) _ _ _ (AsksFirst (sent_of e.first) e.first_come 7_200_010_000_000 by.Grant e.words refl may.first_unaltered refl refl)
         (onward _ (at Came 20_000_000 challenged_early) _ _ _ (GivesFirst (sent_of e.first) e.challenge.items [] [] e.challenge 20_000_000 refl (refl, refl) (record { later = omega arith; in_range = omega arith }) refl refl)
         (onward _ (at Came 20_000_000 challenged_early) _ _ _ (DrawsOn 20_000_000 tt (record { later = omega arith; in_range = omega arith }) refl refl)

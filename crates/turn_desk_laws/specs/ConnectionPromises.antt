@@ -33,10 +33,10 @@ use Rattle.turn_desk_laws.specs.ConnectionLoops.{Permitted, Position, Queued, Re
 
 -- What a request of this method asks for, its method, and the address from which it is sent: a CONNECTION_BIND is
 -- sent from the socket.
-abbrev pub asked_for : Target → Method → TurnRequest
-asked_for target Permission = turn.CreatePermission (socket_ip target.peer)
-asked_for target Connect = turn.Connect target.peer
-asked_for target Bind = turn.ConnectionBind target.number
+abbrev pub request_made_for : Target → Method → TurnRequest
+request_made_for target Permission = turn.CreatePermission (socket_ip target.peer)
+request_made_for target Connect = turn.Connect target.peer
+request_made_for target Bind = turn.ConnectionBind target.number
 
 abbrev pub number_of : Method → ℕ
 number_of Permission = create_permission_method
@@ -69,7 +69,7 @@ pub record IsAnew (method : Method) (challenge : Challenge) (request : Sent) : T
 pub record IsRequest (plan : Plan) (old : World) (target : Target) (method : Method) (t : Timing) (request : Sent)
     : Type 0 where
   pub signed : IsSigned plan old (from_of plan target method) (number_of method) request
-  pub asks : CanCarry target method → Asks (asked_for target method) request
+  pub asks : CanCarry target method → Asks (request_made_for target method) request
   pub anew : IfSome t.again (λ challenge. IsAnew method challenge request)
 
 -- ---- what a call gives
@@ -83,10 +83,10 @@ pub record IsGivenInTime (plan : Plan) (old : World) (target : Target) (method :
 
 -- Otherwise calls of `poll_transmit` give nothing: over TCP no request is transmitted twice (RFC 8489, section
 -- 6.2.2).
-abbrev pub IsDrawnAt : Plan → World → Target → Reached → Timing → (now : ℕ) → Answer → Type 0
-IsDrawnAt plan old target (Queued method) t now ret = IsGivenInTime plan old target method t now ret
-IsDrawnAt plan old target Unpermitted t now ret = Unit {0}
-IsDrawnAt plan old target reached t now ret = ret ≡ answer.Nothing
+abbrev pub IsDrawAt : Plan → World → Target → Reached → Timing → (now : ℕ) → Answer → Type 0
+IsDrawAt plan old target (Queued method) t now ret = IsGivenInTime plan old target method t now ret
+IsDrawAt plan old target Unpermitted t now ret = Unit {0}
+IsDrawAt plan old target reached t now ret = ret ≡ answer.Nothing
 
 -- The client requests a socket for the decided connection ID, and for the peer.
 abbrev pub IsSocketFor : Plan → Target → (connection : ℕ) → Socket5Tuple → SocketAddr → Type 0
@@ -106,7 +106,7 @@ IsPolledAt plan target w reached ret = Unit {0}
 
 -- What an event gives at a position, in this state of the simulation.
 abbrev pub IsGivenBy : Plan → World → Target → Position → World → Event → Answer → Type 0
-IsGivenBy plan old target position w (Draw now) ret = IsDrawnAt plan old target position.reached position.timing now ret
+IsGivenBy plan old target position w (Draw now) ret = IsDrawAt plan old target position.reached position.timing now ret
 IsGivenBy plan old target position w (Call call.Poll now) ret = IsPolledAt plan target w position.reached ret
 IsGivenBy plan old target position w event ret = Unit {0}
 

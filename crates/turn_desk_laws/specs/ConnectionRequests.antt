@@ -64,9 +64,9 @@ pub record HasConnectAgain (h : Holder) (permissions : List Permission) (peer : 
 -- ---- what may time out
 
 -- The socket of each of these connections was requested from the caller.
-abbrev pub AreAsked : List Waiting → Type 0
-AreAsked [] = Unit {0}
-AreAsked (x ∷ rest) = (x.is_requested ≡ true) × AreAsked rest
+abbrev pub AreRequestsMade : List Waiting → Type 0
+AreRequestsMade [] = Unit {0}
+AreRequestsMade (x ∷ rest) = (x.is_requested ≡ true) × AreRequestsMade rest
 
 -- Each of these connections is bound, or `now` isn't after its deadline.
 abbrev pub AreInTime : (now : ℕ) → List Connection → Type 0

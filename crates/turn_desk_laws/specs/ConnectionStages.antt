@@ -34,7 +34,7 @@ use Rattle.turn_desk_progress_laws.specs.Standing.{IsOfSettings}
 use Rattle.turn_desk_laws.specs.ConnectionRequests.{permitting_by}
 use Rattle.turn_desk_laws.specs.ConnectionLoops.{Answered, Bind, Bound, Challenge, Challenged, Clear, Connect, Held, Known, Method, MayChallenge, Off, Permission}
 use Rattle.turn_desk_laws.specs.ConnectionLoops.{Permitted, Position, Queued, Reached, Target, Timing, Transmitted, Unpermitted, Waiting}
-use Rattle.turn_desk_laws.specs.ConnectionPromises.{IsOther, IsSocketFor, asked_for, from_of, number_of}
+use Rattle.turn_desk_laws.specs.ConnectionPromises.{IsOther, IsSocketFor, request_made_for, from_of, number_of}
 
 -- ---- who holds the allocation, and of what server core
 
@@ -124,7 +124,7 @@ pub record HasStored (method : Method) (challenge : Challenge) (h : Holder) (tra
 
 -- The request, as its method and the times of the position have it.
 abbrev pub request_at : Target → Method → Holder → Timing → (transaction_id : ℕ) → Requested
-request_at target method h t transaction_id = signed_by h (asked_for target method) transaction_id t.made
+request_at target method h t transaction_id = signed_by h (request_made_for target method) transaction_id t.made
 
 -- It is queued, to be sent from its address.
 abbrev pub queued_at : Plan → Target → Method → Holder → Timing → (transaction_id : ℕ) → List QueuedMessage
@@ -132,7 +132,7 @@ queued_at plan target method h t transaction_id =
     queued_from (from_of plan target method) (request_at target method h t transaction_id) ∷ []
 
 -- The request with this transaction ID is outstanding, and these messages are queued.
-pub record IsAsked (plan : Plan) (target : Target) (method : Method) (t : Timing) (queue : List QueuedMessage)
+pub record IsRequestMade (plan : Plan) (target : Target) (method : Method) (t : Timing) (queue : List QueuedMessage)
     (head : List ℕ) (h : Holder) (events : List TurnEvent) (p : Protocol) (transaction_id : ℕ) : Type 0 where
   pub fits : transaction_id < 2 ^ 96
   pub ids : List ℕ
@@ -140,7 +140,7 @@ pub record IsAsked (plan : Plan) (target : Target) (method : Method) (t : Timing
   pub older : List Requested
   pub since_oldest : (x : Requested) → IsListed x (earlier_of method older) → t.oldest ≤ x.made
   pub made_later : t.oldest ≤ t.made
-  pub lawful : IsLawfulRequest (asked_for target method)
+  pub lawful : IsLawfulRequest (request_made_for target method)
   pub apart : IsApart plan target method
   pub is : IsTcpBinding h (Some (request_at target method h t transaction_id)) (earlier_of method older)
       (pending_for target method h t.granted t.made ids transaction_id (socket_head method head)) queue t.sent events p
@@ -150,13 +150,13 @@ pub record IsAsked (plan : Plan) (target : Target) (method : Method) (t : Timing
 pub record IsQueued (plan : Plan) (target : Target) (method : Method) (t : Timing) (h : Holder)
     (events : List TurnEvent) (p : Protocol) : Type 0 where
   pub transaction_id : ℕ
-  pub asked : IsAsked plan target method t (queued_at plan target method h t transaction_id) [] h events p
+  pub request_made : IsRequestMade plan target method t (queued_at plan target method h t transaction_id) [] h events p
       transaction_id
 
 pub record IsTransmitted (plan : Plan) (target : Target) (method : Method) (t : Timing) (request : Sent)
     (head : List ℕ) (h : Holder) (events : List TurnEvent) (p : Protocol) : Type 0 where
   pub transaction_id : ℕ
-  pub asked : IsAsked plan target method t [] head h events p transaction_id
+  pub request_made : IsRequestMade plan target method t [] head h events p transaction_id
   pub request_is : request
       ≡ sent_from h (from_of plan target method) (request_at target method h t transaction_id)
 

@@ -22,11 +22,11 @@ use Rattle.turn_client_proto_progress_laws.specs.Keeping.{Term, held_for, next_o
 use Rattle.turn_client_proto_progress_laws.specs.Refreshed.{refresh_request, refresh_requested, signed_by}
 
 -- The REFRESH with this transaction ID, and those with these, as the allocation lists them.
-abbrev pub asked_as : (transaction_id : ℕ) → PendingRefresh
-asked_as transaction_id = record { number = transaction_id; lifetime = allocation_lifetime }
+abbrev pub request_made_as : (transaction_id : ℕ) → PendingRefresh
+request_made_as transaction_id = record { number = transaction_id; lifetime = allocation_lifetime }
 
-abbrev pub asked_by : (transaction_ids : List ℕ) → List PendingRefresh
-asked_by transaction_ids = map asked_as transaction_ids
+abbrev pub request_made_by : (transaction_ids : List ℕ) → List PendingRefresh
+request_made_by transaction_ids = map request_made_as transaction_ids
 
 -- The REFRESH as it is queued.
 abbrev pub refresh_queued : Beginning → Choice → (transaction_id : ℕ) → Queued
@@ -42,7 +42,7 @@ pub record IsRefreshingOn (b : Beginning) (c : Choice) (address : SocketAddr) (t
   pub requested : IsOnlyRequested b (refresh_requested b c transaction_id made) many p.agent
   pub phase : p.phase ≡ Authenticated
   pub auth : p.auth ≡ signed_by b c
-  pub allocations : p.allocations ≡ held_for b address t (asked_by (earlier ++ transaction_id ∷ [])) ∷ []
+  pub allocations : p.allocations ≡ held_for b address t (request_made_by (earlier ++ transaction_id ∷ [])) ∷ []
   pub queue_is : p.queue ≡ queue
   pub last_send : p.last_send ≡ Some last
   pub events_are : p.events ≡ events

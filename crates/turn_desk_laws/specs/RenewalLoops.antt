@@ -148,11 +148,11 @@ abbrev pub turned_next : (request : Sent) (reply : List ℕ) → Answer → Rene
 turned_next request reply (answer.Transmit message) = Refreshing (sent_of message)
 turned_next request reply _ = Turned request reply
 
-abbrev pub drawn_by : Plan → (now : ℕ) → Answer → Renewal → RenewalPosition → RenewalPosition
-drawn_by plan now ret Holding p = holding_draw now ret p
-drawn_by plan now ret (Turned request reply) p =
+abbrev pub by_draw_of : Plan → (now : ℕ) → Answer → Renewal → RenewalPosition → RenewalPosition
+by_draw_of plan now ret Holding p = holding_draw now ret p
+by_draw_of plan now ret (Turned request reply) p =
     record (counted_draw plan now ret p) { progress = turned_next request reply ret }
-drawn_by plan now ret _ p = counted_draw plan now ret p
+by_draw_of plan now ret _ p = counted_draw plan now ret p
 
 -- Once all of the success response has come, the allocation is granted for the new lifetime.
 abbrev pub renewed_by : (request : Sent) (more : ℕ) (reply head rest : List ℕ) (now : ℕ) → RenewalPosition
@@ -186,7 +186,7 @@ challenged_by request reply head (byte ∷ rest) now p =
 -- core, unaltered from where it was sent, at any time by the server core's own clock.
 pub data Renews (plan : Plan) (p : RenewalPosition) (event : Event) (ret : Answer) (next : RenewalPosition)
     : Type 0 where
-  Draws : (now : ℕ) → IsInTime p now → event ≡ Draw now → next ≡ drawn_by plan now ret p.progress p
+  Draws : (now : ℕ) → IsInTime p now → event ≡ Draw now → next ≡ by_draw_of plan now ret p.progress p
       → Renews plan p event ret next
   Polls : (now : ℕ) → IsInTime p now → MayPollOn plan p.progress p.made now → event ≡ Call call.Poll now
       → next ≡ record p { last = now } → Renews plan p event ret next
@@ -276,17 +276,17 @@ pub record IsNextInTime (plan : Plan) (old : World) (p : RenewalPosition) (now :
   pub rests : now < time_after p.sent cadence → IsNoneDue plan p.made 1 now → ret ≡ answer.Nothing
 
 -- What a draw gives at a position.
-abbrev pub IsDrawnAt : Plan → World → (secondly : Sent) → Renewal → RenewalPosition → (now : ℕ) → Answer → Type 0
-IsDrawnAt plan old secondly Holding p now ret = IsDueRefresh plan old secondly p now ret
-IsDrawnAt plan old secondly (Refreshing request) p now ret = IsRefreshAgain plan p now request ret
-IsDrawnAt plan old secondly (Renewing request more reply head) p now ret = IsRefreshAgain plan p now request ret
-IsDrawnAt plan old secondly (Challenged request reply head) p now ret = IsRefreshAgain plan p now request ret
-IsDrawnAt plan old secondly (Turned request reply) p now ret = IsNextInTime plan old p now request reply ret
+abbrev pub IsDrawAt : Plan → World → (secondly : Sent) → Renewal → RenewalPosition → (now : ℕ) → Answer → Type 0
+IsDrawAt plan old secondly Holding p now ret = IsDueRefresh plan old secondly p now ret
+IsDrawAt plan old secondly (Refreshing request) p now ret = IsRefreshAgain plan p now request ret
+IsDrawAt plan old secondly (Renewing request more reply head) p now ret = IsRefreshAgain plan p now request ret
+IsDrawAt plan old secondly (Challenged request reply head) p now ret = IsRefreshAgain plan p now request ret
+IsDrawAt plan old secondly (Turned request reply) p now ret = IsNextInTime plan old p now request reply ret
 
 -- The same of any event: no more is said of one that isn't a draw.
-abbrev pub IsDrawnBy : Plan → World → (secondly : Sent) → RenewalPosition → Event → Answer → Type 0
-IsDrawnBy plan old secondly p (Draw now) ret = IsDrawnAt plan old secondly p.progress p now ret
-IsDrawnBy plan old secondly p _ ret = Unit {0}
+abbrev pub IsDrawBy : Plan → World → (secondly : Sent) → RenewalPosition → Event → Answer → Type 0
+IsDrawBy plan old secondly p (Draw now) ret = IsDrawAt plan old secondly p.progress p now ret
+IsDrawBy plan old secondly p _ ret = Unit {0}
 
 -- What has come of a reply.
 abbrev pub head_of : Renewal → List ℕ

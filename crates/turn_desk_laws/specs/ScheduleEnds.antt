@@ -23,7 +23,7 @@ pub record EndsAt (r : Request) (many now : ℕ) (old : Protocol) (ret : TurnPol
 -- one, it does that, and what the request asked for stays as it was.
 pub record IsAttended (p : Protocol) : Type 0 where
   pub phase : p.phase ≡ Authenticated
-  pub none_asked : unasked p.allocations ≡ None
+  pub no_request_made : unasked p.allocations ≡ None
 
 -- The client has ended, and has closed. It reports for each family in order that no address was allocated.
 pub record HasClosed (old : Protocol) (ret : TurnPollRet) (new : Protocol) : Type 0 where

@@ -95,11 +95,11 @@ IsOther r queue message =
 -- - `Other`: it is another message. If a transmission of the request is due, it is a retransmission of another
 --   request, with a lesser transaction ID.
 -- - `None`: nothing is given, and no transmission of the request is due.
-pub data IsDrawn (r : Request) (many now : ℕ) (old : Protocol) (sent : Option Sent) (next : ℕ) : Type 0 where
-  Again : IsDue r many now old → sent ≡ Some (sent_of r old) → next ≡ many + 1 → IsDrawn r many now old sent next
+pub data IsDrawOf (r : Request) (many now : ℕ) (old : Protocol) (sent : Option Sent) (next : ℕ) : Type 0 where
+  Again : IsDue r many now old → sent ≡ Some (sent_of r old) → next ≡ many + 1 → IsDrawOf r many now old sent next
   Other : (message : Sent) → sent ≡ Some message → IsOther r old.queue message
-      → (IsDue r many now old → number_at message.bytes < r.number) → next ≡ many → IsDrawn r many now old sent next
-  Still : sent ≡ None → IsNoneDue r many now old → next ≡ many → IsDrawn r many now old sent next
+      → (IsDue r many now old → number_at message.bytes < r.number) → next ≡ many → IsDrawOf r many now old sent next
+  Still : sent ≡ None → IsNoneDue r many now old → next ≡ many → IsDrawOf r many now old sent next
 
 -- ---- a poll
 
@@ -115,7 +115,7 @@ ComesFirst r now p = (p.events ≢ []) ⊎ ((list_any is_answer p.queue ≡ true
 -- has passed).
 pub record IsStillAwaited (r : Request) (many now : ℕ) (old : Protocol) (ret : TurnPollRet) (new : Protocol)
     : Type 0 where
-  pub kept : IsOutstanding r many new
+  pub stays_stored : IsOutstanding r many new
   pub over : end_of r ≤ now → ComesFirst r now old
   pub before : (time : ℕ) → ret ≡ poll.WaitUntil time → now < time → (now < end_of r) × (time ≤ end_of r)
   pub by_slot : (time : ℕ) → ret ≡ poll.WaitUntil time → now < time → many < count_of r old
@@ -149,7 +149,7 @@ AreCalled old (call ∷ calls) new =
 unfoldable pub IsTraced : Request → (old : Protocol) → (many : ℕ) → List Call → (last : Option ℕ) → Type 0
 IsTraced r old many [] last = last ≡ Some many
 IsTraced r old many (Draws now sent ∷ calls) last =
-    (next : ℕ) × IsDrawn r many now old sent next × IsTraced r old next calls last
+    (next : ℕ) × IsDrawOf r many now old sent next × IsTraced r old next calls last
 IsTraced r old many (DrawFails now ∷ calls) last = ⊥
 IsTraced r old many (Polls now ret ∷ calls) last =
     ((((time : ℕ) → ret ≡ poll.WaitUntil time → now < time → (now < end_of r) × (time ≤ end_of r)))

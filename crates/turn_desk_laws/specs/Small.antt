@@ -93,8 +93,8 @@ pub record MayHappen (e : Exchange) (server : Server) : Type 0 where
   pub whole : IsWhole e.address
 
 -- What was done at 0, when the first request was transmitted once.
-abbrev pub asked_once : Timing
-asked_once = record { many = 1; sent = 0; challenged = 0; came = 0 }
+abbrev pub request_made_once : Timing
+request_made_once = record { many = 1; sent = 0; challenged = 0; came = 0 }
 
 -- What was done when the challenge came at 20 ms.
 abbrev pub challenged_early : Timing

@@ -100,9 +100,9 @@ MayDraw plan Unmade now = now ≡ plan.client.made
 MayDraw plan _ now = Unit {0}
 
 -- Once the client was drawn, its request is made.
-abbrev pub drawn : RequestState → RequestState
-drawn Unmade = Outstanding
-drawn request = request
+abbrev pub by_draw : RequestState → RequestState
+by_draw Unmade = Outstanding
+by_draw request = request
 
 -- The client is polled before its request is given up.
 abbrev pub IsBeforeEnd : Plan → RequestState → (now : ℕ) → Type 0
@@ -114,7 +114,7 @@ IsBeforeEnd plan _ now = Unit {0}
 pub data Goes (plan : Plan) (position : Position) (event : Event) (ret : Answer) (next : Position) : Type 0 where
   -- The client is drawn.
   Draws : (now : ℕ) → MayDraw plan position.request now → now ≤ client_end → event ≡ Draw now
-      → next ≡ record position { request = drawn position.request; timing = counted now ret position.timing }
+      → next ≡ record position { request = by_draw position.request; timing = counted now ret position.timing }
       → Goes plan position event ret next
   -- The client is polled before the end of its request's schedule, or before or after that request.
   Polls : (now : ℕ) → IsBeforeEnd plan position.request now → now ≤ client_end → event ≡ Call call.Poll now
@@ -155,10 +155,10 @@ IsUnanswered plan position (pair ∷ pairs) last =
 
 -- The first draw gives the first request. While that is outstanding, it goes by its schedule: it comes again
 -- at the first draw at or after each slot, and at no other (`IsOnSchedule`). Then nothing comes.
-abbrev pub IsDrawnAt : Plan → RequestState → Timing → (now : ℕ) → Answer → Type 0
-IsDrawnAt plan Unmade t now ret = Gives ret (λ sent. sent ≡ first_sent plan.client)
-IsDrawnAt plan Outstanding t now ret = IsOnSchedule plan t now ret
-IsDrawnAt plan TimedOut t now ret = ret ≡ answer.Nothing
+abbrev pub IsDrawAt : Plan → RequestState → Timing → (now : ℕ) → Answer → Type 0
+IsDrawAt plan Unmade t now ret = Gives ret (λ sent. sent ≡ first_sent plan.client)
+IsDrawAt plan Outstanding t now ret = IsOnSchedule plan t now ret
+IsDrawAt plan TimedOut t now ret = ret ≡ answer.Nothing
 
 -- What is transmitted, and when, in order.
 abbrev pub sending_of : Event → Answer → List Sending

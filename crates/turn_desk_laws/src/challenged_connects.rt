@@ -47,7 +47,7 @@ ghost use Rattle.turn_client_proto_progress_laws.specs.Resting.{AreUnrenewed, Is
 ghost use Rattle.turn_client_proto_progress_laws.specs.TcpBinding.{HasLearned, HasSentConnect};
 ghost use Rattle.turn_client_proto_progress_laws.specs.TcpBinding.{IsHolding, IsReady, IsTcpBinding};
 ghost use Rattle.turn_client_proto_progress_laws.specs.TcpBinding.{allocation_with};
-ghost use Rattle.turn_desk_laws.specs.ConnectionRequests.{AreAsked, AreInTime, HasConnectAgain};
+ghost use Rattle.turn_desk_laws.specs.ConnectionRequests.{AreRequestsMade, AreInTime, HasConnectAgain};
 ghost use Rattle.turn_desk_laws.specs.ConnectionRequests.{HasPermissionAgain, IsPermitting};
 
 use turn_client_proto_messages::laws::{
@@ -137,7 +137,7 @@ pub fn holders_keep_still()
         old
         → list_any is_answer queue ≡ false
         → IsResting h permissions now
-        → AreAsked waiting
+        → AreRequestsMade waiting
         → AreInTime now connections
         → ((x : Requested) → IsListed x (all_requested awaited older) → now < end_of h.started x)
         → IsPolled old now ret new

@@ -47,9 +47,9 @@ ghost use Rattle.turn_desk_laws.specs.ConnectionLoops.{MayDraw, MayPoll, Method,
 ghost use Rattle.turn_desk_laws.specs.ConnectionLoops.{Permitted, Position, Queued, Reached};
 ghost use Rattle.turn_desk_laws.specs.ConnectionLoops.{Target, Timing, Transmitted, Unpermitted};
 ghost use Rattle.turn_desk_laws.specs.ConnectionLoops.{Waiting, after_draw, after_look, after_poll};
-ghost use Rattle.turn_desk_laws.specs.ConnectionLoops.{called, challenged, drawn, holding};
+ghost use Rattle.turn_desk_laws.specs.ConnectionLoops.{called, challenged, by_draw, holding};
 ghost use Rattle.turn_desk_laws.specs.ConnectionLoops.{permitted, requested};
-ghost use Rattle.turn_desk_laws.specs.ConnectionPromises.{HasReached, IsDrawnAt, IsGivenBy};
+ghost use Rattle.turn_desk_laws.specs.ConnectionPromises.{HasReached, IsDrawAt, IsGivenBy};
 ghost use Rattle.turn_desk_laws.specs.ConnectionPromises.{IsPolledAt, IsRequest};
 ghost use Rattle.turn_desk_laws.specs.ConnectionStages.{IsAtPosition, IsOfFamily, IsStage};
 
@@ -153,9 +153,9 @@ pub fn draws_give_queued_requests()
         → MayDraw lifetime since reached t now
         → IsStage plan old target address lifetime since reached t w
         → IsStep (Draw now) w ret v
-        → IsStage plan old target address lifetime since (after_draw reached ret) (drawn now ret t)
+        → IsStage plan old target address lifetime since (after_draw reached ret) (by_draw now ret t)
         v
-        × IsDrawnAt plan old target reached t now ret }
+        × IsDrawAt plan old target reached t now ret }
 {
     holders_rest();
     holders_keep_still();
@@ -415,46 +415,46 @@ pub fn events_of_connections_lead_on()
 /// difference, nor do the words from which the server core generates nonces.
 pub fn loops_bind_connections()
     ensures promised { (plan : Plan) (old one new : World) (first pairs : List (Event × Answer))
-        (begun : LoopPosition) (request : Sent) (address : SocketAddr) (lifetime : ℕ)
+        (loop_end : LoopPosition) (request : Sent) (address : SocketAddr) (lifetime : ℕ)
         (reply : List ℕ) (target : Target) (position : Position)
         → MayBegin plan old
         → IsOverTcp plan
         → ReportsOwn old.desk.auth.algorithms old.desk.auth.anonymous_username target.local
         old.desk.auth
         → IsRun old first one
-        → IsLoop plan old.desk.auth start first begun
-        → begun.progress ≡ Done request address lifetime reply
+        → IsLoop plan old.desk.auth start first loop_end
+        → loop_end.progress ≡ Done request address lifetime reply
         → IsRun one pairs new
-        → IsConnecting plan lifetime begun.timing.came target (holding begun) pairs position
+        → IsConnecting plan lifetime loop_end.timing.came target (holding loop_end) pairs position
         → HasReached plan old address target position.reached position.timing new }
     ensures given { (plan : Plan) (old one w v : World) (first pairs : List (Event × Answer))
-        (begun : LoopPosition) (request : Sent) (address : SocketAddr) (lifetime : ℕ)
+        (loop_end : LoopPosition) (request : Sent) (address : SocketAddr) (lifetime : ℕ)
         (reply : List ℕ) (target : Target) (position next : Position) (event : Event) (ret : Answer)
         → MayBegin plan old
         → IsOverTcp plan
         → ReportsOwn old.desk.auth.algorithms old.desk.auth.anonymous_username target.local
         old.desk.auth
         → IsRun old first one
-        → IsLoop plan old.desk.auth start first begun
-        → begun.progress ≡ Done request address lifetime reply
+        → IsLoop plan old.desk.auth start first loop_end
+        → loop_end.progress ≡ Done request address lifetime reply
         → IsRun one pairs w
-        → IsConnecting plan lifetime begun.timing.came target (holding begun) pairs position
-        → Leads plan lifetime begun.timing.came target position event ret next
+        → IsConnecting plan lifetime loop_end.timing.came target (holding loop_end) pairs position
+        → Leads plan lifetime loop_end.timing.came target position event ret next
         → IsStep event w ret v
         → IsGivenBy plan old target position w event ret }
     ensures occurs { (plan : Plan) (old one new : World) (first pairs : List (Event × Answer))
-        (begun : LoopPosition) (request : Sent) (address : SocketAddr) (lifetime : ℕ)
+        (loop_end : LoopPosition) (request : Sent) (address : SocketAddr) (lifetime : ℕ)
         (reply : List ℕ) (target : Target) (position : Position)
         → MayBegin plan old
         → IsOverTcp plan
         → ReportsOwn old.desk.auth.algorithms old.desk.auth.anonymous_username target.local
         old.desk.auth
         → IsRun old first one
-        → IsLoop plan old.desk.auth start first begun
-        → begun.progress ≡ Done request address lifetime reply
+        → IsLoop plan old.desk.auth start first loop_end
+        → loop_end.progress ≡ Done request address lifetime reply
         → IsRun one pairs new
-        → IsConnecting plan lifetime begun.timing.came target (holding begun) pairs position
-        → IsAtPosition plan old target address lifetime begun.timing.came position new }
+        → IsConnecting plan lifetime loop_end.timing.came target (holding loop_end) pairs position
+        → IsAtPosition plan old target address lifetime loop_end.timing.came position new }
 {
     loops_hold();
     events_of_connections_lead_on();

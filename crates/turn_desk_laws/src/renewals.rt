@@ -37,7 +37,7 @@ ghost use Rattle.turn_desk_progress_laws.specs.Renewals.{HoldsStill};
 ghost use Rattle.turn_desk_progress_laws.specs.Scripts.{BringsOn, Done, IsLook, Plan};
 ghost use Rattle.turn_desk_progress_laws.specs.Turns.{least};
 ghost use Rattle.turn_desk_laws.specs.RefreshStages.{most_challenges};
-ghost use Rattle.turn_desk_laws.specs.RenewalLoops.{Challenged, Holding, IsDrawnAt, IsDrawnBy};
+ghost use Rattle.turn_desk_laws.specs.RenewalLoops.{Challenged, Holding, IsDrawAt, IsDrawBy};
 ghost use Rattle.turn_desk_laws.specs.RenewalLoops.{IsInTime, IsNextInTime, IsRefreshAgain};
 ghost use Rattle.turn_desk_laws.specs.RenewalLoops.{IsRenewalLoop, MayPollOn, Refreshing};
 ghost use Rattle.turn_desk_laws.specs.RenewalLoops.{Renewal, RenewalPosition, Renewing, Renews};
@@ -96,7 +96,7 @@ use turn_desk_progress_laws::loops::events_of_loops_lead_on;
 ///
 /// `promised`: At each position the client holds exactly that allocation (`HoldsStill`).
 ///
-/// `sendings`: What each call of `poll_transmit` gives (`IsDrawnAt`): so that a REFRESH is
+/// `sendings`: What each call of `poll_transmit` gives (`IsDrawAt`): so that a REFRESH is
 /// transmitted is no premise.
 ///
 /// - The first call at or after a minute before the allocation's end, and 50 ms after the last
@@ -140,7 +140,7 @@ pub fn loops_renew()
         → IsRenewalLoop plan (held_after position lifetime) again p
         → Renews plan p (Draw now) ret next
         → IsStep (Draw now) w ret v
-        → IsDrawnAt plan old request p.progress p now ret }
+        → IsDrawAt plan old request p.progress p now ret }
     ensures occurs { (plan : Plan) (old one new : World) (first again : List (Event × Answer))
         (position : Position) (request : Sent) (address : SocketAddr) (lifetime : ℕ)
         (reply : List ℕ) (p : RenewalPosition)
@@ -203,10 +203,10 @@ pub fn events_of_renewals_lead_on()
         → IsAtRenewal plan old address secondly p w
         → IsStep event w ret v
         → IsAtRenewal plan old address secondly next v
-        × IsDrawnBy plan old secondly p event ret }
+        × IsDrawBy plan old secondly p event ret }
 {
-    held_allocations_are_drawn();
-    outstanding_refreshes_are_drawn();
+    draws_of_held_allocations();
+    draws_of_outstanding_refreshes();
     renewals_are_polled();
     renewals_stand_still();
     late_refreshes_are_granted();
@@ -218,7 +218,7 @@ pub fn events_of_renewals_lead_on()
 /// While the allocation is held, a draw gives the second request once more if that is queued, then
 /// a REFRESH from a minute before the allocation's end on, and else nothing (RFC 8656, section
 /// 8.1).
-pub fn held_allocations_are_drawn()
+pub fn draws_of_held_allocations()
     ensures { (plan : Plan) (old w v : World) (address : SocketAddr) (secondly : Sent)
         (p : RenewalPosition) (now : ℕ) (ret : Answer)
         → MayBegin plan old
@@ -227,7 +227,7 @@ pub fn held_allocations_are_drawn()
         → IsStep (Draw now) w ret v
         → IsStageAt plan old address secondly (holding_draw now ret p).progress
         (holding_draw now ret p) v
-        × IsDrawnAt plan old secondly Holding p now ret }
+        × IsDrawAt plan old secondly Holding p now ret }
 {
     proof_requests_are_read();
     signed_allocates_answer();
@@ -239,7 +239,7 @@ pub fn held_allocations_are_drawn()
 /// While a REFRESH is outstanding, a draw gives it again by its schedule (RFC 8489, section 6.2.1),
 /// or from the queue, and else nothing. The first one that a draw gives once a challenge has come
 /// (`turned`) is under the nonce of the challenge.
-pub fn outstanding_refreshes_are_drawn()
+pub fn draws_of_outstanding_refreshes()
     ensures refreshing { (plan : Plan) (old w v : World) (address : SocketAddr) (secondly : Sent)
         (p : RenewalPosition) (request : Sent) (now : ℕ) (ret : Answer)
         → IsStageAt plan old address secondly (Refreshing request) p w

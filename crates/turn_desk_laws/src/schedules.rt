@@ -20,7 +20,7 @@ ghost use Rattle.turn_client_proto_step_laws.specs.Held.{PendingRefresh};
 ghost use Rattle.turn_client_proto_timers.specs.Drawing.{IsTransmitted};
 ghost use Rattle.turn_client_proto_timers.specs.Polling.{IsPolled};
 ghost use Rattle.turn_desk_laws.specs.ScheduleEnds.{EndsAt, HasClosed, IsAttended, IsRefreshedAnew};
-ghost use Rattle.turn_desk_laws.specs.Schedules.{AreCalled, IsDrawn, IsGivenUp, IsInOrder};
+ghost use Rattle.turn_desk_laws.specs.Schedules.{AreCalled, IsDrawOf, IsGivenUp, IsInOrder};
 ghost use Rattle.turn_desk_laws.specs.Schedules.{IsLeft, IsNoneDue, IsOutstanding, IsStillAwaited};
 ghost use Rattle.turn_desk_laws.specs.Schedules.{IsTraced, Request};
 
@@ -43,7 +43,7 @@ use turn_client_proto_messages::laws::proof_requests_are_read;
 /// - `draws`: a draw gives the request again only if its next slot isn't later than the draw, and
 ///   then it is the same bytes, under the same transaction ID, from the client's own address to
 ///   the same one. A draw at or after that slot gives a message: if not this one, then one of
-///   another request, with a lesser transaction ID, that is due too (`IsDrawn`). So draws that are
+///   another request, with a lesser transaction ID, that is due too (`IsDrawOf`). So draws that are
 ///   repeated until one gives nothing give the request once for each slot up to then (`quiet`).
 /// - `polls`: a poll before the end of the schedule leaves the request as it is. A poll at or after
 ///   it gives the request up, unless an event or a reply is queued or another request with a lesser
@@ -58,7 +58,7 @@ pub fn requests_go_by_their_schedule()
         → IsInOrder old
         → IsOutstanding r many old
         → IsTransmitted old now sent new
-        → (next : ℕ) × IsDrawn r many now old sent next × IsOutstanding r next new
+        → (next : ℕ) × IsDrawOf r many now old sent next × IsOutstanding r next new
         × IsInOrder new }
     ensures quiet { (r : Request) (many now : ℕ) (old new : Protocol)
         → IsInOrder old

@@ -24,7 +24,7 @@ ghost use Rattle.turn_desk_progress_laws.specs.Loops.{IsSignedAgain, IsSignedInT
 ghost use Rattle.turn_desk_progress_laws.specs.Promises.{CannotAgree, HasClient, IsAllocated};
 ghost use Rattle.turn_desk_progress_laws.specs.Promises.{key_in_realm};
 ghost use Rattle.turn_desk_progress_laws.specs.Scripts.{Plan};
-ghost use Rattle.turn_desk_laws.specs.Small.{Exchange, MayHappen, asked_once, challenged_early};
+ghost use Rattle.turn_desk_laws.specs.Small.{Exchange, MayHappen, request_made_once, challenged_early};
 ghost use Rattle.turn_desk_laws.specs.Small.{signed_once, small_end, small_loop, small_plan};
 
 /// There are loops. In `small_loop`, over UDP, the first reply comes after 20 ms. The second
@@ -51,19 +51,19 @@ pub fn loops_take_their_time()
 ///
 /// None of them is what a loop promises.
 ///
-/// `asked` and `signed`: What the small loop has in their places is: the first request at 500 ms;
+/// `request_made` and `signed`: What the small loop has in their places is: the first request at 500 ms;
 /// and at 50 ms a request that is valid under the user's key (`IsSecondRequest`).
 pub fn draws_keep_the_schedule()
     ensures due { (e : Exchange)
-        → IsOnSchedule (small_plan e) asked_once 500_000_000 Nothing → ⊥ }
+        → IsOnSchedule (small_plan e) request_made_once 500_000_000 Nothing → ⊥ }
     ensures early { (e : Exchange)
-        → IsOnSchedule (small_plan e) asked_once 499_999_999 (Transmit e.first) → ⊥ }
+        → IsOnSchedule (small_plan e) request_made_once 499_999_999 (Transmit e.first) → ⊥ }
     ensures unsigned { (e : Exchange) (old : World)
         → IsSignedInTime (small_plan e) old challenged_early 50_000_000 Nothing → ⊥ }
     ensures soon { (e : Exchange) (old : World)
         → IsSignedInTime (small_plan e) old challenged_early 49_999_999 (Transmit e.second) → ⊥ }
-    ensures asked { (e : Exchange) → sent_of e.first ≡ first_sent (small_plan e).client
-        → IsOnSchedule (small_plan e) asked_once 500_000_000 (Transmit e.first) }
+    ensures request_made { (e : Exchange) → sent_of e.first ≡ first_sent (small_plan e).client
+        → IsOnSchedule (small_plan e) request_made_once 500_000_000 (Transmit e.first) }
     ensures signed { (e : Exchange) (old : World)
         → IsSecondRequest (small_plan e) old (sent_of e.second)
         → IsSignedInTime (small_plan e) old challenged_early 50_000_000 (Transmit e.second) }

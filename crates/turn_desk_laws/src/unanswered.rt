@@ -29,9 +29,9 @@ ghost use Rattle.turn_desk_progress_laws.specs.Loops.{MayBegin, Timing, counted}
 ghost use Rattle.turn_desk_progress_laws.specs.Promises.{event_in, events_in};
 ghost use Rattle.turn_desk_progress_laws.specs.Scripts.{BringsOn, IsLook, Plan};
 ghost use Rattle.turn_desk_laws.specs.Unanswered.{Goes, HasNewClient, HasReported, HasSent};
-ghost use Rattle.turn_desk_laws.specs.Unanswered.{IsBeforeEnd, IsDrawnAt, IsPolledAt};
+ghost use Rattle.turn_desk_laws.specs.Unanswered.{IsBeforeEnd, IsDrawAt, IsPolledAt};
 ghost use Rattle.turn_desk_laws.specs.Unanswered.{IsUnanswered, MayCome, MayDraw, Outstanding};
-ghost use Rattle.turn_desk_laws.specs.Unanswered.{Position, RequestState, TimedOut, begin, drawn};
+ghost use Rattle.turn_desk_laws.specs.Unanswered.{Position, RequestState, TimedOut, begin, by_draw};
 ghost use Rattle.turn_desk_laws.specs.Unanswered.{end_in, sending_of, sendings_in, until_whole};
 ghost use Rattle.turn_desk_laws.specs.UnansweredStages.{IsAtPosition, IsStageOf};
 
@@ -70,7 +70,7 @@ use turn_desk_event::event;
 ///
 /// - `draws`: the first draw gives the first request. While that is outstanding, a draw gives the
 ///   same bytes again, from the client's own address to the server's, if the next slot of its
-///   schedule isn't later, and otherwise nothing (`IsDrawnAt`; RFC 8489, section 6.2.1). Once it
+///   schedule isn't later, and otherwise nothing (`IsDrawAt`; RFC 8489, section 6.2.1). Once it
 ///   has timed out, draws give nothing.
 /// - `sent`: nothing else was transmitted, the `k`-th not before slot `k`, and no more often than
 ///   there are slots (`HasSent`); over TCP there is one.
@@ -91,7 +91,7 @@ pub fn unanswered_worlds_end()
         → MayDraw plan position.request now
         → now ≤ client_end
         → IsStep (Draw now) w ret v
-        → IsDrawnAt plan position.request position.timing now ret }
+        → IsDrawAt plan position.request position.timing now ret }
     ensures sent { (plan : Plan) (old new : World) (pairs : List (Event × Answer))
         (position : Position)
         → HasNewClient plan old
@@ -153,8 +153,8 @@ pub fn unanswered_clients_ask_again()
         → MayDraw plan request now
         → now ≤ client_end
         → IsStep (Draw now) w ret v
-        → IsStageOf plan (reported ++ event_in ret) (drawn request) (counted now ret t) head v
-        × IsDrawnAt plan request t now ret }
+        → IsStageOf plan (reported ++ event_in ret) (by_draw request) (counted now ret t) head v
+        × IsDrawAt plan request t now ret }
     ensures sends { (plan : Plan) (w v : World) (reported : List TurnEvent)
         (sendings : List Sending) (request : RequestState) (t : Timing) (head : List ℕ) (now : ℕ)
         (ret : Answer)

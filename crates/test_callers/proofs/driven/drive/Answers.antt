@@ -8,7 +8,7 @@ use Rattle.turn_client_proto.specs.Api.TurnTypesFrame.declared.build.TransmitBui
 use Rattle.turn_client_proto.specs.Api.declared.send.DelayedMessageOrChannelSend.{DelayedMessageOrChannelSend}
 use Rattle.turn_client_proto.specs.Drawing.{IsTransmitted}
 use Rattle.turn_client_proto.specs.Sending.{written_as}
-use Rattle.test_callers.proofs.Driving.{HasTaken, IsAnswered, IsDrawn, all_taken, bytes_built, none_built, end_asked, channel_asked, limit_taken, nothing_drawn, one_drawn, one_taken, permission_asked, polls, up_to_limit, up_to_nothing}
+use Rattle.test_callers.proofs.Driving.{HasTaken, IsAnswered, IsDrawOf, all_taken, bytes_built, none_built, end_asked, channel_asked, limit_taken, nothing_drawn, one_drawn, one_taken, permission_asked, polls, up_to_limit, up_to_nothing}
 use Rattle.test_callers.proofs.driven.drive.Goals.{else-loop-test, then-loop-test+in_ok-sent+in_default, in-AllocationCreated+in_ok-create_permission-in-AllocationCreated, in-PermissionCreated+in_ok-bind_channel-in-PermissionCreated, in-ChannelCreated+in_ok-sending-in-ChannelCreated+in-Some-2+in_ok-sent-in-ChannelCreated+in_ok-write-in-ChannelCreated, in-ChannelCreated+in_ok-sending-in-ChannelCreated+in_default-2, in_default-event+in_ok-delete-in_default-event}
 use Rattle.test_callers.proofs.driven.drive.Goals as goal
 
@@ -34,15 +34,15 @@ loop-2-init g c = λ early.
     let old = stored c.args.client.now in
     let p = stored c.loop.client in
     let so = c.loop.invariant early in
-    let drawn : IsDrawn c.args.now old (stored c.loop-test.client) = elim c.loop-test.branch [
-      | else-loop-test w ↦ subst (λ (x : _). IsDrawn c.args.now old (stored x)) (sym w.client-is) (up_to_limit c.args.now c.loop.counter old p (omega (arith, w.loop-test.false, c.loop.auto.counter-end)) so)
+    let by_draw : IsDrawOf c.args.now old (stored c.loop-test.client) = elim c.loop-test.branch [
+      | else-loop-test w ↦ subst (λ (x : _). IsDrawOf c.args.now old (stored x)) (sym w.client-is) (up_to_limit c.args.now c.loop.counter old p (omega (arith, w.loop-test.false, c.loop.auto.counter-end)) so)
       | then-loop-test+in_ok-sent+in_default w ↦
           let q = stored w.poll_transmit.new.self in
           let ok = w.in_ok-sent.ensures.ok in
           let is = subst (λ (o : Option (Transmit Data)). IsTransmitted p.core c.args.now (option_map sent_of o) q.core) w.in_default.is ok.0 in
-          subst (λ (x : _). IsDrawn c.args.now old (stored x)) (sym w.client-is) (up_to_nothing c.args.now c.loop.counter old p q early so (is, ok.1))
+          subst (λ (x : _). IsDrawOf c.args.now old (stored x)) (sym w.client-is) (up_to_nothing c.args.now c.loop.counter old p q early so (is, ok.1))
     ] in
-    polls c.args.now c.poll-answer.result old (stored c.loop-test.client) (stored c.poll-answer.new.self) early drawn c.poll-answer.ensures
+    polls c.args.now c.poll-answer.result old (stored c.loop-test.client) (stored c.poll-answer.new.self) early by_draw c.poll-answer.ensures
 
 pub returns-in_default-poll_event-clause-turn : goal.returns-in_default-poll_event-clause-turn
 returns-in_default-poll_event-clause-turn g c = λ other early.

@@ -33,9 +33,9 @@ module _ (h : Holder) (awaited : Option Requested) (older : List Requested) (a :
   -- Over TCP nothing is transmitted again.
   not_due : (now number : ℕ) (t : Transaction) → map.get p.agent.outstanding number ≡ Some t → is_due_of p.agent now t ≡ false
   not_due now number t there =
-      let asked = w.outstanding.only number t there in
-      ap (λ (x : Transaction). is_due (agents.is_tcp p.agent.transport) now x) asked.transaction_is
-      ∙ ap (λ (x : TransportType). is_due (agents.is_tcp x) now (transaction_of h.started asked.requested 1)) (w.settings.transport ∙ w.signs.over)
+      let request_made = w.outstanding.only number t there in
+      ap (λ (x : Transaction). is_due (agents.is_tcp p.agent.transport) now x) request_made.transaction_is
+      ∙ ap (λ (x : TransportType). is_due (agents.is_tcp x) now (transaction_of h.started request_made.requested 1)) (w.settings.transport ∙ w.signs.over)
 
   transmitted_fresh : (now : ℕ) (sent : Option Sent) (q : Protocol) → IsTransmitted p now sent q → IsFreshSent p now sent q
   transmitted_fresh now sent q (Again first is r) = clash (is_due_of p.agent now r.transaction) r.least.passes (not_due now r.number r.transaction r.least.present)

@@ -18,18 +18,18 @@ use Rattle.turn_client_proto_progress_laws.specs.TcpBinding.{IsTcpBinding, alloc
 use Rattle.turn_client_proto_progress_laws.specs.Resting.{IsResting}
 use Rattle.turn_client_proto_progress_laws.proofs.TcpBinding.Keeping.{tcp_binding_still}
 use Rattle.turn_client_proto_progress_laws.proofs.TcpBinding.Polled.{calm_waits}
-use Rattle.turn_desk_laws.specs.ConnectionRequests.{AreAsked, AreInTime}
+use Rattle.turn_desk_laws.specs.ConnectionRequests.{AreRequestsMade, AreInTime}
 use Rattle.turn_desk_laws.proofs.ConnectionCalm.{calm, none_wanted}
 use Rattle.turn_desk_laws.proofs.challenged_connects.holders_keep_still.Goals as goal
 
 -- `poll`, by whether an event is queued.
 waits : (h : Holder) (awaited : Option Requested) (older : List Requested) (permissions : List Permission) (pending : List PendingPermission) (connecting : List Connecting) (waiting : List Waiting) (connections : List Connection) (queue : List Queued) (last : ℕ) (events : List TurnEvent) (old new : Protocol) (now : ℕ) (ret : TurnPollRet)
-    → IsTcpBinding h awaited older (allocation_with h permissions pending connecting waiting connections) queue last events old → list_any is_answer queue ≡ false → IsResting h permissions now → AreAsked waiting → AreInTime now connections
+    → IsTcpBinding h awaited older (allocation_with h permissions pending connecting waiting connections) queue last events old → list_any is_answer queue ≡ false → IsResting h permissions now → AreRequestsMade waiting → AreInTime now connections
     → ((x : Requested) → IsListed x (all_requested awaited older) → now < end_of h.started x) → IsPolled old now ret new → (time : ℕ) × (ret ≡ WaitUntil time) × (new ≡ old)
-waits h awaited older permissions pending connecting waiting connections queue last [] old new now ret is none resting asked early lasts polled =
-    let w = calm_waits h awaited older (allocation_with h permissions pending connecting waiting connections) queue last old is now lasts none ret new (calm h permissions now resting pending connecting waiting connections asked early) polled in
+waits h awaited older permissions pending connecting waiting connections queue last [] old new now ret is none resting request_made early lasts polled =
+    let w = calm_waits h awaited older (allocation_with h permissions pending connecting waiting connections) queue last old is now lasts none ret new (calm h permissions now resting pending connecting waiting connections request_made early) polled in
     (w.time, w.answer_is, w.unchanged)
-waits h awaited older permissions pending connecting waiting connections queue last (event ∷ others) old new now ret is none resting asked early lasts polled =
+waits h awaited older permissions pending connecting waiting connections queue last (event ∷ others) old new now ret is none resting request_made early lasts polled =
     let w = holding_polled old event others is.events_are now ret new polled in
     (now, w.0, w.1)
 
@@ -38,5 +38,5 @@ returns-clause-still c = λ h awaited older permissions pending connecting waiti
     tcp_binding_still h awaited older (allocation_with h permissions pending connecting waiting connections) last events old is now sent new (none_wanted h permissions now resting pending connecting waiting connections) transmitted
 
 pub returns-clause-polled : goal.returns-clause-polled
-returns-clause-polled c = λ h awaited older permissions pending connecting waiting connections queue last events old new now ret is none resting asked early lasts polled.
-    waits h awaited older permissions pending connecting waiting connections queue last events old new now ret is none resting asked early lasts polled
+returns-clause-polled c = λ h awaited older permissions pending connecting waiting connections queue last events old new now ret is none resting request_made early lasts polled.
+    waits h awaited older permissions pending connecting waiting connections queue last events old new now ret is none resting request_made early lasts polled

@@ -55,7 +55,7 @@ module _ (c : goal.After-challenges_are_counted) (plan : Plan) (old w v : World)
           moves plan old w v target address lifetime since [] [] (λ h events p. HasHeld t h events p) (λ h events p. IsQueued plan target Permission (requested now t) h events p) s same core there s.events
               (record {
                 transaction_id = a.0;
-                asked = record {
+                request_made = record {
                   fits = a.1;
                   ids = a.0 ∷ [];
                   among = alone_among a.0;
@@ -99,7 +99,7 @@ module _ (c : goal.After-challenges_are_counted) (plan : Plan) (old w v : World)
         moves plan old w v target address lifetime since [] [] (λ h events p. IsPermitted target t h events p) (λ h events p. IsQueued plan target Connect (requested now t) h events p) s same core there s.events
         (record {
           transaction_id = a.0;
-          asked = record {
+          request_made = record {
             fits = a.1;
             ids = a.0 ∷ [];
             among = alone_among a.0;
@@ -140,14 +140,14 @@ module _ (c : goal.After-challenges_are_counted) (plan : Plan) (old w v : World)
     opened_by answer.Done after there same is =
         let mine = subst (λ (x : Socket5Tuple). IsSocketAnswered p target.number x target.peer (Some target.local) now (Ok tt) after.core) own_so is.core in
         let a = c.connections_are_joined.ensures.requested m (permitted_at target t.granted) target.number target.peer target.local t.sent s.events p after.core now s.client.is.is mine in
-        let kept : after.control ≡ control_at plan.client.transport [] = is.control
+        let stays_stored : after.control ≡ control_at plan.client.transport [] = is.control
         ∙ ap (λ (b : Bool). if b then replaced (control_at plan.client.transport []) else control_at plan.client.transport [])
         (ap (is_same_address target.local) s.client.is.is.settings.here ∙ apart_address target.local plan.client.here apart) in
         moves plan old w v target address lifetime since [] [] (λ h events q. IsWaiting plan target t connection socket peer h events q) (λ h events q. IsQueued plan target Bind (requested now t) h events q) s same after.core
-        (there ∙ ap Some (stays (control_at plan.client.transport []) after kept)) s.events
+        (there ∙ ap Some (stays (control_at plan.client.transport []) after stays_stored)) s.events
         (record {
           transaction_id = a.0;
-          asked = record {
+          request_made = record {
             fits = a.1;
             ids = a.0 ∷ [];
             among = alone_among a.0;

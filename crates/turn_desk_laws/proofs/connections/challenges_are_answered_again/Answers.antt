@@ -28,7 +28,7 @@ use Rattle.turn_desk_progress_laws.specs.Promises.{control_at, over}
 use Rattle.turn_desk_progress_laws.specs.Scripts.{Plan}
 use Rattle.turn_desk_progress_laws.proofs.Worlds.{DoHold, processed_on}
 use Rattle.turn_desk_laws.specs.ConnectionLoops.{Bind, Challenged, Connect, Method, Permission, Queued, Target, Timing, challenged}
-use Rattle.turn_desk_laws.specs.ConnectionPromises.{asked_for, from_of}
+use Rattle.turn_desk_laws.specs.ConnectionPromises.{request_made_for, from_of}
 use Rattle.turn_desk_laws.specs.ConnectionStages.{IsChallenged, IsHeldFor, IsQueued, IsStage, holder_at, own_head, permitted_at, request_at}
 use Rattle.turn_desk_laws.proofs.ConnectionAgain.{no_indication}
 use Rattle.turn_desk_laws.proofs.ConnectionChunks.{come, fed, from_server, never_lost, some_came, there_so}
@@ -50,7 +50,7 @@ module _ (c : goal.After-messages_reach_sockets) (plan : Plan) (old w v : World)
   -- The challenged request has the transaction ID under which it was stored.
   pub number_so : number_at request.bytes ≡ is.transmitted.transaction_id
   number_so = ap (λ (r : Sent). number_at r.bytes) is.transmitted.request_is
-      ∙ (c.holders_can_ask.ensures.signs h (asked_for target method) is.transmitted.transaction_id is.transmitted.asked.is.signs is.transmitted.asked.lawful (signs_so target method) is.transmitted.asked.fits).number_is
+      ∙ (c.holders_can_ask.ensures.signs h (request_made_for target method) is.transmitted.transaction_id is.transmitted.request_made.is.signs is.transmitted.request_made.lawful (signs_so target method) is.transmitted.request_made.fits).number_is
 
   -- The challenge that was stored is the one that came.
   pub nonce_so : (choice : IntegrityAlgorithm) (reported : ChallengeFields) → challenge_visible reply ≡ Some reported → (challenged_by h is.reported choice).standing.challenge.nonce ≡ reported.nonce
@@ -86,15 +86,15 @@ by_method : goal.After-messages_reach_sockets → (plan : Plan) (old w v : World
 by_method c plan old w v target address lifetime since t Permission request reply head bytes now ret tcp in_range sooner some all step s =
     let h = holder_at plan address lifetime since s.auth s.standing in
     let is = s.client.is in
-    let asked = is.transmitted.asked in
-    let k = processed_on (reach c plan old w v target address lifetime since t Permission request reply head bytes now ret tcp in_range some all step s) plan.client tcp.over w v s.client.core asked.is.settings head s.client.there bytes now ret in_range some
+    let request_made = is.transmitted.request_made in
+    let k = processed_on (reach c plan old w v target address lifetime since t Permission request reply head bytes now ret tcp in_range some all step s) plan.client tcp.over w v s.client.core request_made.is.settings head s.client.there bytes now ret in_range some
     (own_step c plan old w v target address lifetime since t Permission request reply head bytes now ret tcp in_range some all step s step) reply all is.message (no_indication reply is.reported is.challenge.visible) in
-    let a = c.challenged_permissions_go_again.ensures.challenged h (socket_ip target.peer) asked.ids is.transmitted.transaction_id t.made t.sent s.events s.client.core k.core reply now k.handled is.reported is.choice
-    asked.among asked.is (subst (λ (x : ℕ). x ≤ most_resends) (sym asked.counts) is.may) is.challenge is.can k.processed in
+    let a = c.challenged_permissions_go_again.ensures.challenged h (socket_ip target.peer) request_made.ids is.transmitted.transaction_id t.made t.sent s.events s.client.core k.core reply now k.handled is.reported is.choice
+    request_made.among request_made.is (subst (λ (x : ℕ). x ≤ most_resends) (sym request_made.counts) is.may) is.challenge is.can k.processed in
     stored c plan old w v target address lifetime since t Permission request reply head bytes now ret tcp in_range some all step s a.choice a.can (challenged Permission now request reply t) k.core k.there k.desk
     (record {
       transaction_id = a.transaction_id;
-      asked = record {
+      request_made = record {
         fits = a.fits;
         ids = a.all;
         among = a.among;
@@ -104,7 +104,7 @@ by_method c plan old w v target address lifetime since t Permission request repl
         lawful = a.lawful;
         apart = tt;
         is = a.is;
-        counts = a.counted ∙ ap (λ (x : ℕ). x + 1) asked.counts;
+        counts = a.counted ∙ ap (λ (x : ℕ). x + 1) request_made.counts;
         again = record {
           other = λ same. a.other (same ∙ number_so c plan old w v target address lifetime since t Permission request reply head bytes now ret tcp in_range some all step s);
           nonce = nonce_so c plan old w v target address lifetime since t Permission request reply head bytes now ret tcp in_range some all step s a.choice;
@@ -114,15 +114,15 @@ by_method c plan old w v target address lifetime since t Permission request repl
 by_method c plan old w v target address lifetime since t Connect request reply head bytes now ret tcp in_range sooner some all step s =
     let h = holder_at plan address lifetime since s.auth s.standing in
     let is = s.client.is in
-    let asked = is.transmitted.asked in
-    let k = processed_on (reach c plan old w v target address lifetime since t Connect request reply head bytes now ret tcp in_range some all step s) plan.client tcp.over w v s.client.core asked.is.settings head s.client.there bytes now ret in_range some
+    let request_made = is.transmitted.request_made in
+    let k = processed_on (reach c plan old w v target address lifetime since t Connect request reply head bytes now ret tcp in_range some all step s) plan.client tcp.over w v s.client.core request_made.is.settings head s.client.there bytes now ret in_range some
     (own_step c plan old w v target address lifetime since t Connect request reply head bytes now ret tcp in_range some all step s step) reply all is.message (no_indication reply is.reported is.challenge.visible) in
     let a = c.challenged_connects_go_again.ensures h (permitted_at target t.granted) target.peer is.transmitted.transaction_id t.made t.sent s.events s.client.core k.core reply now k.handled is.reported is.choice
-    (refl, tt) asked.is (subst (λ (x : ℕ). x ≤ most_resends) (sym asked.counts) is.may) is.challenge is.can k.processed in
+    (refl, tt) request_made.is (subst (λ (x : ℕ). x ≤ most_resends) (sym request_made.counts) is.may) is.challenge is.can k.processed in
     stored c plan old w v target address lifetime since t Connect request reply head bytes now ret tcp in_range some all step s a.choice a.can (challenged Connect now request reply t) k.core k.there k.desk
     (record {
       transaction_id = a.transaction_id;
-      asked = record {
+      request_made = record {
         fits = a.fits;
         ids = a.transaction_id ∷ [];
         among = alone_among a.transaction_id;
@@ -132,7 +132,7 @@ by_method c plan old w v target address lifetime since t Connect request reply h
         lawful = tt;
         apart = tt;
         is = a.is;
-        counts = a.counted ∙ ap (λ (x : ℕ). x + 1) asked.counts;
+        counts = a.counted ∙ ap (λ (x : ℕ). x + 1) request_made.counts;
         again = record {
           other = λ same. a.other (same ∙ number_so c plan old w v target address lifetime since t Connect request reply head bytes now ret tcp in_range some all step s);
           nonce = nonce_so c plan old w v target address lifetime since t Connect request reply head bytes now ret tcp in_range some all step s a.choice;
@@ -142,11 +142,11 @@ by_method c plan old w v target address lifetime since t Connect request reply h
 by_method c plan old w v target address lifetime since t Bind request reply head bytes now ret tcp in_range sooner some all step s =
     let h = holder_at plan address lifetime since s.auth s.standing in
     let is = s.client.is in
-    let asked = is.transmitted.asked in
+    let request_made = is.transmitted.request_made in
     let f = fed plan w v target address lifetime since t request head bytes now ret tcp in_range some step s.auth s.standing s.events s.client.core s.client.there is.transmitted in
     let whole : reply ≡ head ++ f.fed.came.bytes.now = all ∙ ap (λ (l : List ℕ). head ++ l) (sym f.fed.bytes_are) in
-    let taken = c.messages_reach_sockets.ensures.challenged h asked.older (permitted_at target t.granted) target.local target.peer target.number is.transmitted.transaction_id t.made t.sent head s.events (over (control_at plan.client.transport []) s.client.core) f.after f.fed.came now f.fed.took is.reported is.choice
-    asked.is asked.apart (come plan w v target address lifetime since t request head bytes now ret tcp in_range some step s.auth s.standing s.events s.client.core s.client.there is.transmitted)
+    let taken = c.messages_reach_sockets.ensures.challenged h request_made.older (permitted_at target t.granted) target.local target.peer target.number is.transmitted.transaction_id t.made t.sent head s.events (over (control_at plan.client.transport []) s.client.core) f.after f.fed.came now f.fed.took is.reported is.choice
+    request_made.is request_made.apart (come plan w v target address lifetime since t request head bytes now ret tcp in_range some step s.auth s.standing s.events s.client.core s.client.there is.transmitted)
     (from_server plan w v target address lifetime since t request head bytes now ret tcp in_range some step s.auth s.standing s.events s.client.core s.client.there is.transmitted)
     (some_came plan w v target address lifetime since t request head bytes now ret tcp in_range some step s.auth s.standing s.events s.client.core s.client.there is.transmitted)
     (subst (λ (l : List ℕ). refusal l ≡ None) whole is.message) (subst (λ (l : List ℕ). IsChallengeOf is.reported connection_bind_method is.transmitted.transaction_id l) whole is.challenge) is.can f.fed.received in
@@ -155,15 +155,15 @@ by_method c plan old w v target address lifetime since t Bind request reply head
           (there_so plan w v target address lifetime since t request head bytes now ret tcp in_range some step s.auth s.standing s.events s.client.core s.client.there is.transmitted k.5) f.desk
           (record {
             transaction_id = k.2;
-            asked = record {
+            request_made = record {
               fits = k.3;
               ids = k.2 ∷ [];
               among = alone_among k.2;
-              older = bind_request h target.number is.transmitted.transaction_id t.made ∷ asked.older;
-              since_oldest = λ x listed. oldest_of (bind_request h target.number is.transmitted.transaction_id t.made) asked.older t.oldest asked.made_later asked.since_oldest x listed;
+              older = bind_request h target.number is.transmitted.transaction_id t.made ∷ request_made.older;
+              since_oldest = λ x listed. oldest_of (bind_request h target.number is.transmitted.transaction_id t.made) request_made.older t.oldest request_made.made_later request_made.since_oldest x listed;
               made_later = sooner;
-              lawful = asked.lawful;
-              apart = asked.apart;
+              lawful = request_made.lawful;
+              apart = request_made.apart;
               is = k.4;
               counts = tt;
               again = record {

@@ -29,7 +29,7 @@ module _ (c : goal.After-messages_reach_sockets) (plan : Plan) (old w v : World)
       moves plan old w v target address lifetime since (own_head method head) (own_head method (head ++ bytes.items))
       (λ h events p. IsAnswered plan target method t request reply head h events p) (λ h events p. IsAnswered plan target method t request reply (head ++ bytes.items) h events p) s b.desk b.core b.there s.events
       (record {
-        transmitted = record { transaction_id = is.transmitted.transaction_id; asked = b.asked; request_is = is.transmitted.request_is };
+        transmitted = record { transaction_id = is.transmitted.transaction_id; request_made = b.request_made; request_is = is.transmitted.request_is };
         message = is.message;
         success = is.success;
         decodes = is.decodes;
@@ -45,7 +45,7 @@ module _ (c : goal.After-messages_reach_sockets) (plan : Plan) (old w v : World)
       moves plan old w v target address lifetime since (own_head method head) (own_head method (head ++ bytes.items))
       (λ h events p. IsChallenged plan old target method t request reply head h events p) (λ h events p. IsChallenged plan old target method t request reply (head ++ bytes.items) h events p) s b.desk b.core b.there s.events
       (record {
-        transmitted = record { transaction_id = is.transmitted.transaction_id; asked = b.asked; request_is = is.transmitted.request_is };
+        transmitted = record { transaction_id = is.transmitted.transaction_id; request_made = b.request_made; request_is = is.transmitted.request_is };
         message = is.message;
         reported = is.reported;
         challenge = is.challenge;

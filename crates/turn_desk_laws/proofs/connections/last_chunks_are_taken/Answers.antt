@@ -32,9 +32,9 @@ module _ (c : goal.After-messages_reach_sockets) (plan : Plan) (old w v : World)
   permission_taken all s =
       let h = holder_at plan address lifetime since s.auth s.standing in
       let is = s.client.is in
-      let asked = is.transmitted.asked in
-      let k = processed_on reach plan.client tcp.over w v s.client.core asked.is.settings head s.client.there bytes now ret in_range some (subst (λ (r : Sent). IsStep (ToClient bytes r.to r.from now) w ret v) is.transmitted.request_is step) reply all is.message (ap is_indication is.success.success) in
-      let ready = c.challenged_permissions_go_again.ensures.granted h (socket_ip target.peer) asked.ids is.transmitted.transaction_id t.made t.sent s.events s.client.core k.core reply now k.handled asked.among asked.is is.success k.processed in
+      let request_made = is.transmitted.request_made in
+      let k = processed_on reach plan.client tcp.over w v s.client.core request_made.is.settings head s.client.there bytes now ret in_range some (subst (λ (r : Sent). IsStep (ToClient bytes r.to r.from now) w ret v) is.transmitted.request_is step) reply all is.message (ap is_indication is.success.success) in
+      let ready = c.challenged_permissions_go_again.ensures.granted h (socket_ip target.peer) request_made.ids is.transmitted.transaction_id t.made t.sent s.events s.client.core k.core reply now k.handled request_made.among request_made.is is.success k.processed in
       moves plan old w v target address lifetime since head [] (λ h events p. IsAnswered plan target Permission t request reply head h events p) (λ h events p. IsPermitted target (permitted now t) h events p) s k.desk k.core k.there (s.events ++ PermissionCreated Tcp (socket_ip target.peer) ∷ [])
       (record { is = ready.0; counts = ready.1 })
 
@@ -42,26 +42,26 @@ module _ (c : goal.After-messages_reach_sockets) (plan : Plan) (old w v : World)
   connect_taken all s =
       let h = holder_at plan address lifetime since s.auth s.standing in
       let is = s.client.is in
-      let asked = is.transmitted.asked in
-      let k = processed_on reach plan.client tcp.over w v s.client.core asked.is.settings head s.client.there bytes now ret in_range some (subst (λ (r : Sent). IsStep (ToClient bytes r.to r.from now) w ret v) is.transmitted.request_is step) reply all is.message (ap is_indication is.success.success) in
-      let learned = c.connections_are_requested_for.ensures.learned h (permitted_at target t.granted) target.peer is.transmitted.transaction_id t.made t.sent target.number s.events s.client.core k.core reply now k.handled (refl, tt) asked.is is.success is.decodes k.processed in
+      let request_made = is.transmitted.request_made in
+      let k = processed_on reach plan.client tcp.over w v s.client.core request_made.is.settings head s.client.there bytes now ret in_range some (subst (λ (r : Sent). IsStep (ToClient bytes r.to r.from now) w ret v) is.transmitted.request_is step) reply all is.message (ap is_indication is.success.success) in
+      let learned = c.connections_are_requested_for.ensures.learned h (permitted_at target t.granted) target.peer is.transmitted.transaction_id t.made t.sent target.number s.events s.client.core k.core reply now k.handled (refl, tt) request_made.is is.success is.decodes k.processed in
       moves plan old w v target address lifetime since head [] (λ h events p. IsAnswered plan target Connect t request reply head h events p) (λ h events p. IsKnown target t h events p) s k.desk k.core k.there s.events learned.1
 
   bind_taken : (more : List ℕ) → head ++ bytes.items ≡ reply ++ more → IsStage plan old target address lifetime since (Answered Bind request reply head) t w → IsStage plan old target address lifetime since (Bound more) t v
   bind_taken more parts s =
       let h = holder_at plan address lifetime since s.auth s.standing in
       let is = s.client.is in
-      let asked = is.transmitted.asked in
+      let request_made = is.transmitted.request_made in
       let f = fed plan w v target address lifetime since t request head bytes now ret tcp in_range some step s.auth s.standing s.events s.client.core s.client.there is.transmitted in
-      let taken = c.messages_reach_sockets.ensures.bound h asked.older (permitted_at target t.granted) target.local target.peer target.number is.transmitted.transaction_id t.made t.sent head s.events (over (control_at plan.client.transport []) s.client.core) f.after f.fed.came now f.fed.took reply more
-      asked.is asked.apart (come plan w v target address lifetime since t request head bytes now ret tcp in_range some step s.auth s.standing s.events s.client.core s.client.there is.transmitted)
+      let taken = c.messages_reach_sockets.ensures.bound h request_made.older (permitted_at target t.granted) target.local target.peer target.number is.transmitted.transaction_id t.made t.sent head s.events (over (control_at plan.client.transport []) s.client.core) f.after f.fed.came now f.fed.took reply more
+      request_made.is request_made.apart (come plan w v target address lifetime since t request head bytes now ret tcp in_range some step s.auth s.standing s.events s.client.core s.client.there is.transmitted)
       (from_server plan w v target address lifetime since t request head bytes now ret tcp in_range some step s.auth s.standing s.events s.client.core s.client.there is.transmitted)
       (some_came plan w v target address lifetime since t request head bytes now ret tcp in_range some step s.auth s.standing s.events s.client.core s.client.there is.transmitted)
       is.message (ap (λ (l : List ℕ). head ++ l) f.fed.bytes_are ∙ parts) is.success f.fed.received in
       elim taken [
         | inl k ↦ moves plan old w v target address lifetime since [] [] (λ h events p. IsAnswered plan target Bind t request reply head h events p) (λ h events p. IsJoined target t more h events p) s f.desk f.after.core
             (there_so plan w v target address lifetime since t request head bytes now ret tcp in_range some step s.auth s.standing s.events s.client.core s.client.there is.transmitted k.1)
-            (s.events ++ TcpConnected target.peer ∷ []) (record { older = asked.older; since_oldest = asked.since_oldest; is = k.0 })
+            (s.events ++ TcpConnected target.peer ∷ []) (record { older = request_made.older; since_oldest = request_made.since_oldest; is = k.0 })
         | inr lost ↦ never_lost plan w v target address lifetime since t request head bytes now ret tcp in_range some step s.auth s.standing s.events s.client.core s.client.there is.transmitted lost
       ]
 

@@ -32,7 +32,7 @@ use Rattle.turn_desk_progress_laws.proofs.Indexes.{first_fits}
 use Rattle.turn_desk_progress_laws.proofs.Worlds.{event_called}
 use Rattle.turn_desk_laws.specs.ConnectionLoops.{Answered, Bind, Bound, Challenged, Clear, Connect, Held, IsUnbound, Known, Method, Off, Permission}
 use Rattle.turn_desk_laws.specs.ConnectionLoops.{Permitted, Queued, Reached, Target, Timing, Transmitted, Unpermitted, Waiting, after_look, emptied}
-use Rattle.turn_desk_laws.specs.ConnectionStages.{HasHeld, IsAnswered, IsAsked, IsChallenged, IsClear, IsHeldFor, IsJoined, IsKnown, IsPermitted, IsQueued, IsStage, IsTransmitted, IsWaiting, earlier_of, holder_at, own_head, queued_at}
+use Rattle.turn_desk_laws.specs.ConnectionStages.{HasHeld, IsAnswered, IsRequestMade, IsChallenged, IsClear, IsHeldFor, IsJoined, IsKnown, IsPermitted, IsQueued, IsStage, IsTransmitted, IsWaiting, earlier_of, holder_at, own_head, queued_at}
 use Rattle.turn_desk_laws.proofs.ConnectionTools.{asked_on, moves}
 use Rattle.turn_desk_laws.proofs.connections.looks_change_nothing.Goals as goal
 
@@ -54,8 +54,8 @@ module _ (c : goal.After-connections_are_listed) (plan : Plan) (old w v : World)
   counted : (p q : Protocol) (event : Option TurnEvent) → IsEventTaken p event q → q.resends ≡ p.resends
   counted p q event taken = ap (λ (x : Protocol). x.resends) taken.others
 
-  asked_looks : (method : Method) (queue : List QueuedMessage) (head : List ℕ) (h : Holder) (events : List TurnEvent) (p q : Protocol) (event : Option TurnEvent) (n : ℕ) → IsAsked plan target method t queue head h events p n → IsEventTaken p event q
-      → (left : List TurnEvent) × IsAsked plan target method t queue head h left q n
+  asked_looks : (method : Method) (queue : List QueuedMessage) (head : List ℕ) (h : Holder) (events : List TurnEvent) (p q : Protocol) (event : Option TurnEvent) (n : ℕ) → IsRequestMade plan target method t queue head h events p n → IsEventTaken p event q
+      → (left : List TurnEvent) × IsRequestMade plan target method t queue head h left q n
   asked_looks method queue head h events p q event n is taken =
       let d = decodes h _ (earlier_of method is.older) _ queue t.sent events p q event is.is taken in
       (d.0, asked_on plan target method t queue queue head head h events d.0 p q n is (counted p q event taken) d.2)
@@ -108,14 +108,14 @@ module _ (c : goal.After-connections_are_listed) (plan : Plan) (old w v : World)
       let d = decodes h None [] _ [] t.sent events p q event is.is taken in (d.0, record { is = d.2; counts = counted p q event taken ∙ is.counts })))
   looks_at in_range what look step Unpermitted s = s
   looks_at in_range what look step (Queued method) s = looked what look step [] (λ h events p. IsQueued plan target method t h events p) s (λ h events p q event is taken. (
-      let d = asked_looks method (queued_at plan target method h t is.transaction_id) [] h events p q event is.transaction_id is.asked taken in (d.0, record { transaction_id = is.transaction_id; asked = d.1 })))
+      let d = asked_looks method (queued_at plan target method h t is.transaction_id) [] h events p q event is.transaction_id is.request_made taken in (d.0, record { transaction_id = is.transaction_id; request_made = d.1 })))
   looks_at in_range what look step (Transmitted method request) s = looked what look step [] (λ h events p. IsTransmitted plan target method t request [] h events p) s (λ h events p q event is taken. (
-      let d = asked_looks method [] [] h events p q event is.transaction_id is.asked taken in (d.0, record { transaction_id = is.transaction_id; asked = d.1; request_is = is.request_is })))
+      let d = asked_looks method [] [] h events p q event is.transaction_id is.request_made taken in (d.0, record { transaction_id = is.transaction_id; request_made = d.1; request_is = is.request_is })))
   looks_at in_range what look step (Answered method request reply head) s = looked what look step (own_head method head) (λ h events p. IsAnswered plan target method t request reply head h events p) s (λ h events p q event is taken. (
-      let d = asked_looks method [] head h events p q event is.transmitted.transaction_id is.transmitted.asked taken in (
+      let d = asked_looks method [] head h events p q event is.transmitted.transaction_id is.transmitted.request_made taken in (
         d.0,
         record {
-          transmitted = record { transaction_id = is.transmitted.transaction_id; asked = d.1; request_is = is.transmitted.request_is };
+          transmitted = record { transaction_id = is.transmitted.transaction_id; request_made = d.1; request_is = is.transmitted.request_is };
           message = is.message;
           success = is.success;
           decodes = is.decodes;
@@ -123,10 +123,10 @@ module _ (c : goal.After-connections_are_listed) (plan : Plan) (old w v : World)
         },
       )))
   looks_at in_range what look step (Challenged method request reply head) s = looked what look step (own_head method head) (λ h events p. IsChallenged plan old target method t request reply head h events p) s (λ h events p q event is taken. (
-      let d = asked_looks method [] head h events p q event is.transmitted.transaction_id is.transmitted.asked taken in (
+      let d = asked_looks method [] head h events p q event is.transmitted.transaction_id is.transmitted.request_made taken in (
         d.0,
         record {
-          transmitted = record { transaction_id = is.transmitted.transaction_id; asked = d.1; request_is = is.transmitted.request_is };
+          transmitted = record { transaction_id = is.transmitted.transaction_id; request_made = d.1; request_is = is.transmitted.request_is };
           message = is.message;
           reported = is.reported;
           challenge = is.challenge;
@@ -166,7 +166,7 @@ module _ (c : goal.After-connections_are_listed) (plan : Plan) (old w v : World)
     gives_none : (head message : List ℕ) → IsPartOf head message → (p : Protocol) → w.client ≡ Some (over (control_at plan.client.transport head) p) → raw_waiting p ≡ None → Rests ret w v
     gives_none head message part p at none = waiting_rests wait plan.client w v p head message now ret at none part step
 
-    asked_none : (method : Method) (queue : List QueuedMessage) (head : List ℕ) (h : Holder) (events : List TurnEvent) (p : Protocol) (n : ℕ) → IsAsked plan target method t queue head h events p n → raw_waiting p ≡ None
+    asked_none : (method : Method) (queue : List QueuedMessage) (head : List ℕ) (h : Holder) (events : List TurnEvent) (p : Protocol) (n : ℕ) → IsRequestMade plan target method t queue head h events p n → raw_waiting p ≡ None
     asked_none Permission queue head h events p n is = c.connections_are_listed.ensures.none_waits h _ [] [] _ [] [] queue t.sent events p is.is
     asked_none Connect queue head h events p n is = c.connections_are_listed.ensures.none_waits h _ [] _ [] _ [] queue t.sent events p is.is
     asked_none Bind queue head h events p n is = c.connections_are_listed.ensures.joining_none h _ is.older _ target.local target.peer target.number n t.made t.sent head queue events p is.is
@@ -182,16 +182,16 @@ module _ (c : goal.After-connections_are_listed) (plan : Plan) (old w v : World)
     receives_at Unpermitted at s = s
     receives_at (Queued method) at s =
         let h = holder_at plan address lifetime since s.auth s.standing in
-        rested (Queued method) s (gives_none [] _ started s.client.core s.client.there (asked_none method (queued_at plan target method h t s.client.is.transaction_id) [] h s.events s.client.core s.client.is.transaction_id s.client.is.asked))
+        rested (Queued method) s (gives_none [] _ started s.client.core s.client.there (asked_none method (queued_at plan target method h t s.client.is.transaction_id) [] h s.events s.client.core s.client.is.transaction_id s.client.is.request_made))
     receives_at (Transmitted method request) at s =
         let h = holder_at plan address lifetime since s.auth s.standing in
-        rested (Transmitted method request) s (gives_none [] _ started s.client.core s.client.there (asked_none method [] [] h s.events s.client.core s.client.is.transaction_id s.client.is.asked))
+        rested (Transmitted method request) s (gives_none [] _ started s.client.core s.client.there (asked_none method [] [] h s.events s.client.core s.client.is.transaction_id s.client.is.request_made))
     receives_at (Answered method request reply head) at s =
         let h = holder_at plan address lifetime since s.auth s.standing in
-        rested (Answered method request reply head) s (own_part method head reply s.client.is.part s.client.core s.client.there (asked_none method [] head h s.events s.client.core s.client.is.transmitted.transaction_id s.client.is.transmitted.asked))
+        rested (Answered method request reply head) s (own_part method head reply s.client.is.part s.client.core s.client.there (asked_none method [] head h s.events s.client.core s.client.is.transmitted.transaction_id s.client.is.transmitted.request_made))
     receives_at (Challenged method request reply head) at s =
         let h = holder_at plan address lifetime since s.auth s.standing in
-        rested (Challenged method request reply head) s (own_part method head reply s.client.is.part s.client.core s.client.there (asked_none method [] head h s.events s.client.core s.client.is.transmitted.transaction_id s.client.is.transmitted.asked))
+        rested (Challenged method request reply head) s (own_part method head reply s.client.is.part s.client.core s.client.there (asked_none method [] head h s.events s.client.core s.client.is.transmitted.transaction_id s.client.is.transmitted.request_made))
     receives_at Permitted at s = rested Permitted s (gives_none [] _ started s.client.core s.client.there (c.connections_are_listed.ensures.none_waits _ _ _ _ _ _ _ _ _ _ _ s.client.is.is))
     receives_at Known at s = rested Known s (gives_none [] _ started s.client.core s.client.there (c.connections_are_listed.ensures.none_waits _ _ _ _ _ _ _ _ _ _ _ s.client.is))
     receives_at Clear at s = rested Clear s (gives_none [] _ started s.client.core s.client.there (c.connections_are_listed.ensures.none_waits _ _ _ _ _ _ _ _ _ _ _ s.client.is.is))

@@ -20,16 +20,16 @@ module _ (c : goal.After-events_of_connections_lead_on) (plan : Plan) (old : Wor
       all run.0 new is.0 last pairs (c.events_of_connections_lead_on.ensures.events plan old w run.0 target address lifetime since position is.0 pair.0 pair.1 may tcp is.1 at run.1).0 run.2 is.2
 
 pub returns-clause-promised : goal.returns-clause-promised
-returns-clause-promised c = λ plan old one new first pairs begun request address lifetime reply target position may tcp reports run loop done more is.
-    let begins = c.loops_hold.ensures plan old one first begun request address lifetime reply target may tcp reports run loop done in
-    c.events_of_connections_lead_on.ensures.promised plan old new target address lifetime begun.timing.came position (all c plan old may tcp target address lifetime begun.timing.came one new _ position pairs begins more is)
+returns-clause-promised c = λ plan old one new first pairs loop_end request address lifetime reply target position may tcp reports run loop done more is.
+    let begins = c.loops_hold.ensures plan old one first loop_end request address lifetime reply target may tcp reports run loop done in
+    c.events_of_connections_lead_on.ensures.promised plan old new target address lifetime loop_end.timing.came position (all c plan old may tcp target address lifetime loop_end.timing.came one new _ position pairs begins more is)
 
 pub returns-clause-given : goal.returns-clause-given
-returns-clause-given c = λ plan old one w v first pairs begun request address lifetime reply target position next event ret may tcp reports run loop done more is leads step.
-    let begins = c.loops_hold.ensures plan old one first begun request address lifetime reply target may tcp reports run loop done in
-    (c.events_of_connections_lead_on.ensures.events plan old w v target address lifetime begun.timing.came position next event ret may tcp leads
-    (all c plan old may tcp target address lifetime begun.timing.came one w _ position pairs begins more is) step).1
+returns-clause-given c = λ plan old one w v first pairs loop_end request address lifetime reply target position next event ret may tcp reports run loop done more is leads step.
+    let begins = c.loops_hold.ensures plan old one first loop_end request address lifetime reply target may tcp reports run loop done in
+    (c.events_of_connections_lead_on.ensures.events plan old w v target address lifetime loop_end.timing.came position next event ret may tcp leads
+    (all c plan old may tcp target address lifetime loop_end.timing.came one w _ position pairs begins more is) step).1
 
 pub returns-clause-occurs : goal.returns-clause-occurs
-returns-clause-occurs c = λ plan old one new first pairs begun request address lifetime reply target position may tcp reports run loop done more is.
-    all c plan old may tcp target address lifetime begun.timing.came one new _ position pairs (c.loops_hold.ensures plan old one first begun request address lifetime reply target may tcp reports run loop done) more is
+returns-clause-occurs c = λ plan old one new first pairs loop_end request address lifetime reply target position may tcp reports run loop done more is.
+    all c plan old may tcp target address lifetime loop_end.timing.came one new _ position pairs (c.loops_hold.ensures plan old one first loop_end request address lifetime reply target may tcp reports run loop done) more is

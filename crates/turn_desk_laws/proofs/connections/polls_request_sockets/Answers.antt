@@ -28,7 +28,7 @@ use Rattle.turn_desk_progress_laws.proofs.Worlds.{poll_called}
 use Rattle.turn_desk_laws.specs.ConnectionLoops.{Answered, Bind, Bound, Challenged, Clear, Connect, Held, IsPending, IsQuiet, IsQuietFor, Known, MayPoll, Method, Off, Permission}
 use Rattle.turn_desk_laws.specs.ConnectionLoops.{Permitted, Queued, Reached, Target, Timing, Transmitted, Unpermitted, Waiting, after_poll, polled}
 use Rattle.turn_desk_laws.specs.ConnectionPromises.{IsPolledAt, Requests}
-use Rattle.turn_desk_laws.specs.ConnectionStages.{IsAsked, IsClear, IsHeldFor, IsKnown, IsStage, IsWaiting, earlier_of, holder_at, own_head, permitted_at, queued_at, request_at}
+use Rattle.turn_desk_laws.specs.ConnectionStages.{IsRequestMade, IsClear, IsHeldFor, IsKnown, IsStage, IsWaiting, earlier_of, holder_at, own_head, permitted_at, queued_at, request_at}
 use Rattle.turn_desk_laws.proofs.ConnectionTools.{given_up_later, moves}
 use Rattle.turn_desk_laws.proofs.connections.polls_request_sockets.Goals as goal
 
@@ -94,8 +94,8 @@ module _ (c : goal.After-connections_are_requested_for) (plan : Plan) (old w v :
 
   -- ---- where nothing changes
 
-  kept : (reached : Reached) → Stage reached w → Rests ret w v → Stage reached v
-  kept reached s r = subst (λ (x : World). Stage reached x) (sym r.same) s
+  stays_stored : (reached : Reached) → Stage reached w → Rests ret w v → Stage reached v
+  stays_stored reached s r = subst (λ (x : World). Stage reached x) (sym r.same) s
 
   rests_at : (head : List ℕ) (p : Protocol) → w.client ≡ Some (over (control_at plan.client.transport head) p) → ((r : TurnPollRet) (q : Protocol) → IsPolled p now r q → q ≡ p) → Rests ret w v
   rests_at head p at none = poll_rests (control_at plan.client.transport head) w v p now ret at none step
@@ -115,7 +115,7 @@ module _ (c : goal.After-connections_are_requested_for) (plan : Plan) (old w v :
   lasts one older before sooner since x (inr listed) = given_up_later t.oldest x.made plan.client.config.waits now (since x listed) before
 
   asked_polled : (method : Method) (auth : Client) (standing : Standing) (queue : List QueuedMessage) (head : List ℕ) (events : List TurnEvent) (p : Protocol) (n : ℕ) → list_any is_answer queue ≡ false → IsQuietFor lifetime since method t now → IsPending plan method t now
-      → IsAsked plan target method t queue head (holder_at plan address lifetime since auth standing) events p n → (r : TurnPollRet) (q : Protocol) → IsPolled p now r q → q ≡ p
+      → IsRequestMade plan target method t queue head (holder_at plan address lifetime since auth standing) events p n → (r : TurnPollRet) (q : Protocol) → IsPolled p now r q → q ≡ p
   asked_polled Permission auth standing queue head events p n none quiet pending is r q polled_is =
       let h = holder_at plan address lifetime since auth standing in
       (c.holders_keep_still.ensures.polled h _ [] [] _ [] [] [] queue t.sent events p q now r is.is none (bare h refl refl quiet) tt tt
@@ -132,20 +132,20 @@ module _ (c : goal.After-connections_are_requested_for) (plan : Plan) (old w v :
   by_reached : (reached : Reached) → MayPoll plan lifetime since reached t now → Stage reached w → After reached
   by_reached Held quiet s =
       let h = holder_at plan address lifetime since s.auth s.standing in
-      (kept Held s (rests_at [] s.client.core s.client.there (λ r q is. (c.holders_keep_still.ensures.polled h None [] [] [] [] [] [] [] t.sent s.events s.client.core q now r s.client.is.is refl (bare h refl refl quiet) tt tt none_listed is).2)), tt)
+      (stays_stored Held s (rests_at [] s.client.core s.client.there (λ r q is. (c.holders_keep_still.ensures.polled h None [] [] [] [] [] [] [] t.sent s.events s.client.core q now r s.client.is.is refl (bare h refl refl quiet) tt tt none_listed is).2)), tt)
   by_reached Unpermitted quiet s = (s, tt)
   by_reached (Queued method) quiet s =
       let h = holder_at plan address lifetime since s.auth s.standing in
-      (kept (Queued method) s (rests_at [] s.client.core s.client.there (asked_polled method s.auth s.standing (queued_at plan target method h t s.client.is.transaction_id) [] s.events s.client.core s.client.is.transaction_id refl quiet.0 quiet.1 s.client.is.asked)), tt)
+      (stays_stored (Queued method) s (rests_at [] s.client.core s.client.there (asked_polled method s.auth s.standing (queued_at plan target method h t s.client.is.transaction_id) [] s.events s.client.core s.client.is.transaction_id refl quiet.0 quiet.1 s.client.is.request_made)), tt)
   by_reached (Transmitted method request) quiet s =
-      (kept (Transmitted method request) s (rests_at [] s.client.core s.client.there (asked_polled method s.auth s.standing [] [] s.events s.client.core s.client.is.transaction_id refl quiet.0 quiet.1 s.client.is.asked)), tt)
+      (stays_stored (Transmitted method request) s (rests_at [] s.client.core s.client.there (asked_polled method s.auth s.standing [] [] s.events s.client.core s.client.is.transaction_id refl quiet.0 quiet.1 s.client.is.request_made)), tt)
   by_reached (Answered method request reply head) quiet s =
-      (kept (Answered method request reply head) s (rests_at (own_head method head) s.client.core s.client.there (asked_polled method s.auth s.standing [] head s.events s.client.core s.client.is.transmitted.transaction_id refl quiet.0 quiet.1 s.client.is.transmitted.asked)), tt)
+      (stays_stored (Answered method request reply head) s (rests_at (own_head method head) s.client.core s.client.there (asked_polled method s.auth s.standing [] head s.events s.client.core s.client.is.transmitted.transaction_id refl quiet.0 quiet.1 s.client.is.transmitted.request_made)), tt)
   by_reached (Challenged method request reply head) quiet s =
-      (kept (Challenged method request reply head) s (rests_at (own_head method head) s.client.core s.client.there (asked_polled method s.auth s.standing [] head s.events s.client.core s.client.is.transmitted.transaction_id refl quiet.0 quiet.1 s.client.is.transmitted.asked)), tt)
+      (stays_stored (Challenged method request reply head) s (rests_at (own_head method head) s.client.core s.client.there (asked_polled method s.auth s.standing [] head s.events s.client.core s.client.is.transmitted.transaction_id refl quiet.0 quiet.1 s.client.is.transmitted.request_made)), tt)
   by_reached Permitted quiet s =
       let h = holder_at plan address lifetime since s.auth s.standing in
-      (kept Permitted s (rests_at [] s.client.core s.client.there (λ r q is. (c.holders_keep_still.ensures.polled h None [] (permitted_at target t.granted) [] [] [] [] [] t.sent s.events s.client.core q now r s.client.is.is refl (with_permission h refl refl quiet) tt tt none_listed is).2)), tt)
+      (stays_stored Permitted s (rests_at [] s.client.core s.client.there (λ r q is. (c.holders_keep_still.ensures.polled h None [] (permitted_at target t.granted) [] [] [] [] [] t.sent s.events s.client.core q now r s.client.is.is refl (with_permission h refl refl quiet) tt tt none_listed is).2)), tt)
   by_reached Known quiet s =
       let on = poll_called (control_at plan.client.transport []) w v s.client.core now ret s.client.there in_range step in
       known_polled s on.core on.there on.desk on.reported s.events refl
@@ -155,10 +155,10 @@ module _ (c : goal.After-connections_are_requested_for) (plan : Plan) (old w v :
       none_polled k on.core on.there on.desk Off ret s.client.is.none on.reported
   by_reached (Waiting connection socket peer) quiet s =
       let h = holder_at plan address lifetime since s.auth s.standing in
-      (kept (Waiting connection socket peer) s (rests_at [] s.client.core s.client.there (λ r q is. (c.holders_keep_still.ensures.polled h None [] (permitted_at target t.granted) [] [] _ [] [] t.sent s.events s.client.core q now r s.client.is.is refl (with_permission h refl refl quiet) (refl, tt) tt none_listed is).2)), tt)
+      (stays_stored (Waiting connection socket peer) s (rests_at [] s.client.core s.client.there (λ r q is. (c.holders_keep_still.ensures.polled h None [] (permitted_at target t.granted) [] [] _ [] [] t.sent s.events s.client.core q now r s.client.is.is refl (with_permission h refl refl quiet) (refl, tt) tt none_listed is).2)), tt)
   by_reached (Bound more) quiet s =
       let h = holder_at plan address lifetime since s.auth s.standing in (
-        kept (Bound more) s (rests_at [] s.client.core s.client.there (λ r q is. (c.holders_keep_still.ensures.polled h None s.client.is.older (permitted_at target t.granted) [] [] [] _ [] t.sent s.events s.client.core q now r s.client.is.is refl (with_permission h refl refl quiet.0) tt (tt, tt)
+        stays_stored (Bound more) s (rests_at [] s.client.core s.client.there (λ r q is. (c.holders_keep_still.ensures.polled h None s.client.is.older (permitted_at target t.granted) [] [] [] _ [] t.sent s.events s.client.core q now r s.client.is.is refl (with_permission h refl refl quiet.0) tt (tt, tt)
             (λ x listed. given_up_later t.oldest x.made plan.client.config.waits now (s.client.is.since_oldest x listed) quiet.1) is).2)),
         tt,
       )

@@ -29,8 +29,8 @@ use Rattle.turn_desk_progress_laws.proofs.Coming.{none_yet}
 use Rattle.turn_desk_progress_laws.proofs.Successes.{shows_number}
 use Rattle.turn_desk_progress_laws.proofs.Worlds.{IsServedOn, served_on}
 use Rattle.turn_desk_laws.specs.ConnectionLoops.{Answered, Bind, Challenged, Connect, IsDecided, MayChallenge, Method, Permission, Target, Timing, Transmitted}
-use Rattle.turn_desk_laws.specs.ConnectionPromises.{asked_for, from_of, number_of}
-use Rattle.turn_desk_laws.specs.ConnectionStages.{HasConnectionId, IsAnswered, IsAsked, IsChallenged, IsHeldFor, IsSameServer, IsStage, IsTransmitted, ReportsFirst, holder_at, own_head, request_at}
+use Rattle.turn_desk_laws.specs.ConnectionPromises.{request_made_for, from_of, number_of}
+use Rattle.turn_desk_laws.specs.ConnectionStages.{HasConnectionId, IsAnswered, IsRequestMade, IsChallenged, IsHeldFor, IsSameServer, IsStage, IsTransmitted, ReportsFirst, holder_at, own_head, request_at}
 use Rattle.turn_desk_laws.proofs.ConnectionTools.{answered, error_so, is_method, message_so, method_so, part_so, reports_from, request_so, server_step, signs_so, stays_so, success_so}
 use Rattle.turn_desk_laws.proofs.connections.requests_are_replied_to.Goals as goal
 
@@ -42,11 +42,11 @@ module _ (c : goal.After-holders_can_ask) (plan : Plan) (old w v : World) (targe
   abbrev n : ℕ
   n = s.client.is.transaction_id
 
-  abbrev asked : IsAsked plan target method t [] [] h s.events s.client.core n
-  asked = s.client.is.asked
+  abbrev request_made : IsRequestMade plan target method t [] [] h s.events s.client.core n
+  request_made = s.client.is.request_made
 
   abbrev what : TurnRequest
-  what = asked_for target method
+  what = request_made_for target method
 
   abbrev from : SocketAddr
   from = from_of plan target method
@@ -61,11 +61,11 @@ module _ (c : goal.After-holders_can_ask) (plan : Plan) (old w v : World) (targe
   step = subst (λ (r : Sent). IsStep (ToDesk bytes r.from now decision seed) w (answer.Reply reply) v) s.client.is.request_is given
 
   signed : IsSignedBy h what n text
-  signed = c.holders_can_ask.ensures.signs h what n asked.is.signs asked.lawful (signs_so target method) asked.fits
+  signed = c.holders_can_ask.ensures.signs h what n request_made.is.signs request_made.lawful (signs_so target method) request_made.fits
 
   method_is : method_of (kind_at text) ≡ number_of method
   method_is =
-      ap method_of (c.proof_requests_are_read.ensures.read h.auth what n asked.is.signs.short asked.lawful asked.fits).kind
+      ap method_of (c.proof_requests_are_read.ensures.read h.auth what n request_made.is.signs.short request_made.lawful request_made.fits).kind
       ∙ (ap (λ (x : ℕ). method_of (type_of RequestClass x)) (method_so target method) ∙ request_so method)
 
   abbrev Was : Holder → List TurnEvent → Protocol → Type 0

@@ -17,8 +17,8 @@ use Rattle.turn_desk_world_laws.specs.World.Model.{World}
 use Rattle.turn_desk_progress_laws.specs.Linked.{Asks, IsSigned}
 use Rattle.turn_desk_progress_laws.specs.Scripts.{Plan}
 use Rattle.turn_desk_laws.specs.ConnectionLoops.{Bind, Challenge, Connect, Method, Permission, Target, Timing, Transmitted}
-use Rattle.turn_desk_laws.specs.ConnectionPromises.{CanCarry, IsAnew, IsOther, IsRequest, asked_for, from_of, number_of}
-use Rattle.turn_desk_laws.specs.ConnectionStages.{HasStored, IsAsked, IsStage, IsTransmitted, holder_at, request_at}
+use Rattle.turn_desk_laws.specs.ConnectionPromises.{CanCarry, IsAnew, IsOther, IsRequest, request_made_for, from_of, number_of}
+use Rattle.turn_desk_laws.specs.ConnectionStages.{HasStored, IsRequestMade, IsStage, IsTransmitted, holder_at, request_at}
 use Rattle.turn_desk_laws.proofs.ConnectionTools.{method_so, request_so, signs_so}
 use Rattle.turn_desk_laws.proofs.connections.transmitted_requests_are_signed.Goals as goal
 
@@ -30,18 +30,18 @@ module _ (c : goal.After-holders_can_ask) (plan : Plan) (old w : World) (target 
   abbrev n : ℕ
   n = s.client.is.transaction_id
 
-  abbrev asked : IsAsked plan target method t [] [] h s.events s.client.core n
-  asked = s.client.is.asked
+  abbrev request_made : IsRequestMade plan target method t [] [] h s.events s.client.core n
+  request_made = s.client.is.request_made
 
   abbrev what : TurnRequest
-  what = asked_for target method
+  what = request_made_for target method
 
   k : IsSignedBy h what n (request_at target method h t n).bytes
-  k = c.holders_can_ask.ensures.signs h what n asked.is.signs asked.lawful (signs_so target method) asked.fits
+  k = c.holders_can_ask.ensures.signs h what n request_made.is.signs request_made.lawful (signs_so target method) request_made.fits
 
   signed : IsSigned plan old (from_of plan target method) (number_of method) request
   signed =
-      let read = c.proof_requests_are_read.ensures.read h.auth what n asked.is.signs.short asked.lawful asked.fits in
+      let read = c.proof_requests_are_read.ensures.read h.auth what n request_made.is.signs.short request_made.lawful request_made.fits in
       subst (λ (r : Sent). IsSigned plan old (from_of plan target method) (number_of method) r) (sym s.client.is.request_is) (record {
         transport = refl;
         from = refl;
@@ -55,7 +55,7 @@ module _ (c : goal.After-holders_can_ask) (plan : Plan) (old w : World) (target 
             (subst (λ (x : NameAndPassword). IsRight (request_at target method h t n).bytes (account_key x s.standing.challenge.realm s.standing.challenge.choice)) s.of.account k.valid);
       })
 
-  readable : (m : Method) → CanCarry target m → CanBeRead (asked_for target m) n
+  readable : (m : Method) → CanCarry target m → CanBeRead (request_made_for target m) n
   readable Permission carries = tt
   readable Connect carries = c.addresses_are_read_back.ensures n target.peer carries.own carries.flow carries.scope
   readable Bind carries = tt
@@ -74,7 +74,7 @@ module _ (c : goal.After-holders_can_ask) (plan : Plan) (old w : World) (target 
   }
 
   pub request_so_far : IsRequest plan old target method t request
-  request_so_far = record { signed = signed; asks = asks_so; anew = anew_so t.again asked.again }
+  request_so_far = record { signed = signed; asks = asks_so; anew = anew_so t.again request_made.again }
 
 pub returns : goal.returns
 returns c = λ plan old w target address lifetime since t method request s. request_so_far c plan old w target address lifetime since t method request s

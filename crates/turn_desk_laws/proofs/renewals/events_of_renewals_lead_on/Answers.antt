@@ -10,7 +10,7 @@ use Rattle.turn_desk_world_laws.specs.World.Model.{World}
 use Rattle.turn_desk_world_laws.specs.World.Runs.{IsStep}
 use Rattle.turn_desk_progress_laws.specs.Loops.{MayBegin}
 use Rattle.turn_desk_progress_laws.specs.Scripts.{Plan}
-use Rattle.turn_desk_laws.specs.RenewalLoops.{Challenged, Challenges, Draws, GivesChallenge, GivesSuccess, Grants, Holding, IsDrawnAt, IsDrawnBy, IsInTime, Looks, Polls, Receives, Refreshing, Renewal, RenewalPosition, Renewing, Renews, Turned, counted_draw, drawn_by, turned_next}
+use Rattle.turn_desk_laws.specs.RenewalLoops.{Challenged, Challenges, Draws, GivesChallenge, GivesSuccess, Grants, Holding, IsDrawAt, IsDrawBy, IsInTime, Looks, Polls, Receives, Refreshing, Renewal, RenewalPosition, Renewing, Renews, Turned, counted_draw, by_draw_of, turned_next}
 use Rattle.turn_desk_laws.specs.RenewalStages.{IsAtRenewal, IsStageAt}
 use Rattle.turn_desk_laws.proofs.RenewalWorlds.{stage_on}
 use Rattle.turn_desk_laws.proofs.renewals.events_of_renewals_lead_on.Goals as goal
@@ -21,7 +21,7 @@ same_progress plan now p _ = refl
 
 module _ (c : goal.After-late_challenges_are_taken) (plan : Plan) (old : World) (may : MayBegin plan old) (w v : World) (address : SocketAddr) (secondly : Sent) (p next : RenewalPosition) (event : Event) (ret : Answer) (is : IsAtRenewal plan old address secondly p w) where
   abbrev After : RenewalPosition → Event → Type 0
-  After to happening = IsAtRenewal plan old address secondly to v × IsDrawnBy plan old secondly p happening ret
+  After to happening = IsAtRenewal plan old address secondly to v × IsDrawBy plan old secondly p happening ret
 
   -- With the event and the next position as a constructor has them.
   as_said : (happening : Event) (to : RenewalPosition) → event ≡ happening → next ≡ to → (IsStep happening w ret v → After to happening) → IsStep event w ret v → After next event
@@ -41,32 +41,32 @@ module _ (c : goal.After-late_challenges_are_taken) (plan : Plan) (old : World) 
     q = counted_draw plan now ret p
 
     abbrev Drawn : Renewal → Type 0
-    Drawn progress = IsStageAt plan old address secondly (drawn_by plan now ret progress p).progress (drawn_by plan now ret progress p) v × IsDrawnAt plan old secondly progress p now ret
+    Drawn progress = IsStageAt plan old address secondly (by_draw_of plan now ret progress p).progress (by_draw_of plan now ret progress p) v × IsDrawAt plan old secondly progress p now ret
 
     -- A request stays outstanding.
     outstanding : (progress : Renewal) → p.progress ≡ progress → IsStageAt plan old address secondly progress q v → IsStageAt plan old address secondly q.progress q v
     outstanding progress at s = subst (λ (x : Renewal). IsStageAt plan old address secondly x q v) (sym (same_progress plan now p ret ∙ at)) s
 
-    drawn : (progress : Renewal) → p.progress ≡ progress → Drawn progress
-    drawn Holding at = c.held_allocations_are_drawn.ensures plan old w v address secondly p now ret may (stage_at Holding at) in_time step
-    drawn (Refreshing request) at =
-        let s = c.outstanding_refreshes_are_drawn.ensures.refreshing plan old w v address secondly p request now ret (stage_at (Refreshing request) at) in_time.in_range step in
+    by_draw : (progress : Renewal) → p.progress ≡ progress → Drawn progress
+    by_draw Holding at = c.draws_of_held_allocations.ensures plan old w v address secondly p now ret may (stage_at Holding at) in_time step
+    by_draw (Refreshing request) at =
+        let s = c.draws_of_outstanding_refreshes.ensures.refreshing plan old w v address secondly p request now ret (stage_at (Refreshing request) at) in_time.in_range step in
         (outstanding (Refreshing request) at s.0, s.1)
-    drawn (Renewing request more reply head) at =
-        let s = c.outstanding_refreshes_are_drawn.ensures.renewing plan old w v address secondly p request more reply head now ret (stage_at (Renewing request more reply head) at) in_time.in_range step in
+    by_draw (Renewing request more reply head) at =
+        let s = c.draws_of_outstanding_refreshes.ensures.renewing plan old w v address secondly p request more reply head now ret (stage_at (Renewing request more reply head) at) in_time.in_range step in
         (outstanding (Renewing request more reply head) at s.0, s.1)
-    drawn (Challenged request reply head) at =
-        let s = c.outstanding_refreshes_are_drawn.ensures.challenged plan old w v address secondly p request reply head now ret (stage_at (Challenged request reply head) at) in_time.in_range step in
+    by_draw (Challenged request reply head) at =
+        let s = c.draws_of_outstanding_refreshes.ensures.challenged plan old w v address secondly p request reply head now ret (stage_at (Challenged request reply head) at) in_time.in_range step in
         (outstanding (Challenged request reply head) at s.0, s.1)
-    drawn (Turned request reply) at =
-        let s = c.outstanding_refreshes_are_drawn.ensures.turned plan old w v address secondly p request reply now ret may (stage_at (Turned request reply) at) in_time.in_range step in
+    by_draw (Turned request reply) at =
+        let s = c.draws_of_outstanding_refreshes.ensures.turned plan old w v address secondly p request reply now ret may (stage_at (Turned request reply) at) in_time.in_range step in
         (turned ret s.0, s.1)
       where
-        turned : (a : Answer) → IsStageAt plan old address secondly (turned_next request reply a) (counted_draw plan now a p) v → IsStageAt plan old address secondly (turned_next request reply a) (drawn_by plan now a (Turned request reply) p) v
+        turned : (a : Answer) → IsStageAt plan old address secondly (turned_next request reply a) (counted_draw plan now a p) v → IsStageAt plan old address secondly (turned_next request reply a) (by_draw_of plan now a (Turned request reply) p) v
         turned a s = stage_on plan old address secondly (counted_draw plan now a p) (turned_next request reply a) (counted_draw plan now a p).last v (turned_next request reply a) s
 
-    drawn_on : After (drawn_by plan now ret p.progress p) (Draw now)
-    drawn_on = drawn p.progress refl
+    drawn_on : After (by_draw_of plan now ret p.progress p) (Draw now)
+    drawn_on = by_draw p.progress refl
 
   one : Renews plan p event ret next → IsStep event w ret v → After next event
   one (Draws now in_time is_event to) = as_said _ _ is_event to (λ step. drawn_on now in_time step)

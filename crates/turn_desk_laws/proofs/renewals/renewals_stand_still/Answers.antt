@@ -111,17 +111,17 @@ module _ (c : goal.After-refreshes_are_signed) (plan : Plan) (old w v : World) (
         rests_at x.client.core head message x.client.there
         (c.challenged_refreshes_are_reported.ensures.shows plan.client choice address (term_of x.first p.from p.lifetime) x.earlier number p.made (count_by p.queued p.many) p.sent (queue_by p.queued (refresh_queued plan.client choice number)) x.events x.client.core x.client.is).1 part
 
-    begun : (choice : Choice) → IsChoice plan.client choice → IsPartOf [] (refresh_request plan.client choice 0)
-    begun choice chosen = none_yet (refresh_request plan.client choice 0) (message_of choice chosen)
+    loop_end : (choice : Choice) → IsChoice plan.client choice → IsPartOf [] (refresh_request plan.client choice 0)
+    loop_end choice chosen = none_yet (refresh_request plan.client choice 0) (message_of choice chosen)
 
     rested : (progress : Renewal) → IsStageAt plan old address secondly progress p w → Rests ret w v
     rested Holding k =
         rests_at k.client.core [] (refresh_request plan.client k.choice 0) k.client.there
-        (c.keepers_are_reported.ensures.keeping_shows plan.client k.choice address (term_of k.first p.from p.lifetime) p.sent k.queue k.events k.client.core k.client.is).1 (begun k.choice k.signs.agreed.chosen)
-    rested (Refreshing request) s = outstanding_rests s.choice s.number [] (refresh_request plan.client s.choice 0) (begun s.choice s.is.signs.agreed.chosen) s.is
+        (c.keepers_are_reported.ensures.keeping_shows plan.client k.choice address (term_of k.first p.from p.lifetime) p.sent k.queue k.events k.client.core k.client.is).1 (loop_end k.choice k.signs.agreed.chosen)
+    rested (Refreshing request) s = outstanding_rests s.choice s.number [] (refresh_request plan.client s.choice 0) (loop_end s.choice s.is.signs.agreed.chosen) s.is
     rested (Renewing request more reply head) s = outstanding_rests s.choice s.number head reply s.part s.is
     rested (Challenged request reply head) s = outstanding_rests s.choice s.number head reply s.part s.is
-    rested (Turned request reply) s = outstanding_rests s.choice s.number [] (refresh_request plan.client s.choice 0) (begun s.choice s.is.signs.agreed.chosen) s.is
+    rested (Turned request reply) s = outstanding_rests s.choice s.number [] (refresh_request plan.client s.choice 0) (loop_end s.choice s.is.signs.agreed.chosen) s.is
 
     pub received_on : (progress : Renewal) → IsStageAt plan old address secondly progress p w → IsStageAt plan old address secondly progress p v
     received_on progress s = let r = rested progress s in subst (λ (x : World). IsStageAt plan old address secondly progress p x) (sym r.same) s

@@ -12,17 +12,17 @@ use Rattle.turn_client_proto_messages.specs.TurnRuns.Members.{IsIn}
 use Rattle.turn_client_proto_messages.specs.Waiting.{Queued}
 use Rattle.turn_client_proto_timers.specs.Drawing.{IsTransmitted}
 use Rattle.turn_client_proto_timers.specs.Polling.{IsPolled}
-use Rattle.turn_desk_laws.specs.Schedules.{Again, AreCalled, IsDrawn, IsDue, IsGivenUp, IsInOrder, IsLeft, IsNoneDue, IsOther, IsOutstanding, IsStillAwaited, IsTraced, Other, Request, Still, count_of, end_of, sent_of, slot_of}
+use Rattle.turn_desk_laws.specs.Schedules.{Again, AreCalled, IsDrawOf, IsDue, IsGivenUp, IsInOrder, IsLeft, IsNoneDue, IsOther, IsOutstanding, IsStillAwaited, IsTraced, Other, Request, Still, count_of, end_of, sent_of, slot_of}
 use Rattle.turn_desk_laws.proofs.ScheduleDraws.{AreNumbered, IsDrawnTo, draws_by}
 use Rattle.turn_desk_laws.proofs.SchedulePolls.{IsPolledTo, polls_by}
 use Rattle.turn_desk_laws.proofs.schedules.requests_go_by_their_schedule.Goals as goal
 
 -- ---- a draw that gives nothing
 
-quiet_by : (r : Request) (many now : ℕ) (old new : Protocol) (d : IsDrawnTo r many now old None new) → IsDrawn r many now old None d.next → IsNoneDue r many now old × IsOutstanding r many new
+quiet_by : (r : Request) (many now : ℕ) (old new : Protocol) (d : IsDrawnTo r many now old None new) → IsDrawOf r many now old None d.next → IsNoneDue r many now old × IsOutstanding r many new
 quiet_by r many now old new d (Again due is next) = absurd (Prim.cc is)
 quiet_by r many now old new d (Other message is other lesser next) = absurd (Prim.cc is)
-quiet_by r many now old new d (Still is none next) = (none, subst (λ (n : ℕ). IsOutstanding r n new) next d.kept)
+quiet_by r many now old new d (Still is none next) = (none, subst (λ (n : ℕ). IsOutstanding r n new) next d.stays_stored)
 
 -- ---- calls in a row
 
@@ -53,7 +53,7 @@ module _ (r : Request) (old : Protocol) where
     other_at_first message (inl number) = inl number
     other_at_first message (inr queued) = inr (queued.0, from.queue queued.0 queued.1, queued.2)
 
-    pub at_first : IsDrawn r many now p sent next → IsDrawn r many now old sent next
+    pub at_first : IsDrawOf r many now p sent next → IsDrawOf r many now old sent next
     at_first (Again due is more) = Again (due_at_first due) (is ∙ ap Some sent_is) more
     at_first (Other message is other lesser same) = Other message is (other_at_first message other) (λ due. lesser (due_back due)) same
     at_first (Still is none same) = Still is (none_at_first none) same
@@ -68,14 +68,14 @@ module _ (r : Request) (old : Protocol) where
     traces many p new [] order there from is = (Some many, refl, subst (λ (x : Protocol). IsOutstanding r many x) (sym is) there)
     traces many p new (Draws now sent ∷ calls) order there from is =
         let d = draws_by numbered r many now p there order sent is.0 is.1 in
-        let onward = traces d.next is.0 new calls d.order d.kept (record { transport = d.transport ∙ from.transport; here = d.here ∙ from.here; queue = λ one in_it. from.queue one (d.queue one in_it) }) is.3 in
-        (onward.0, (d.next, at_first many now p from sent d.next d.drawn, onward.1), onward.2)
+        let onward = traces d.next is.0 new calls d.order d.stays_stored (record { transport = d.transport ∙ from.transport; here = d.here ∙ from.here; queue = λ one in_it. from.queue one (d.queue one in_it) }) is.3 in
+        (onward.0, (d.next, at_first many now p from sent d.next d.by_draw, onward.1), onward.2)
     traces many p new (DrawFails now ∷ calls) order there from is = absurd is.2
     traces many p new (Polls now ret ∷ calls) order there from is =
         let o = polls_by r many now p there order ret is.0 is.2 is.1 in
         elim o.outcome [
           | inl still ↦ (
-              let onward = traces many is.0 new calls o.order still.kept (record { transport = o.transport ∙ from.transport; here = o.here ∙ from.here; queue = λ one in_it. from.queue one (subst (λ (l : List Queued). IsIn one l) o.queue in_it) }) is.3 in
+              let onward = traces many is.0 new calls o.order still.stays_stored (record { transport = o.transport ∙ from.transport; here = o.here ∙ from.here; queue = λ one in_it. from.queue one (subst (λ (l : List Queued). IsIn one l) o.queue in_it) }) is.3 in
               (onward.0, inl (still.before, onward.1), onward.2))
           | inr over ↦ (None, inr (over.over, refl), tt)
         ]
@@ -94,11 +94,11 @@ module _ (r : Request) (old : Protocol) where
 
 pub returns-clause-draws : goal.returns-clause-draws
 returns-clause-draws c = λ r many now old new sent order there is.
-    let d = draws_by c.proof_requests_are_read.ensures.number r many now old there order sent new is in (d.next, d.drawn, d.kept, d.order)
+    let d = draws_by c.proof_requests_are_read.ensures.number r many now old there order sent new is in (d.next, d.by_draw, d.stays_stored, d.order)
 
 pub returns-clause-quiet : goal.returns-clause-quiet
 returns-clause-quiet c = λ r many now old new order there is.
-    let d = draws_by c.proof_requests_are_read.ensures.number r many now old there order None new is in quiet_by r many now old new d d.drawn
+    let d = draws_by c.proof_requests_are_read.ensures.number r many now old there order None new is in quiet_by r many now old new d d.by_draw
 
 pub returns-clause-polls : goal.returns-clause-polls
 returns-clause-polls c = λ r many now old new ret order there memory is. let o = polls_by r many now old there order ret new memory is in (o.outcome, o.order)

@@ -21,14 +21,14 @@ use Rattle.turn_desk_progress_laws.specs.Scripts.{Plan}
 use Rattle.turn_desk_progress_laws.proofs.Clients.{draw_rests, draws, nothing_transmitted}
 use Rattle.turn_desk_progress_laws.proofs.Indexes.{same_sent, untold}
 use Rattle.turn_desk_progress_laws.proofs.Looping.{clash, itself}
-use Rattle.turn_desk_laws.specs.Unanswered.{HasSent, HasTimedOut, IsDrawnAt, MayDraw, RequestState, Unmade, Outstanding, TimedOut, drawn, sending_of}
+use Rattle.turn_desk_laws.specs.Unanswered.{HasSent, HasTimedOut, IsDrawAt, MayDraw, RequestState, Unmade, Outstanding, TimedOut, by_draw, sending_of}
 use Rattle.turn_desk_laws.specs.UnansweredStages.{IsAskingSo, IsNewSo, IsStageOf}
 use Rattle.turn_desk_laws.proofs.UnansweredStaying.{rests_so, sent_more, sent_same}
 use Rattle.turn_desk_laws.proofs.unanswered.unanswered_clients_ask_again.Goals as goal
 
 module _ (c : goal.After-ended_clients_rest) (plan : Plan) (w v : World) (reported : List TurnEvent) (t : Timing) (head : List ℕ) (now : ℕ) (early : now ≤ client_end) where
   abbrev After : RequestState → Answer → Type 0
-  After request ret = IsStageOf plan (reported ++ event_in ret) (drawn request) (counted now ret t) head v × IsDrawnAt plan request t now ret
+  After request ret = IsStageOf plan (reported ++ event_in ret) (by_draw request) (counted now ret t) head v × IsDrawAt plan request t now ret
 
   -- The first draw.
   module _ (room : HasRoom plan.client.config) (is : IsNewSo plan reported t head w) (first : now ≡ plan.client.made) where
@@ -112,7 +112,7 @@ module _ (c : goal.After-ended_clients_rest) (plan : Plan) (w v : World) (report
     later_sends ret (inr quiet) on = subst Sent_ (sym (on.none quiet)) (sent_same plan t sendings [] refl all)
     later_sends _ (inl due) on = absurd (on.due due)
 
-    sends_on : (ret : Answer) (request : RequestState) → MayDraw plan request now → IsStageOf plan reported request t head w → IsDrawnAt plan request t now ret → Sent_ ret
+    sends_on : (ret : Answer) (request : RequestState) → MayDraw plan request now → IsStageOf plan reported request t head w → IsDrawAt plan request t now ret → Sent_ ret
     sends_on ret Unmade first is so = first_sends ret is.none_sent first so
     sends_on ret Outstanding may is so = later_sends ret (c.asking_clients_wait.ensures.cases plan.client (first_requested plan.client) t.many now) so
     sends_on ret TimedOut may is so = subst Sent_ (sym so) (sent_same plan t sendings [] refl all)

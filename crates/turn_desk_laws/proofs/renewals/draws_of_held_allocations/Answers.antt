@@ -32,7 +32,7 @@ use Rattle.turn_desk_laws.specs.RefreshStages.{IsRefreshingOn, refresh_queued}
 use Rattle.turn_desk_laws.specs.RenewalLoops.{Holding, IsDueRefresh, IsInTime, IsRefreshSent, IsSecondAgain, Refreshing, RenewalPosition, holding_draw, is_refresh}
 use Rattle.turn_desk_laws.specs.RenewalStages.{IsHeldAt, IsSecondLeft, IsStageAt, count_by, queue_by}
 use Rattle.turn_desk_laws.proofs.RenewalWorlds.{keeps_so, not_equal, refresh_so}
-use Rattle.turn_desk_laws.proofs.renewals.held_allocations_are_drawn.Goals as goal
+use Rattle.turn_desk_laws.proofs.renewals.draws_of_held_allocations.Goals as goal
 
 module _ (c : goal.After-challenged_refreshes_wait) (plan : Plan) (old w v : World) (may : MayBegin plan old) (address : SocketAddr) (secondly : Sent) (p : RenewalPosition) (k : IsHeldAt plan old address secondly p w) (now : ℕ) (in_time : IsInTime p now) where
   abbrev t : Term
@@ -94,16 +94,16 @@ module _ (c : goal.After-challenged_refreshes_wait) (plan : Plan) (old w v : Wor
     abbrev At : RenewalPosition → Type 0
     At q = IsStageAt plan old address secondly q.progress q v
 
-    abbrev asked : Sent → RenewalPosition
-    asked message = record p { progress = Refreshing message; last = now; sent = now; made = now; many = 1; again = false }
+    abbrev request_made : Sent → RenewalPosition
+    request_made message = record p { progress = Refreshing message; last = now; sent = now; made = now; many = 1; again = false }
 
     abbrev went : RenewalPosition
     went = record p { progress = Holding; last = now; sent = now; again = false }
 
-    by_kind : (message : Sent) (is : Bool) → is_refresh message ≡ is → At (if is then asked message else went) → At (if is_refresh message then asked message else went)
-    by_kind message is same at = subst (λ (x : Bool). At (if x then asked message else went)) (sym same) at
+    by_kind : (message : Sent) (is : Bool) → is_refresh message ≡ is → At (if is then request_made message else went) → At (if is_refresh message then request_made message else went)
+    by_kind message is same at = subst (λ (x : Bool). At (if x then request_made message else went)) (sym same) at
 
-    second_after : (message : Sent) → Drawn (Some message) core → (message ≡ secondly) → p.again ≡ true → method_of (kind_at secondly.bytes) ≢ refresh_method → IsKeeping plan.client chosen address t now [] k.events core → At (if is_refresh message then asked message else went)
+    second_after : (message : Sent) → Drawn (Some message) core → (message ≡ secondly) → p.again ≡ true → method_of (kind_at secondly.bytes) ≢ refresh_method → IsKeeping plan.client chosen address t now [] k.events core → At (if is_refresh message then request_made message else went)
     second_after message d same again other keeps =
         by_kind message false (ap is_refresh same ∙ not_equal (method_of (kind_at secondly.bytes)) refresh_method other) (record {
           choice = chosen;
@@ -119,7 +119,7 @@ module _ (c : goal.After-challenged_refreshes_wait) (plan : Plan) (old w v : Wor
         })
 
     asks_after : (message : Sent) (number : ℕ) → number < 2 ^ 96 → message ≡ refresh_sent plan.client chosen number now → method_of (kind_at (refresh_request plan.client chosen number)) ≡ refresh_method → IsRefreshing plan.client chosen address t number now 1 now k.events core
-        → At (if is_refresh message then asked message else went)
+        → At (if is_refresh message then request_made message else went)
     asks_after message number fits same method refreshing =
         by_kind message true (ap is_refresh same ∙ eq-eqb (method_of (kind_at (refresh_request plan.client chosen number))) refresh_method method) (record {
           choice = chosen;
@@ -142,7 +142,7 @@ module _ (c : goal.After-challenged_refreshes_wait) (plan : Plan) (old w v : Wor
           request_is = same;
         })
 
-    by_sent : (message : Sent) → Drawn (Some message) core → At (if is_refresh message then asked message else went) × ((time_after p.sent cadence ≤ now) × (IsSecondAgain p secondly message ⊎ ((due p.from p.lifetime ≤ now) × IsRefreshSent plan old message)))
+    by_sent : (message : Sent) → Drawn (Some message) core → At (if is_refresh message then request_made message else went) × ((time_after p.sent cadence ≤ now) × (IsSecondAgain p secondly message ⊎ ((due p.from p.lifetime ≤ now) × IsRefreshSent plan old message)))
     by_sent message (Second is again other late keeps) =
         let same = same_sent message secondly is in
         (second_after message (Second is again other late keeps) same again other keeps, (late, inl (again, same)))
