@@ -17,7 +17,7 @@ returns-clause-unsigned c = λ e old is. is.signs (omega arith)
 pub returns-clause-soon : goal.returns-clause-soon
 returns-clause-soon c = λ e old is. Prim.cc (is.rests (omega arith) (second_none e))
 
-pub returns-clause-request_made : goal.returns-clause-asked
+pub returns-clause-request_made : goal.returns-clause-request_made
 returns-clause-request_made c = λ e same. record {
   due = λ due. same;
   none = λ none. never 500_000_000 (subst (λ (n : ℕ). 500_000_000 < n) (first_slot e) (none (first_due e).0));
