@@ -1,0 +1,2 @@
+pub mod RequestChallenges
+pub mod RequestLoops
