@@ -344,6 +344,14 @@ not_resting sent at p h late = by p.last_send refl
 
 -- ---- once it is requested
 
+permission_text : (transport : TransportType) (p : Protocol) (ip : IpAddr) (number at : ℕ) → (after_permission transport ip number at p).queue ≡ p.queue ++ queued_request p.agent.here (request_text p.auth (CreatePermission ip) number) ∷ []
+unfolding after_permission requested
+permission_text transport p ip number at = refl
+
+channel_text : (transport : TransportType) (p : Protocol) (peer : SocketAddr) (channel number at : ℕ) → (after_binding transport peer channel number at p).queue ≡ p.queue ++ queued_request p.agent.here (request_text p.auth (ChannelBind channel peer) number) ∷ []
+unfolding after_binding requested
+channel_text transport p peer channel number at = refl
+
 module _ (b : Beginning) (realm : List ℕ) (address : SocketAddr) (p : Protocol) (speaks : Speaks b realm address p) (transport : TransportType) (at : ℕ) (q : Protocol) (request : List ℕ) (one : IsMade p q request) where
   queued_last : (text : List ℕ) → q.queue ≡ p.queue ++ queued_request p.agent.here text ∷ [] → request ≡ text → StandsBehind request (length p.queue) q
   queued_last text is same = record { before = p.queue; own = queued_request p.agent.here text; after = []; queue_is = is; bytes_are = sym same; requests = refl; many = refl }
@@ -351,17 +359,9 @@ module _ (b : Beginning) (realm : List ℕ) (address : SocketAddr) (p : Protocol
   pub permission_stands : (ip : IpAddr) → IsPermissionAnswered p transport ip at (Ok tt) q → StandsBehind request (length p.queue) q
   permission_stands ip is =
       let m = made b realm address p speaks transport ip at q is in
-      queued_last _ (ap (λ (x : Protocol). x.queue) m.1.after ∙ permission_text ip m.1.number) (permission_own b realm address p speaks transport ip at q m.0 m.1 request one)
-    where
-      permission_text : (ip : IpAddr) (number : ℕ) → (after_permission transport ip number at p).queue ≡ p.queue ++ queued_request p.agent.here (request_text p.auth (CreatePermission ip) number) ∷ []
-      unfolding after_permission requested
-      permission_text ip number = refl
+      queued_last _ (ap (λ (x : Protocol). x.queue) m.1.after ∙ permission_text transport p ip m.1.number at) (permission_own b realm address p speaks transport ip at q m.0 m.1 request one)
 
   pub channel_stands : (peer : SocketAddr) → IsBindAnswered p transport peer at (Ok tt) q → StandsBehind request (length p.queue) q
   channel_stands peer is =
       let m = bound b realm address p speaks transport peer at q is in
-      queued_last _ (ap (λ (x : Protocol). x.queue) m.is.after ∙ channel_text peer m.channel m.is.number) (channel_own b realm address p speaks transport peer at q m request one)
-    where
-      channel_text : (peer : SocketAddr) (channel number : ℕ) → (after_binding transport peer channel number at p).queue ≡ p.queue ++ queued_request p.agent.here (request_text p.auth (ChannelBind channel peer) number) ∷ []
-      unfolding after_binding requested
-      channel_text peer channel number = refl
+      queued_last _ (ap (λ (x : Protocol). x.queue) m.is.after ∙ channel_text transport p peer m.channel m.is.number at) (channel_own b realm address p speaks transport peer at q m request one)
