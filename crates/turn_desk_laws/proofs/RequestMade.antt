@@ -132,6 +132,10 @@ module _ (plan : Plan) (old two : World) (address : SocketAddr) (has : HasAlloca
     pub one_made : (a : IsRequested answer.Done) → (request : List ℕ) × IsMade p a.after request → (request : List ℕ) × IsRequestOf two three request
     one_made a m = (m.0, record { old = over control p; old_there = ready.client.there; new = over control a.after; new_there = a.there; made = m.1 })
 
+    -- The server core is unchanged.
+    pub desk_three : IsRequested answer.Done → IsDeskOf plan.client realm three.desk
+    desk_three a = subst (λ (d : State). IsDeskOf plan.client realm d) (sym a.desk) ready.desk
+
     -- The state of the simulation then.
     pub ready_three : (a : IsRequested answer.Done) (Is : Protocol → Type 0) → Is a.after → IsReady plan realm [] Is three
     ready_three a Is is = record {

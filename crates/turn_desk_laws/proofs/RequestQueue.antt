@@ -59,7 +59,7 @@ module _ (p : Protocol) where
     pub queue_is : q.queue ≡ p.queue ++ extra
     pub last_is : q.last_send ≡ p.last_send
 
-  same_queue : (q : Protocol) → q.queue ≡ p.queue → q.last_send ≡ p.last_send → IsGrown q
+  pub same_queue : (q : Protocol) → q.queue ≡ p.queue → q.last_send ≡ p.last_send → IsGrown q
   same_queue q queue last = record { extra = []; queue_is = queue ∙ sym (append-nil p.queue); last_is = last }
 
   pub unchanged_queue : (q : Protocol) → q ≡ p → IsGrown q

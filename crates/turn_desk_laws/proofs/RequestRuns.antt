@@ -147,7 +147,7 @@ wait_grown : (transport : TransportType) (p : Protocol) (at : ℕ) (given : Opti
 wait_grown Udp p at given q r = unchanged_queue p q.core r.1
 wait_grown Tcp p at given q r = tcp_grown p q (taken_from (over (Open (alive [])) p) at given q [] nothing_stored refl r)
 
-same_core : (c : Control) (p q : Protocol) (o : Option ClientState) → o ≡ Some (over c p) → o ≡ Some (over c q) → p ≡ q
+pub same_core : (c : Control) (p q : Protocol) (o : Option ClientState) → o ≡ Some (over c p) → o ≡ Some (over c q) → p ≡ q
 same_core c p q o one other = (let same : over c p ≡ over c q = Prim.cc (sym one ∙ other) in ap (λ (k : ClientState). k.core) same)
 
 -- ---- the request, from the call to the reply

@@ -36,6 +36,7 @@ use Rattle.turn_desk_progress_laws.specs.RequestPromises.{IsAnsweredBy, IsChanne
 use Rattle.turn_desk_progress_laws.specs.Scripts.{Plan}
 use Rattle.turn_desk_progress_laws.proofs.Calls.{acted_asks}
 use Rattle.turn_desk_progress_laws.proofs.Clients.{within}
+use Rattle.turn_desk_progress_laws.proofs.Desks.{IsDeskOf}
 use Rattle.turn_desk_progress_laws.proofs.Following.{IsReady}
 use Rattle.turn_desk_progress_laws.proofs.Looping.{passes}
 use Rattle.turn_desk_progress_laws.proofs.RequestComing.{asker_waits, data_given, frame_answered, holder_waits, nothing_of}
@@ -98,9 +99,15 @@ module _ (c : goal.After-frames_are_taken) (plan : Plan) (old two three : World)
 
   -- The request of the call is awaited, and queued last.
   record IsAsked (wanted : Wanted) : Type 0 where
-    ready : IsReady plan realm [] (Asks wanted) three
-    grown : IsGrown p ready.client.core
-    stands : StandsBehind request (length p.queue) ready.client.core
+    after : Protocol
+    there : three.client ≡ Some (over (control_at plan.client.transport []) after)
+    asks : Asks wanted after
+    desk : IsDeskOf plan.client realm three.desk
+    grown : IsGrown p after
+    stands : StandsBehind request (length p.queue) after
+
+  abbrev ready_asked : (wanted : Wanted) → IsAsked wanted → IsReady plan realm [] (Asks wanted) three
+  ready_asked wanted a = record { client = record { core = a.after; there = a.there; is = a.asks }; desk = a.desk }
 
   -- ---- a permission
 
@@ -110,8 +117,10 @@ module _ (c : goal.After-frames_are_taken) (plan : Plan) (old two three : World)
       let a = established.requested_done plan old two address has speaks three (call.CreatePermission transport ip) made (λ r q. IsPermissionReported r transport ip p made q) so m.step in
       let one = established.own_made plan old two address has speaks three (call.CreatePermission transport ip) made (λ r q. IsPermissionReported r transport ip p made q) so request a m.is in
       record {
-        ready = established.ready_three plan old two address has speaks three (call.CreatePermission transport ip) made (λ r q. IsPermissionReported r transport ip p made q) so a (Asks (APermission ip))
-            (c.permissions_are_requested_for.ensures.requested plan.client realm address p a.after transport ip made until request is_speaking (of_it (λ x. AreHeldBeyond until x.allocations) m.beyond) m.early a.reported one);
+        after = a.after;
+        there = a.there;
+        desk = established.desk_three plan old two address has speaks three (call.CreatePermission transport ip) made (λ r q. IsPermissionReported r transport ip p made q) so a;
+        asks = (c.permissions_are_requested_for.ensures.requested plan.client realm address p a.after transport ip made until request is_speaking (of_it (λ x. AreHeldBeyond until x.allocations) m.beyond) m.early a.reported one);
         grown = permission_queue p made transport ip (Ok tt) a.after (λ e. Prim.cc e) a.reported;
         stands = permission_stands plan.client realm address p is_speaking transport made a.after request one ip a.reported;
       }
@@ -137,7 +146,10 @@ module _ (c : goal.After-frames_are_taken) (plan : Plan) (old two three : World)
       let one = established.own_made plan old two address has speaks three (call.BindChannel transport peer) made (λ r q. IsBindReported r transport peer p made q) so request a m.is in
       let asks = c.channels_are_requested_for.ensures.requested plan.client realm address p a.after transport peer made until request is_speaking (of_it (λ x. AreHeldBeyond until x.allocations) m.beyond) m.early a.reported one in
       (asks.0, record {
-        ready = established.ready_three plan old two address has speaks three (call.BindChannel transport peer) made (λ r q. IsBindReported r transport peer p made q) so a (Asks (AChannel asks.0 peer)) asks.1;
+        after = a.after;
+        there = a.there;
+        desk = established.desk_three plan old two address has speaks three (call.BindChannel transport peer) made (λ r q. IsBindReported r transport peer p made q) so a;
+        asks = asks.1;
         grown = bind_queue p made transport peer (Ok tt) a.after (λ e. Prim.cc e) a.reported;
         stands = channel_stands plan.client realm address p is_speaking transport made a.after request one peer a.reported;
       })
@@ -166,11 +178,11 @@ module _ (c : goal.After-frames_are_taken) (plan : Plan) (old two three : World)
 
     permission_got : (ip : IpAddr) → IsAsked (APermission ip) → HasClient plan [] four (λ x. HoldsPermission plan.client ip x)
     permission_got ip a =
-        subst (λ (x : Stage). IsAtStage plan realm request (APermission ip) until (Asks (APermission ip)) (λ y. HoldsPermission plan.client ip y) (ask_permission ip) range x four) got (asking plan realm request (APermission ip) until (Asks (APermission ip)) (λ x. HoldsPermission plan.client ip x) (ask_permission ip) range third three four (requested made sent) place a.ready on loop)
+        subst (λ (x : Stage). IsAtStage plan realm request (APermission ip) until (Asks (APermission ip)) (λ y. HoldsPermission plan.client ip y) (ask_permission ip) range x four) got (asking plan realm request (APermission ip) until (Asks (APermission ip)) (λ x. HoldsPermission plan.client ip x) (ask_permission ip) range third three four (requested made sent) place (ready_asked (APermission ip) a) on loop)
 
     channel_got : (channel : ℕ) (peer : SocketAddr) → IsAsked (AChannel channel peer) → HasClient plan [] four (λ x. HoldsChannel plan.client channel peer x)
     channel_got channel peer a =
-        subst (λ (x : Stage). IsAtStage plan realm request (AChannel channel peer) until (Asks (AChannel channel peer)) (λ y. HoldsChannel plan.client channel peer y) (ask_channel channel peer) range x four) got (asking plan realm request (AChannel channel peer) until (Asks (AChannel channel peer)) (λ x. HoldsChannel plan.client channel peer x) (ask_channel channel peer) range third three four (requested made sent) place a.ready on loop)
+        subst (λ (x : Stage). IsAtStage plan realm request (AChannel channel peer) until (Asks (AChannel channel peer)) (λ y. HoldsChannel plan.client channel peer y) (ask_channel channel peer) range x four) got (asking plan realm request (AChannel channel peer) until (Asks (AChannel channel peer)) (λ x. HoldsChannel plan.client channel peer x) (ask_channel channel peer) range third three four (requested made sent) place (ready_asked (AChannel channel peer) a) on loop)
 
     permission_held : (ip : IpAddr) → IsAsked (APermission ip) → IsPermissionHeld plan ip now four
     permission_held ip a = record {
@@ -214,7 +226,7 @@ module _ (c : goal.After-frames_are_taken) (plan : Plan) (old two three : World)
             (λ n at x y ret early on_phase not_given is d. few_goes request most n at x y ret not_given is d) third three w (requested made sent) place pending
             (record {
               before = before;
-              ready = record { client = record { core = a.ready.client.core; there = a.ready.client.there; is = (a.ready.client.is, (length p.queue, omega (arith, many), a.stands)) }; desk = a.ready.desk };
+              ready = record { client = record { core = a.after; there = a.there; is = (a.asks, (length p.queue, omega (arith, many), a.stands)) }; desk = a.desk };
             }) on loop in
         let few = s.ready.client.is.1 in
         (few.0, few.1, record { core = s.ready.client.core; there = s.ready.client.there; is = few.2 })
@@ -225,7 +237,7 @@ module _ (c : goal.After-frames_are_taken) (plan : Plan) (old two three : World)
             (λ n at x y given early on_phase not_given is d. last_goes n at x y given early on_phase is d) third three w (requested made sent) place pending
             (record {
               before = before;
-              ready = record { client = record { core = a.ready.client.core; there = a.ready.client.there; is = (a.ready.client.is, grown_last sent p a.ready.client.core last a.grown) }; desk = a.ready.desk };
+              ready = record { client = record { core = a.after; there = a.there; is = (a.asks, grown_last sent p a.after last a.grown) }; desk = a.desk };
             }) on loop in
         let core = s.ready.client.core in
         let same = same_core (control_at plan.client.transport []) behind.core core w.client behind.there s.ready.client.there in
