@@ -20,3 +20,10 @@ pub mod UnansweredPolls
 pub mod ScheduleDraws
 pub mod SchedulePolls
 pub mod ScheduleEnds
+pub mod RequestBound
+pub mod RequestChallenged
+pub mod RequestGranted
+pub mod RequestMade
+pub mod RequestOwn
+pub mod RequestQueue
+pub mod RequestRuns

@@ -11,3 +11,5 @@ pub mod Unanswered
 pub mod UnansweredStages
 pub mod Schedules
 pub mod ScheduleEnds
+pub mod RequestChallenges
+pub mod RequestLoops

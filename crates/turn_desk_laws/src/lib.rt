@@ -35,3 +35,5 @@ pub mod renewals;
 pub mod schedules;
 pub mod small;
 pub mod unanswered;
+pub mod challenged_requests;
+pub mod requests;
