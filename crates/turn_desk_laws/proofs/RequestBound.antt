@@ -170,4 +170,3 @@ module _ (b : Beginning) (realm : List ℕ) (address : SocketAddr) (channel : �
         let r = answers b realm address (AChannel channel peer) request until beyond now p h reply shows claims g handled q processed in
         let done = bound_so r.client handled q (by_method r.client handled q r.answered) in
         (done.0, subst (λ (x : Protocol). HoldsChannel b channel peer x) (sym done.1) (holds_after r.client))
-

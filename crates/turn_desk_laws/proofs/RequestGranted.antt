@@ -220,4 +220,3 @@ module _ (b : Beginning) (realm : List ℕ) (address : SocketAddr) (ip : IpAddr)
         let r = answers b realm address (APermission ip) request until beyond now p h reply shows claims g handled q processed in
         let done = granted_so r.client handled q (by_method r.client handled q r.answered) in
         (done.0, subst (λ (x : Protocol). HoldsPermission b ip x) (sym done.1) (holds_after r.client))
-

@@ -86,13 +86,13 @@ drawn_as p q at _ is = absurd is
 pub record IsDrawnOn (c : Control) (p : Protocol) (at : ℕ) (ret : Answer) (w v : World) : Type 0 where
   pub core : Protocol
   pub there : v.client ≡ Some (over c core)
-  pub drawn : IsDrawnAs p at ret core
+  pub by_draw : IsDrawnAs p at ret core
   pub of : IsOfClient w v
 
 pub draws_on : (c : Control) (w v : World) (p : Protocol) (at : ℕ) (ret : Answer) → w.client ≡ Some (over c p) → at ≤ client_end → IsStep (Draw at) w ret v → IsDrawnOn c p at ret w v
 draws_on c w v p at ret there early step =
     let d = draws_at c w v p at ret there early step in
-    record { core = d.core; there = d.there; drawn = drawn_as p d.core at ret d.transmitted; of = step.1 }
+    record { core = d.core; there = d.there; by_draw = drawn_as p d.core at ret d.transmitted; of = step.1 }
 
 polled_grown : (p q : Protocol) (at : ℕ) (ret : Answer) → p.phase ≡ Authenticated → IsPolledAs ret p at q → IsGrown p q
 polled_grown p q at (answer.Wait time) on is = polled_queue p at on (poll.WaitUntil time) q (λ e. Prim.cc e) is
@@ -247,9 +247,9 @@ module _ (plan : Plan) (realm request : List ℕ) (wanted : Wanted) (until : ℕ
       (brings plan.client w v c.core (do_ask.of c.core c.is) bytes now ret (within now (passes now until client_end early range)) step reply a.grant.message (ap is_indication a.grant.success) plan.client.transport head rest c.there on)
 
   one : (event : Event) (w v : World) (ret : Answer) (place next : Place) → Leads plan request until place event ret next → IsAtStage place.stage w → IsStep event w ret v → IsAtStage next.stage v
-  one event w v ret place next (Draws now stage awaits in_time is drawn to) s step =
+  one event w v ret place next (Draws now stage awaits in_time is by_draw to) s step =
       subst (λ (x : Place). IsAtStage x.stage v) (sym to)
-      (drawn_to place.stage stage ret w v awaits drawn s (transmits (head_of place.stage) w v now ret in_time.early (ready_of place.stage w awaits s) (subst (λ (e : Event). IsStep e w ret v) is step)))
+      (drawn_to place.stage stage ret w v awaits by_draw s (transmits (head_of place.stage) w v now ret in_time.early (ready_of place.stage w awaits s) (subst (λ (e : Event). IsStep e w ret v) is step)))
   one event w v ret place next (Calls what now awaits own in_time is to) s step =
       subst (λ (x : Place). IsAtStage x.stage v) (sym to)
       (stage_of place.stage w v awaits s (called (head_of place.stage) w v what now ret in_time.early own (ready_of place.stage w awaits s) (subst (λ (e : Event). IsStep e w ret v) is step)))
@@ -303,14 +303,14 @@ module _ (plan : Plan) (realm request : List ℕ) (wanted : Wanted) (until : ℕ
         ((one_so.0, grows sent p q.core is.1 (wait_grown plan.client.transport p at given q r)), one_so.1)
 
     pub waiting_one : (event : Event) (w v : World) (ret : Answer) (place next : Place) → place.stage ≡ Pending → next.stage ≡ Pending → Leads plan request until place event ret next → IsWaiting place w → IsStep event w ret v → IsWaiting next v
-    waiting_one event w v ret place next at pending (Draws now stage awaits in_time is drawn to) s step =
+    waiting_one event w v ret place next at pending (Draws now stage awaits in_time is by_draw to) s step =
         let c = s.ready.client in
         let own_step = subst (λ (e : Event). IsStep e w ret v) is step in
         let before = s.before in
         let later = in_time.later in
         let d = draws_on (control_at plan.client.transport []) w v c.core now ret c.there (passes now until client_end in_time.early range) own_step in
         let sent_before : place.sent ≤ now = omega (arith, before, later) in
-        let moved = goes place.sent now c.core d.core ret sent_before (do_ask.on c.core c.is.0) not_given c.is.1 d.drawn in
+        let moved = goes place.sent now c.core d.core ret sent_before (do_ask.on c.core c.is.0) not_given c.is.1 d.by_draw in
         let ready = both (sent_after now ret place.sent) v (transmits [] w v now ret in_time.early (alone place.sent w s.ready) own_step) d.core d.there moved in
         subst (λ (x : Place). IsWaiting x v) (sym to) (record { before = sent_sooner ret place.sent now sent_before; ready = ready })
       where
@@ -319,7 +319,7 @@ module _ (plan : Plan) (realm request : List ℕ) (wanted : Wanted) (until : ℕ
         never stage (inr other) same = other.0
 
         not_given : IsGiven request ret → ⊥
-        not_given = never stage (subst (λ (x : Stage). IsDrawnTo request x ret stage) at drawn) (ap (λ (x : Place). x.stage) (sym to) ∙ pending)
+        not_given = never stage (subst (λ (x : Stage). IsDrawnTo request x ret stage) at by_draw) (ap (λ (x : Place). x.stage) (sym to) ∙ pending)
     waiting_one event w v ret place next at pending (Calls what now awaits own in_time is to) s step =
         let c = s.ready.client in
         let own_step = subst (λ (e : Event). IsStep e w ret v) is step in
@@ -342,16 +342,16 @@ module _ (plan : Plan) (realm request : List ℕ) (wanted : Wanted) (until : ℕ
 
     -- It was queued before.
     pub pending_before : (event : Event) (ret : Answer) (place next : Place) → next.stage ≡ Pending → Leads plan request until place event ret next → place.stage ≡ Pending
-    pending_before event ret place next pending (Draws now stage awaits in_time is drawn to) = by place.stage refl
+    pending_before event ret place next pending (Draws now stage awaits in_time is by_draw to) = by place.stage refl
       where
         at_stage : stage ≡ Pending
         at_stage = ap (λ (x : Place). x.stage) (sym to) ∙ pending
 
         by : (was : Stage) → place.stage ≡ was → place.stage ≡ Pending
         by Pending is = is
-        by Transmitted is = absurd (Prim.cc (sym at_stage ∙ subst (λ (x : Stage). IsDrawnTo request x ret stage) is drawn))
-        by (Granted reply head) is = absurd (Prim.cc (sym at_stage ∙ subst (λ (x : Stage). IsDrawnTo request x ret stage) is drawn))
-        by (Got reply) is = absurd (Prim.cc (sym at_stage ∙ subst (λ (x : Stage). IsDrawnTo request x ret stage) is drawn))
+        by Transmitted is = absurd (Prim.cc (sym at_stage ∙ subst (λ (x : Stage). IsDrawnTo request x ret stage) is by_draw))
+        by (Granted reply head) is = absurd (Prim.cc (sym at_stage ∙ subst (λ (x : Stage). IsDrawnTo request x ret stage) is by_draw))
+        by (Got reply) is = absurd (Prim.cc (sym at_stage ∙ subst (λ (x : Stage). IsDrawnTo request x ret stage) is by_draw))
     pending_before event ret place next pending (Calls what now awaits own in_time is to) = ap (λ (x : Place). x.stage) (sym to) ∙ pending
     pending_before event ret place next pending (Receives now in_time is to) = ap (λ (x : Place). x.stage) (sym to) ∙ pending
     pending_before event ret place next pending (AtDesk bytes from now decision seed is to) = ap (λ (x : Place). x.stage) (sym to) ∙ pending

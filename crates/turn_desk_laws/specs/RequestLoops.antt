@@ -49,12 +49,12 @@ pub record HasAllocated (plan : Plan) (old : World) (address : SocketAddr) (new 
 -- A call at the time `made` made this request. Neither is the request given up by `until`, by its schedule, nor has
 -- the allocation ended by then.
 pub record HasMade (plan : Plan) (what : ClientCall) (made until : ℕ) (request : List ℕ) (old new : World) : Type 0
-    where
-  pub beyond : HasClient plan [] old (λ p. AreHeldBeyond until p.allocations)
-  pub early : until < end_at made plan.client.config.waits
-  pub in_range : until ≤ client_end
-  pub step : IsStep (Call what made) old answer.Done new
-  pub is : IsRequestOf old new request
+  where
+    pub beyond : HasClient plan [] old (λ p. AreHeldBeyond until p.allocations)
+    pub early : until < end_at made plan.client.config.waits
+    pub in_range : until ≤ client_end
+    pub step : IsStep (Call what made) old answer.Done new
+    pub is : IsRequestOf old new request
 
 -- The call requests a permission or a channel.
 abbrev pub IsRequestCall : ClientCall → Type 0
@@ -177,12 +177,12 @@ pub record IsOutstanding (bytes : List ℕ) (p : Protocol) : Type 0 where
   pub bytes_are : transaction.bytes ≡ bytes
 
 -- What a draw gives while the request is queued behind this many other messages.
-pub data IsDrawn (plan : Plan) (request : List ℕ) (ahead : ℕ) (old : World) (ret : Answer) (new : World) : Type 0 where
+pub data IsDrawOf (plan : Plan) (request : List ℕ) (ahead : ℕ) (old : World) (ret : Answer) (new : World) : Type 0 where
   -- A request is due again, by its own schedule, and the queue stays as it is.
   Again : HasClient plan [] old (λ p. Gives ret (λ sent. IsOutstanding sent.bytes p)) → IsQueued plan request ahead new
-      → IsDrawn plan request ahead old ret new
+      → IsDrawOf plan request ahead old ret new
   -- No other message is queued before the request, and the result is the request.
-  Itself : ahead ≡ 0 → IsGiven request ret → IsDrawn plan request ahead old ret new
+  Itself : ahead ≡ 0 → IsGiven request ret → IsDrawOf plan request ahead old ret new
   -- The result is the first of the other messages.
   Before : (left : ℕ) → ahead ≡ left + 1 → Gives ret (λ sent. Unit {0}) → IsQueued plan request left new
-      → IsDrawn plan request ahead old ret new
+      → IsDrawOf plan request ahead old ret new

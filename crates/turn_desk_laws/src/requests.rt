@@ -29,7 +29,7 @@ ghost use Rattle.turn_desk_progress_laws.specs.Promises.{HasClient};
 ghost use Rattle.turn_desk_progress_laws.specs.RequestPromises.{IsChannelHeld, IsPermissionHeld};
 ghost use Rattle.turn_desk_progress_laws.specs.Scripts.{Done, Plan};
 ghost use Rattle.turn_desk_laws.specs.RequestLoops.{Got, HasAllocated, HasLastSent, HasMade};
-ghost use Rattle.turn_desk_laws.specs.RequestLoops.{IsAskingLoop, IsDrawn, IsNext, IsQueued};
+ghost use Rattle.turn_desk_laws.specs.RequestLoops.{IsAskingLoop, IsDrawOf, IsNext, IsQueued};
 ghost use Rattle.turn_desk_laws.specs.RequestLoops.{IsRequestCall, Pending, Place, requested};
 
 use turn_client_proto_handshake_laws::stages::{
@@ -129,9 +129,9 @@ pub fn loops_make_requests()
 ///   The result is its data (RFC 8656, sections 10 to 12).
 /// - `queued`: Until a draw gives the request, it is queued, behind no more messages than were
 ///   queued before the call.
-/// - `drawn`: So that a draw gives it is no premise. While it is queued, let a draw come at least
+/// - `by_draw`: So that a draw gives it is no premise. While it is queued, let a draw come at least
 ///   50 ms after the client's last message, which came no later than `sent`. The result is a message
-///   (`IsDrawn`): a request that is due again, of those to which no response has come; or the first
+///   (`IsDrawOf`): a request that is due again, of those to which no response has come; or the first
 ///   of the messages before this request, so that one less is left; or, if none is left, this
 ///   request. As requests are transmitted again only so often (RFC 8489, section 6.2.1), who draws
 ///   again and again draws this request. That the last message before the call came no later than
@@ -170,7 +170,7 @@ pub fn loops_hold_what_is_requested()
         → IsAskingLoop plan request until (requested made sent) third place
         → place.stage ≡ Pending
         → (ahead : ℕ) × (ahead ≤ most) × IsQueued plan request ahead w }
-    ensures drawn { (plan : Plan) (old two three w v : World) (address : SocketAddr)
+    ensures by_draw { (plan : Plan) (old two three w v : World) (address : SocketAddr)
         (third : List (Event × Answer)) (request : List ℕ) (made until sent ahead now : ℕ)
         (what : ClientCall) (place : Place) (ret : Answer)
         → HasAllocated plan old address two
@@ -185,7 +185,7 @@ pub fn loops_hold_what_is_requested()
         → IsNext until place now
         → time_after place.sent cadence ≤ now
         → IsStep (Draw now) w ret v
-        → IsDrawn plan request ahead w ret v }
+        → IsDrawOf plan request ahead w ret v }
 {
     loops_leave_speakers();
     permissions_are_requested_for();

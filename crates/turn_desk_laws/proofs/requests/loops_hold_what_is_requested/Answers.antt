@@ -40,7 +40,7 @@ use Rattle.turn_desk_progress_laws.proofs.Desks.{IsDeskOf}
 use Rattle.turn_desk_progress_laws.proofs.Following.{IsReady}
 use Rattle.turn_desk_progress_laws.proofs.Looping.{passes}
 use Rattle.turn_desk_progress_laws.proofs.RequestComing.{asker_waits, data_given, frame_answered, holder_waits, nothing_of}
-use Rattle.turn_desk_laws.specs.RequestLoops.{Again, Before, Got, HasAllocated, HasLastSent, HasMade, IsAskingLoop, IsDrawn, IsGiven, IsNext, IsOutstanding, IsQueued, IsRequestCall, Itself, Pending, Place, Stage, StandsBehind, requested}
+use Rattle.turn_desk_laws.specs.RequestLoops.{Again, Before, Got, HasAllocated, HasLastSent, HasMade, IsAskingLoop, IsDrawOf, IsGiven, IsNext, IsOutstanding, IsQueued, IsRequestCall, Itself, Pending, Place, Stage, StandsBehind, requested}
 use Rattle.turn_desk_laws.proofs.RequestMade as established
 use Rattle.turn_desk_laws.proofs.RequestMade.{sooner}
 use Rattle.turn_desk_laws.proofs.RequestQueue.{Given, IsBehind, IsGrown, IsInTime, Left, Next, Owns, Repeats, bind_queue, channel_stands, drawn_behind, drawn_in_time, drawn_last, grown_behind, grown_last, last_on, not_resting, permission_queue, permission_stands, sent_or}
@@ -54,7 +54,7 @@ bound_still a channel peer is = record { standing = is.standing; first = is.firs
 -- ---- the result of a draw
 
 module _ (plan : Plan) (request : List ℕ) (ahead now : ℕ) (w v : World) (ret : Answer) (p q : Protocol) (there : w.client ≡ Some (over (control_at plan.client.transport []) p)) (after : v.client ≡ Some (over (control_at plan.client.transport []) q)) (d : IsDrawnAs p now ret q) where
-  drawn_so : IsInTime request ahead p d.given q → IsDrawn plan request ahead w ret v
+  drawn_so : IsInTime request ahead p d.given q → IsDrawOf plan request ahead w ret v
   drawn_so (Repeats s is out behind) = Again (record { core = p; there = there; is = gives_so ret s (λ (x : Sent). IsOutstanding x.bytes p) (d.shown s is) out }) (record { core = q; there = after; is = behind })
   drawn_so (Owns first s is own) = Itself first (gives_so ret s (λ (x : Sent). x.bytes ≡ request) (d.shown s is) own)
   drawn_so (Next fewer one s is behind) = Before fewer one (gives_so ret s (λ (x : Sent). Unit {0}) (d.shown s is) tt) (record { core = q; there = after; is = behind })
@@ -98,7 +98,7 @@ module _ (c : goal.After-frames_are_taken) (plan : Plan) (old two three : World)
   Asks wanted q = HasRequested plan.client realm address wanted request until q
 
   -- The request of the call is awaited, and queued last.
-  record IsAsked (wanted : Wanted) : Type 0 where
+  record IsRequestMade (wanted : Wanted) : Type 0 where
     after : Protocol
     there : three.client ≡ Some (over (control_at plan.client.transport []) after)
     asks : Asks wanted after
@@ -106,12 +106,12 @@ module _ (c : goal.After-frames_are_taken) (plan : Plan) (old two three : World)
     grown : IsGrown p after
     stands : StandsBehind request (length p.queue) after
 
-  abbrev ready_asked : (wanted : Wanted) → IsAsked wanted → IsReady plan realm [] (Asks wanted) three
+  abbrev ready_asked : (wanted : Wanted) → IsRequestMade wanted → IsReady plan realm [] (Asks wanted) three
   ready_asked wanted a = record { client = record { core = a.after; there = a.there; is = a.asks }; desk = a.desk }
 
   -- ---- a permission
 
-  permission_asked : (transport : TransportType) (ip : IpAddr) → HasMade plan (call.CreatePermission transport ip) made until request two three → IsAsked (APermission ip)
+  permission_asked : (transport : TransportType) (ip : IpAddr) → HasMade plan (call.CreatePermission transport ip) made until request two three → IsRequestMade (APermission ip)
   permission_asked transport ip m =
       let so = established.permission_so plan old two address has speaks transport ip made in
       let a = established.requested_done plan old two address has speaks three (call.CreatePermission transport ip) made (λ r q. IsPermissionReported r transport ip p made q) so m.step in
@@ -139,20 +139,22 @@ module _ (c : goal.After-frames_are_taken) (plan : Plan) (old two three : World)
 
   -- ---- a channel
 
-  channel_asked : (transport : TransportType) (peer : SocketAddr) → HasMade plan (call.BindChannel transport peer) made until request two three → (channel : ℕ) × IsAsked (AChannel channel peer)
+  channel_asked : (transport : TransportType) (peer : SocketAddr) → HasMade plan (call.BindChannel transport peer) made until request two three → (channel : ℕ) × IsRequestMade (AChannel channel peer)
   channel_asked transport peer m =
       let so = established.channel_so plan old two address has speaks transport peer made in
       let a = established.requested_done plan old two address has speaks three (call.BindChannel transport peer) made (λ r q. IsBindReported r transport peer p made q) so m.step in
       let one = established.own_made plan old two address has speaks three (call.BindChannel transport peer) made (λ r q. IsBindReported r transport peer p made q) so request a m.is in
-      let asks = c.channels_are_requested_for.ensures.requested plan.client realm address p a.after transport peer made until request is_speaking (of_it (λ x. AreHeldBeyond until x.allocations) m.beyond) m.early a.reported one in
-      (asks.0, record {
-        after = a.after;
-        there = a.there;
-        desk = established.desk_three plan old two address has speaks three (call.BindChannel transport peer) made (λ r q. IsBindReported r transport peer p made q) so a;
-        asks = asks.1;
-        grown = bind_queue p made transport peer (Ok tt) a.after (λ e. Prim.cc e) a.reported;
-        stands = channel_stands plan.client realm address p is_speaking transport made a.after request one peer a.reported;
-      })
+      let asks = c.channels_are_requested_for.ensures.requested plan.client realm address p a.after transport peer made until request is_speaking (of_it (λ x. AreHeldBeyond until x.allocations) m.beyond) m.early a.reported one in (
+        asks.0,
+        record {
+          after = a.after;
+          there = a.there;
+          desk = established.desk_three plan old two address has speaks three (call.BindChannel transport peer) made (λ r q. IsBindReported r transport peer p made q) so a;
+          asks = asks.1;
+          grown = bind_queue p made transport peer (Ok tt) a.after (λ e. Prim.cc e) a.reported;
+          stands = channel_stands plan.client realm address p is_speaking transport made a.after request one peer a.reported;
+        },
+      )
 
   ask_channel : (channel : ℕ) (peer : SocketAddr) → DoAsk plan realm request (AChannel channel peer) until (Asks (AChannel channel peer)) (λ x. HoldsChannel plan.client channel peer x)
   ask_channel channel peer = record {
@@ -176,15 +178,15 @@ module _ (c : goal.After-frames_are_taken) (plan : Plan) (old two three : World)
       datagrams : plan.client.transport ≡ Udp → four.client ≡ Some (over Datagrams h.core)
       datagrams udp = h.there ∙ ap (λ (t : TransportType). Some (over (control_at t []) h.core)) udp
 
-    permission_got : (ip : IpAddr) → IsAsked (APermission ip) → HasClient plan [] four (λ x. HoldsPermission plan.client ip x)
+    permission_got : (ip : IpAddr) → IsRequestMade (APermission ip) → HasClient plan [] four (λ x. HoldsPermission plan.client ip x)
     permission_got ip a =
         subst (λ (x : Stage). IsAtStage plan realm request (APermission ip) until (Asks (APermission ip)) (λ y. HoldsPermission plan.client ip y) (ask_permission ip) range x four) got (asking plan realm request (APermission ip) until (Asks (APermission ip)) (λ x. HoldsPermission plan.client ip x) (ask_permission ip) range third three four (requested made sent) place (ready_asked (APermission ip) a) on loop)
 
-    channel_got : (channel : ℕ) (peer : SocketAddr) → IsAsked (AChannel channel peer) → HasClient plan [] four (λ x. HoldsChannel plan.client channel peer x)
+    channel_got : (channel : ℕ) (peer : SocketAddr) → IsRequestMade (AChannel channel peer) → HasClient plan [] four (λ x. HoldsChannel plan.client channel peer x)
     channel_got channel peer a =
         subst (λ (x : Stage). IsAtStage plan realm request (AChannel channel peer) until (Asks (AChannel channel peer)) (λ y. HoldsChannel plan.client channel peer y) (ask_channel channel peer) range x four) got (asking plan realm request (AChannel channel peer) until (Asks (AChannel channel peer)) (λ x. HoldsChannel plan.client channel peer x) (ask_channel channel peer) range third three four (requested made sent) place (ready_asked (AChannel channel peer) a) on loop)
 
-    permission_held : (ip : IpAddr) → IsAsked (APermission ip) → IsPermissionHeld plan ip now four
+    permission_held : (ip : IpAddr) → IsRequestMade (APermission ip) → IsPermissionHeld plan ip now four
     permission_held ip a = record {
       held = record { core = h.core; there = h.there; is = c.granted_permissions_are_held.ensures.had plan.client ip h.core h.is };
       used = used;
@@ -201,7 +203,7 @@ module _ (c : goal.After-frames_are_taken) (plan : Plan) (old two three : World)
             let is = data_given plan.client four next h.core h.is.settings bytes now ret (datagrams (λ x. HoldsPermission plan.client ip x) h over_udp) (within now at) comes plan.client.config.transport peer g.start g.end payload g.gives g.part in
             record { given = is.given; answer_is = is.answer_is; is = record { payload_is = is.payload_is; transport_is = is.transport_is; peer_is = is.peer_is } }
 
-    channel_held : (channel : ℕ) (peer : SocketAddr) → IsAsked (AChannel channel peer) → IsChannelHeld plan peer now four
+    channel_held : (channel : ℕ) (peer : SocketAddr) → IsRequestMade (AChannel channel peer) → IsChannelHeld plan peer now four
     channel_held channel peer a = record {
       number = channel;
       held = record { core = k.core; there = k.there; is = c.granted_channels_are_held.ensures.visible plan.client channel peer k.core k.is };
@@ -219,32 +221,32 @@ module _ (c : goal.After-frames_are_taken) (plan : Plan) (old two three : World)
   -- ---- what is queued
 
   module _ (w : World) (third : List (Event × Answer)) (place : Place) (sent : ℕ) (range : until ≤ client_end) (before : sent ≤ made) (on : IsRun three third w) (loop : IsAskingLoop plan request until (requested made sent) third place) (pending : place.stage ≡ Pending)
-      (wanted : Wanted) (Held : Protocol → Type 0) (do_ask : DoAsk plan realm request wanted until (Asks wanted) Held) (a : IsAsked wanted) where
+      (wanted : Wanted) (Held : Protocol → Type 0) (do_ask : DoAsk plan realm request wanted until (Asks wanted) Held) (a : IsRequestMade wanted) where
     queued_so : (most : ℕ) → length p.queue ≡ most → (ahead : ℕ) × (ahead ≤ most) × IsQueued plan request ahead w
     queued_so most many =
         let s = waiting plan realm request wanted until (Asks wanted) Held do_ask range (IsFew request most) (λ n x y is g. few_grows request most n x y is g)
-            (λ n at x y ret early on_phase not_given is d. few_goes request most n at x y ret not_given is d) third three w (requested made sent) place pending
-            (record {
-              before = before;
-              ready = record { client = record { core = a.after; there = a.there; is = (a.asks, (length p.queue, omega (arith, many), a.stands)) }; desk = a.desk };
-            }) on loop in
+        (λ n at x y ret early on_phase not_given is d. few_goes request most n at x y ret not_given is d) third three w (requested made sent) place pending
+        (record {
+          before = before;
+          ready = record { client = record { core = a.after; there = a.there; is = (a.asks, (length p.queue, omega (arith, many), a.stands)) }; desk = a.desk };
+        }) on loop in
         let few = s.ready.client.is.1 in
         (few.0, few.1, record { core = s.ready.client.core; there = s.ready.client.there; is = few.2 })
 
-    drawn_there : (ahead now : ℕ) (v : World) (ret : Answer) → HasLastSent sent p → IsQueued plan request ahead w → IsNext until place now → time_after place.sent cadence ≤ now → IsStep (Draw now) w ret v → IsDrawn plan request ahead w ret v
+    drawn_there : (ahead now : ℕ) (v : World) (ret : Answer) → HasLastSent sent p → IsQueued plan request ahead w → IsNext until place now → time_after place.sent cadence ≤ now → IsStep (Draw now) w ret v → IsDrawOf plan request ahead w ret v
     drawn_there ahead now v ret last behind next late step =
         let s = waiting plan realm request wanted until (Asks wanted) Held do_ask range HasLastSent (λ n x y is g. grown_last n x y is g)
-            (λ n at x y given early on_phase not_given is d. last_goes n at x y given early on_phase is d) third three w (requested made sent) place pending
-            (record {
-              before = before;
-              ready = record { client = record { core = a.after; there = a.there; is = (a.asks, grown_last sent p a.after last a.grown) }; desk = a.desk };
-            }) on loop in
+        (λ n at x y given early on_phase not_given is d. last_goes n at x y given early on_phase is d) third three w (requested made sent) place pending
+        (record {
+          before = before;
+          ready = record { client = record { core = a.after; there = a.there; is = (a.asks, grown_last sent p a.after last a.grown) }; desk = a.desk };
+        }) on loop in
         let core = s.ready.client.core in
         let same = same_core (control_at plan.client.transport []) behind.core core w.client behind.there s.ready.client.there in
         let stands = subst (λ (x : Protocol). StandsBehind request ahead x) same behind.is in
         let d = draws_on (control_at plan.client.transport []) w v core now ret s.ready.client.there (passes now until client_end next.early range) step in
-        drawn_so plan request ahead now w v ret core d.core s.ready.client.there d.there d.drawn
-        (drawn_in_time request ahead core stands now d.drawn.given d.core (not_resting place.sent now core s.ready.client.is.1 late) d.drawn.transmitted)
+        drawn_so plan request ahead now w v ret core d.core s.ready.client.there d.there d.by_draw
+        (drawn_in_time request ahead core stands now d.by_draw.given d.core (not_resting place.sent now core s.ready.client.is.1 late) d.by_draw.transmitted)
 
   abbrev Queued : World → ℕ → Type 0
   Queued w most = (ahead : ℕ) × (ahead ≤ most) × IsQueued plan request ahead w
@@ -258,14 +260,14 @@ module _ (c : goal.After-frames_are_taken) (plan : Plan) (old two three : World)
       queued_so w third place sent m.in_range before on loop pending (AChannel a.0 peer) (λ x. HoldsChannel plan.client a.0 peer x) (ask_channel a.0 peer) a.1 most many
   queued_by _ is m w third place sent most before many on loop pending = absurd is
 
-  drawn_by : (what : ClientCall) → IsRequestCall what → HasMade plan what made until request two three → (w v : World) (third : List (Event × Answer)) (place : Place) (sent ahead now : ℕ) (ret : Answer) → sent ≤ made → HasLastSent sent p → IsRun three third w
-      → IsAskingLoop plan request until (requested made sent) third place → place.stage ≡ Pending → IsQueued plan request ahead w → IsNext until place now → time_after place.sent cadence ≤ now → IsStep (Draw now) w ret v → IsDrawn plan request ahead w ret v
-  drawn_by (call.CreatePermission transport ip) is m w v third place sent ahead now ret before last on loop pending behind next late step =
+  by_draw_of : (what : ClientCall) → IsRequestCall what → HasMade plan what made until request two three → (w v : World) (third : List (Event × Answer)) (place : Place) (sent ahead now : ℕ) (ret : Answer) → sent ≤ made → HasLastSent sent p → IsRun three third w
+      → IsAskingLoop plan request until (requested made sent) third place → place.stage ≡ Pending → IsQueued plan request ahead w → IsNext until place now → time_after place.sent cadence ≤ now → IsStep (Draw now) w ret v → IsDrawOf plan request ahead w ret v
+  by_draw_of (call.CreatePermission transport ip) is m w v third place sent ahead now ret before last on loop pending behind next late step =
       drawn_there w third place sent m.in_range before on loop pending (APermission ip) (λ x. HoldsPermission plan.client ip x) (ask_permission ip) (permission_asked transport ip m) ahead now v ret last behind next late step
-  drawn_by (call.BindChannel transport peer) is m w v third place sent ahead now ret before last on loop pending behind next late step =
+  by_draw_of (call.BindChannel transport peer) is m w v third place sent ahead now ret before last on loop pending behind next late step =
       let a = channel_asked transport peer m in
       drawn_there w third place sent m.in_range before on loop pending (AChannel a.0 peer) (λ x. HoldsChannel plan.client a.0 peer x) (ask_channel a.0 peer) a.1 ahead now v ret last behind next late step
-  drawn_by _ is m w v third place sent ahead now ret before last on loop pending behind next late step = absurd is
+  by_draw_of _ is m w v third place sent ahead now ret before last on loop pending behind next late step = absurd is
 
 pub returns-clause-permission : goal.returns-clause-permission
 returns-clause-permission c = λ plan old two three four address third request grant made until sent now ip place has m on loop got next.
@@ -280,6 +282,6 @@ pub returns-clause-queued : goal.returns-clause-queued
 returns-clause-queued c = λ plan old two three w address third request made until sent most what place has asks m many before on loop pending.
     queued_by c plan old two three address has request made until what asks m w third place sent most before (of_it c plan old two three address has request made until (λ x. length x.queue ≡ most) many) on loop pending
 
-pub returns-clause-drawn : goal.returns-clause-drawn
-returns-clause-drawn c = λ plan old two three w v address third request made until sent ahead now what place ret has asks m last before on loop pending behind next late step.
-    drawn_by c plan old two three address has request made until what asks m w v third place sent ahead now ret before (of_it c plan old two three address has request made until (λ x. HasLastSent sent x) last) on loop pending behind next late step
+pub returns-clause-by_draw : goal.returns-clause-by_draw
+returns-clause-by_draw c = λ plan old two three w v address third request made until sent ahead now what place ret has asks m last before on loop pending behind next late step.
+    by_draw_of c plan old two three address has request made until what asks m w v third place sent ahead now ret before (of_it c plan old two three address has request made until (λ x. HasLastSent sent x) last) on loop pending behind next late step
