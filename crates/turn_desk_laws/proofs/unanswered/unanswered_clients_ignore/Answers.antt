@@ -63,6 +63,7 @@ module _ (c : goal.After-messages_reach_clients) (plan : Plan) (w v : World) (re
   -- The same stage, with this client and other bytes buffered.
   stage_with : (request : RequestState) (ret : Answer) (is : IsStageOf plan reported request t head w) (next : List ℕ) → v.client ≡ Some (over (control_at plan.client.transport next) (core_of request is).core) → event_in ret ≡ []
       → IsStageOf plan (reported ++ event_in ret) request t next v
+  unfolding core_of
   stage_with Unmade ret is next there silent = record {
     untold = untold reported (event_in ret) is.untold silent;
     none_sent = is.none_sent;

@@ -3,7 +3,9 @@ use Rattle.turn_client_proto_api.specs.declared.event.TurnEvent.{TurnEvent}
 use Rattle.turn_client_proto_handshake_laws.specs.Coming.{IsPartOf}
 use Rattle.turn_client_proto_handshake_laws.specs.Sent.{HasRoom, Sending}
 use Rattle.turn_desk_event.specs.declared.answer.Answer.{Answer}
+use Rattle.turn_desk_event.specs.declared.event.ClientCall.TheVariants as call
 use Rattle.turn_desk_event.specs.declared.event.Event.{Event}
+use Rattle.turn_desk_event.specs.declared.event.Event.TheVariants.{Call, ToClient, ToDesk}
 use Rattle.turn_desk_world_laws.specs.World.Model.{World}
 use Rattle.turn_desk_world_laws.specs.World.Runs.{IsStep}
 use Rattle.turn_desk_progress_laws.specs.Loops.{Timing}
@@ -42,24 +44,24 @@ module _ (c : goal.After-unanswered_clients_ignore) (plan : Plan) (w v : World) 
     sent = c.unanswered_clients_ask_again.ensures.sends plan w v reported sendings position.request t position.buffered now ret room is.stage may early step is.sent;
     stage = (c.unanswered_clients_ask_again.ensures.asks plan w v reported position.request t position.buffered now ret room is.stage may early step).0;
   })
-  one (Polls now before early is_event to) = as_said _ _ is_event to (λ step. stays _ refl (c.unanswered_clients_time_out.ensures.waits plan w v reported position.request t position.buffered now ret is.stage before early step))
+  one (Polls now before early is_event to) = as_said _ _ is_event to (λ step. stays (Call call.Poll now) refl (c.unanswered_clients_time_out.ensures.waits plan w v reported position.request t position.buffered now ret is.stage before early step))
   one (TimesOut now at over early is_event to) = as_said _ _ is_event to (λ step. record {
     message = is.message;
     part = is.part;
-    sent = untransmitted _ refl;
+    sent = untransmitted (Call call.Poll now) refl;
     stage = c.unanswered_clients_time_out.ensures.ends plan w v reported t position.buffered now ret (subst (λ (r : RequestState). IsStageOf plan reported r t position.buffered w) at is.stage) over early step;
   })
-  one (Looks what now look is_event to) = as_said _ _ is_event to (λ step. stays _ refl (c.unanswered_clients_stay.ensures.looks plan w v reported position.request t position.buffered what now ret is.stage look step))
-  one (Receives now is_event to) = as_said _ _ is_event to (λ step. stays _ refl (c.unanswered_clients_stay.ensures.receives plan w v reported position.request t position.buffered is.message now ret is.stage is.part step))
+  one (Looks what now look is_event to) = as_said _ _ is_event to (λ step. stays (Call what now) refl (c.unanswered_clients_stay.ensures.looks plan w v reported position.request t position.buffered what now ret is.stage look step))
+  one (Receives now is_event to) = as_said _ _ is_event to (λ step. stays (Call call.PollRecv now) refl (c.unanswered_clients_stay.ensures.receives plan w v reported position.request t position.buffered is.message now ret is.stage is.part step))
   one (Serves bytes from now decision seed is_event to) =
-      as_said _ _ is_event to (λ step. stays _ refl (c.unanswered_clients_stay.ensures.serves plan w v reported position.request t position.buffered bytes from now decision seed ret is.stage step))
+      as_said _ _ is_event to (λ step. stays (ToDesk bytes from now decision seed) refl (c.unanswered_clients_stay.ensures.serves plan w v reported position.request t position.buffered bytes from now decision seed ret is.stage step))
   one (Strays bytes from far now elsewhere is_event to) =
-      as_said _ _ is_event to (λ step. stays _ refl (c.unanswered_clients_ignore.ensures.strays plan w v reported position.request t position.buffered bytes from far now ret is.stage elsewhere step))
+      as_said _ _ is_event to (λ step. stays (ToClient bytes from far now) refl (c.unanswered_clients_ignore.ensures.strays plan w v reported position.request t position.buffered bytes from far now ret is.stage elsewhere step))
   one (Garbles bytes from far now udp none is_event to) =
-      as_said _ _ is_event to (λ step. stays _ refl (c.unanswered_clients_ignore.ensures.garbles plan w v reported position.request t position.buffered bytes from far now ret is.stage udp none step))
+      as_said _ _ is_event to (λ step. stays (ToClient bytes from far now) refl (c.unanswered_clients_ignore.ensures.garbles plan w v reported position.request t position.buffered bytes from far now ret is.stage udp none step))
   one (Brings message rest bytes now whole may on early is_event to) = as_said _ _ is_event to (λ step.
       let s = c.unanswered_clients_ignore.ensures.brings plan w v reported position.request t position.buffered message rest bytes now ret is.stage whole may on early step in
-      record { message = s.1.0; part = s.1.1; sent = untransmitted _ refl; stage = s.0 })
+      record { message = s.1.0; part = s.1.1; sent = untransmitted (ToClient bytes plan.client.server plan.client.here now) refl; stage = s.0 })
 
 pub returns : goal.returns
 returns c = λ plan w v reported sendings position next event ret room goes is step. one c plan w v reported sendings room position next event ret is goes step
