@@ -38,7 +38,7 @@ use Rattle.turn_client_proto_step_laws.proofs.Lists.{found_in}
 use Rattle.turn_client_proto_progress_laws.proofs.Asking.Tools.{where_false, where_true}
 use Rattle.turn_client_proto_handshake_laws.specs.Sent.{Beginning}
 use Rattle.turn_client_proto_progress_laws.specs.Asking.{AChannel}
-use Rattle.turn_desk_laws.specs.RequestChallenges.{AwaitsChannelBy, HasAsked}
+use Rattle.turn_desk_laws.specs.RequestChallenges.{AwaitsChannelBy, HasMadeRequest}
 use Rattle.turn_client_proto_progress_laws.specs.Holding.{HoldsChannel, IsBoundTo, IsFrameOf, IsGrantOf}
 use Rattle.turn_client_proto_progress_laws.specs.Speaking.{standing_under}
 use Rattle.turn_client_proto_progress_laws.proofs.Asking.Granted.{after_like}
@@ -57,7 +57,7 @@ module _ (numbers : List ℕ) (number channel : ℕ) (peer : SocketAddr) where
   awaits_in : (a : Allocation) → AwaitsChannelBy numbers number channel peer a → awaits_reply number a ≡ true
   awaits_in a is = ap is_some (asks_in a is)
 
-module _ (b : Beginning) (realm : List ℕ) (address : SocketAddr) (channel : ℕ) (peer : SocketAddr) (request : List ℕ) (until beyond now : ℕ) (p : Protocol) (h : HasAsked b realm address (AChannel channel peer) request until beyond p) where
+module _ (b : Beginning) (realm : List ℕ) (address : SocketAddr) (channel : ℕ) (peer : SocketAddr) (request : List ℕ) (until beyond now : ℕ) (p : Protocol) (h : HasMadeRequest b realm address (AChannel channel peer) request until beyond p) where
   abbrev a : Allocation
   a = h.allocation
 

@@ -67,7 +67,7 @@ use Rattle.turn_client_proto_progress_laws.proofs.Asking.Moving.{beside_put}
 use Rattle.turn_client_proto_progress_laws.proofs.Asking.Processing.{judged_signs, processed_speaks}
 use Rattle.turn_client_proto_progress_laws.proofs.Asking.Tools.{Table, put_there, stays_there, where_false, where_true}
 use Rattle.turn_client_proto_progress_laws.proofs.TcpBinding.Tools.{challenges_respond, clash}
-use Rattle.turn_desk_laws.specs.RequestChallenges.{AwaitsBy, AwaitsChannelBy, AwaitsPermissionBy, HasAsked, HasNoneBut, IsChallengeTo, IsMadeAgain, MayAnswer}
+use Rattle.turn_desk_laws.specs.RequestChallenges.{AwaitsBy, AwaitsChannelBy, AwaitsPermissionBy, HasMadeRequest, HasNoneBut, IsChallengeTo, IsMadeAgain, MayAnswer}
 
 -- ---- tools
 
@@ -218,7 +218,7 @@ module _ (old number : ℕ) (a : Allocation) (unawaited : awaits_number number a
 
 -- ---- the challenge is answered
 
-module _ (b : Beginning) (realm : List ℕ) (address : SocketAddr) (wanted : Wanted) (request : List ℕ) (until beyond : ℕ) (p : Protocol) (h : HasAsked b realm address wanted request until beyond p) (message : List ℕ) (reported : ChallengeFields) (is : IsChallengeTo realm request reported message)
+module _ (b : Beginning) (realm : List ℕ) (address : SocketAddr) (wanted : Wanted) (request : List ℕ) (until beyond : ℕ) (p : Protocol) (h : HasMadeRequest b realm address wanted request until beyond p) (message : List ℕ) (reported : ChallengeFields) (is : IsChallengeTo realm request reported message)
     (times : ℕ) (may : MayAnswer reported (times + 1) p) (now later : ℕ) (early : later < end_at now b.config.waits) where
   abbrev a : Allocation
   a = h.allocation
@@ -358,7 +358,7 @@ module _ (b : Beginning) (realm : List ℕ) (address : SocketAddr) (wanted : Wan
     unfolding challenged asks_again requested
     after_resends = refl
 
-    asks_after : Speaks b realm address after → HasAsked b realm address wanted text later beyond after
+    asks_after : Speaks b realm address after → HasMadeRequest b realm address wanted text later beyond after
     asks_after speaks =
         let r = reissued (number_at message) number a unawaited wanted h.numbers own_awaits in
         let ends_then : end_at now p.agent.waits ≡ end_at now b.config.waits = ap (λ w. end_at now w) h.speaks.settings.waits in

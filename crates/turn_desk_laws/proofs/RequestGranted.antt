@@ -56,18 +56,18 @@ use Rattle.turn_client_proto_progress_laws.proofs.Asking.Tools.{no_challenge, su
 use Rattle.turn_client_proto_progress_laws.proofs.Asking.Tools.{where_false, where_true}
 use Rattle.turn_client_proto_handshake_laws.specs.Sent.{Beginning}
 use Rattle.turn_client_proto_progress_laws.specs.Asking.{APermission, AChannel, Wanted}
-use Rattle.turn_desk_laws.specs.RequestChallenges.{AwaitsChannelBy, HasAsked}
+use Rattle.turn_desk_laws.specs.RequestChallenges.{AwaitsChannelBy, HasMadeRequest}
 use Rattle.turn_client_proto_progress_laws.specs.Holding.{HoldsPermission, IsGrantOf}
 use Rattle.turn_client_proto_progress_laws.specs.Speaking.{standing_under}
 use Rattle.turn_client_proto_progress_laws.proofs.Asking.Lists.{none_found, one_changed, one_found}
 use Rattle.turn_client_proto_progress_laws.proofs.Asking.Granted.{after_like}
 use Rattle.turn_client_proto_progress_laws.specs.Speaking.{HasAtMost, IsOwn}
 
-module _ (b : Beginning) (realm : List ℕ) (address : SocketAddr) (wanted : Wanted) (request : List ℕ) (until beyond : ℕ) (p : Protocol) (h : HasAsked b realm address wanted request until beyond p) where
+module _ (b : Beginning) (realm : List ℕ) (address : SocketAddr) (wanted : Wanted) (request : List ℕ) (until beyond : ℕ) (p : Protocol) (h : HasMadeRequest b realm address wanted request until beyond p) where
   pub own : IsOwn b address h.allocation
   own = subst (λ (l : List Allocation). HasAtMost b address l) h.only h.speaks.one
 
-module _ (b : Beginning) (realm : List ℕ) (address : SocketAddr) (wanted : Wanted) (request : List ℕ) (until beyond now : ℕ) (p : Protocol) (h : HasAsked b realm address wanted request until beyond p) where
+module _ (b : Beginning) (realm : List ℕ) (address : SocketAddr) (wanted : Wanted) (request : List ℕ) (until beyond now : ℕ) (p : Protocol) (h : HasMadeRequest b realm address wanted request until beyond p) where
   abbrev standing : auth.Standing
   standing = standing_under b h.speaks.signs.challenge
 
@@ -138,7 +138,7 @@ last_passes : (ip : IpAddr) (now : ℕ) (xs : List Permission) → list_any (is_
 last_passes ip now [] = ap (λ (x : Bool). x || false) (itself_ip ip)
 last_passes ip now (x ∷ xs) = ap (λ (y : Bool). is_for ip x || y) (last_passes ip now xs) ∙ or_true (is_for ip x)
 
-module _ (b : Beginning) (realm : List ℕ) (address : SocketAddr) (ip : IpAddr) (request : List ℕ) (until beyond now : ℕ) (p : Protocol) (h : HasAsked b realm address (APermission ip) request until beyond p) where
+module _ (b : Beginning) (realm : List ℕ) (address : SocketAddr) (ip : IpAddr) (request : List ℕ) (until beyond now : ℕ) (p : Protocol) (h : HasMadeRequest b realm address (APermission ip) request until beyond p) where
   abbrev a : Allocation
   a = h.allocation
 

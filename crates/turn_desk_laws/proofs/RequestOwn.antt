@@ -26,7 +26,7 @@ use Rattle.turn_client_proto_handshake_laws.specs.Stages.{Holds}
 use Rattle.turn_client_proto_handshake_laws.specs.Sent.{Beginning}
 use Rattle.turn_client_proto_progress_laws.specs.Asking.{APermission, AChannel, Wanted, request_for}
 use Rattle.turn_client_proto_progress_laws.proofs.Asking.Own.{AreRead, DoClaim}
-use Rattle.turn_desk_laws.specs.RequestChallenges.{HasAsked}
+use Rattle.turn_desk_laws.specs.RequestChallenges.{HasMadeRequest}
 use Rattle.turn_client_proto_progress_laws.specs.Holding.{IsOwnRequest}
 use Rattle.turn_client_proto_progress_laws.specs.Speaking.{HasAtMost, HasBeenServed, Signs, Speaks, standing_under}
 
@@ -44,7 +44,7 @@ method_so : (wanted : Wanted) → method_of (request_type (request_for wanted)) 
 method_so (APermission ip) = refl
 method_so (AChannel channel peer) = refl
 
-module _ (b : Beginning) (realm : List ℕ) (address : SocketAddr) (wanted : Wanted) (request : List ℕ) (until beyond : ℕ) (p : Protocol) (h : HasAsked b realm address wanted request until beyond p) where
+module _ (b : Beginning) (realm : List ℕ) (address : SocketAddr) (wanted : Wanted) (request : List ℕ) (until beyond : ℕ) (p : Protocol) (h : HasMadeRequest b realm address wanted request until beyond p) where
   abbrev standing : auth.Standing
   standing = standing_under b h.speaks.signs.challenge
 

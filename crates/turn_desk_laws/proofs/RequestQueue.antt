@@ -48,7 +48,7 @@ use Rattle.turn_client_proto_step_laws.specs.Timers.Polling.{cadence}
 use Rattle.turn_client_proto_progress_laws.proofs.Asking.Between.{tested}
 use Rattle.turn_client_proto_progress_laws.proofs.Asking.Tools.{refused_or}
 use Rattle.turn_client_proto_progress_laws.proofs.Asking.Lists.{not_both}
-use Rattle.turn_desk_laws.specs.RequestLoops.{HasLastSent, IsOutstanding, StandsBehind}
+use Rattle.turn_desk_laws.specs.RequestLoops.{HasLastSent, IsOutstanding, IsQueuedAfter}
 
 -- ---- calls
 
@@ -174,7 +174,7 @@ module _ (p : Protocol) where
     bind_queue transport peer ret q ample is = bind_by transport peer ret q (bind_refusal p transport peer at) ample is.refused is.tried
 
 -- The request stands where it stood.
-pub grown_behind : (request : List ℕ) (ahead : ℕ) (p q : Protocol) → StandsBehind request ahead p → IsGrown p q → StandsBehind request ahead q
+pub grown_behind : (request : List ℕ) (ahead : ℕ) (p q : Protocol) → IsQueuedAfter request ahead p → IsGrown p q → IsQueuedAfter request ahead q
 grown_behind request ahead p q b g = record {
   before = b.before;
   own = b.own;
@@ -224,17 +224,17 @@ without_it own (x ∷ before) after asks = elim (cases_Bool (is_answer x)) [
 -- It is behind no more messages than it was, or the result is the request.
 pub data IsBehind (request : List ℕ) (ahead : ℕ) (sent : Option Sent) (q : Protocol) : Type 0 where
   Given : (s : Sent) → sent ≡ Some s → s.bytes ≡ request → IsBehind request ahead sent q
-  Left : (fewer : ℕ) → fewer ≤ ahead → StandsBehind request fewer q → IsBehind request ahead sent q
+  Left : (fewer : ℕ) → fewer ≤ ahead → IsQueuedAfter request fewer q → IsBehind request ahead sent q
 
 -- The same of a draw at least 50 ms after the last message.
 pub data IsInTime (request : List ℕ) (ahead : ℕ) (p : Protocol) (sent : Option Sent) (q : Protocol) : Type 0 where
-  Repeats : (s : Sent) → sent ≡ Some s → IsOutstanding s.bytes p → StandsBehind request ahead q → IsInTime request ahead p sent q
+  Repeats : (s : Sent) → sent ≡ Some s → IsOutstanding s.bytes p → IsQueuedAfter request ahead q → IsInTime request ahead p sent q
   Owns : ahead ≡ 0 → (s : Sent) → sent ≡ Some s → s.bytes ≡ request → IsInTime request ahead p sent q
-  Next : (fewer : ℕ) → ahead ≡ fewer + 1 → (s : Sent) → sent ≡ Some s → StandsBehind request fewer q → IsInTime request ahead p sent q
+  Next : (fewer : ℕ) → ahead ≡ fewer + 1 → (s : Sent) → sent ≡ Some s → IsQueuedAfter request fewer q → IsInTime request ahead p sent q
 
-module _ (request : List ℕ) (ahead : ℕ) (p : Protocol) (b : StandsBehind request ahead p) (at : ℕ) where
+module _ (request : List ℕ) (ahead : ℕ) (p : Protocol) (b : IsQueuedAfter request ahead p) (at : ℕ) where
   -- The queue stays.
-  stays_behind : (q : Protocol) → q.queue ≡ p.queue → StandsBehind request ahead q
+  stays_behind : (q : Protocol) → q.queue ≡ p.queue → IsQueuedAfter request ahead q
   stays_behind q same = record { before = b.before; own = b.own; after = b.after; queue_is = same ∙ b.queue_is; bytes_are = b.bytes_are; requests = b.requests; many = b.many }
 
   own_asks : is_answer b.own ≡ false
@@ -353,15 +353,15 @@ unfolding after_binding requested
 channel_text transport p peer channel number at = refl
 
 module _ (b : Beginning) (realm : List ℕ) (address : SocketAddr) (p : Protocol) (speaks : Speaks b realm address p) (transport : TransportType) (at : ℕ) (q : Protocol) (request : List ℕ) (one : IsMade p q request) where
-  queued_last : (text : List ℕ) → q.queue ≡ p.queue ++ queued_request p.agent.here text ∷ [] → request ≡ text → StandsBehind request (length p.queue) q
+  queued_last : (text : List ℕ) → q.queue ≡ p.queue ++ queued_request p.agent.here text ∷ [] → request ≡ text → IsQueuedAfter request (length p.queue) q
   queued_last text is same = record { before = p.queue; own = queued_request p.agent.here text; after = []; queue_is = is; bytes_are = sym same; requests = refl; many = refl }
 
-  pub permission_stands : (ip : IpAddr) → IsPermissionAnswered p transport ip at (Ok tt) q → StandsBehind request (length p.queue) q
+  pub permission_stands : (ip : IpAddr) → IsPermissionAnswered p transport ip at (Ok tt) q → IsQueuedAfter request (length p.queue) q
   permission_stands ip is =
       let m = made b realm address p speaks transport ip at q is in
       queued_last _ (ap (λ (x : Protocol). x.queue) m.1.after ∙ permission_text transport p ip m.1.number at) (permission_own b realm address p speaks transport ip at q m.0 m.1 request one)
 
-  pub channel_stands : (peer : SocketAddr) → IsBindAnswered p transport peer at (Ok tt) q → StandsBehind request (length p.queue) q
+  pub channel_stands : (peer : SocketAddr) → IsBindAnswered p transport peer at (Ok tt) q → IsQueuedAfter request (length p.queue) q
   channel_stands peer is =
       let m = bound b realm address p speaks transport peer at q is in
       queued_last _ (ap (λ (x : Protocol). x.queue) m.is.after ∙ channel_text transport p peer m.channel m.is.number at) (channel_own b realm address p speaks transport peer at q m request one)

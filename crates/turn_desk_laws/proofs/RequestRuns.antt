@@ -49,7 +49,7 @@ use Rattle.turn_desk_progress_laws.proofs.Desks.{IsDeskOf, grants_own}
 use Rattle.turn_desk_progress_laws.proofs.Following.{IsReady, at_desk, placed}
 use Rattle.turn_desk_progress_laws.proofs.Looping.{passes, sent_sooner}
 use Rattle.turn_desk_progress_laws.proofs.RequestComing.{IsBrought, IsStoredOf, brings, nothing_of, part_of_one}
-use Rattle.turn_desk_laws.specs.RequestLoops.{AtDesk, Brings, Calls, Draws, Grants, Granted, Got, IsAskingLoop, IsAwaited, IsDrawnTo, IsGiven, IsNext, Leads, Pending, Place, Receives, Stage, Transmitted, brought}
+use Rattle.turn_desk_laws.specs.RequestLoops.{AtDesk, Brings, Calls, Draws, Grants, Granted, Got, IsAskingLoop, IsAwaited, IsDrawTo, IsGiven, IsNext, Leads, Pending, RequestPosition, Receives, Stage, Transmitted, brought}
 use Rattle.turn_desk_laws.proofs.RequestQueue.{IsGrown, bind_queue, permission_queue, polled_queue, same_queue, sent_or, taken_queue, unchanged_queue}
 
 -- ---- what is known of a client that awaits a response
@@ -194,7 +194,7 @@ module _ (plan : Plan) (realm request : List ℕ) (wanted : Wanted) (until : ℕ
   transmits head w v at ret early ready step = acted head w v at early ready (draws (control_at plan.client.transport head) w v ready.client.core at ret ready.client.there step)
 
   -- After a draw.
-  drawn_to : (stage next : Stage) (ret : Answer) (w v : World) → IsAwaited stage → IsDrawnTo request stage ret next → IsAtStage stage w → IsReady plan realm (head_of stage) Asks v → IsAtStage next v
+  drawn_to : (stage next : Stage) (ret : Answer) (w v : World) → IsAwaited stage → IsDrawTo request stage ret next → IsAtStage stage w → IsReady plan realm (head_of stage) Asks v → IsAtStage next v
   drawn_to Pending next ret w v awaits (inl given) s ready = subst (λ (x : Stage). IsAtStage x v) (sym given.1) ready
   drawn_to Pending next ret w v awaits (inr other) s ready = subst (λ (x : Stage). IsAtStage x v) (sym other.1) ready
   drawn_to Transmitted next ret w v awaits to s ready = subst (λ (x : Stage). IsAtStage x v) (sym to) ready
@@ -246,34 +246,34 @@ module _ (plan : Plan) (realm request : List ℕ) (wanted : Wanted) (until : ℕ
       came w v now reply head (head ++ bytes.items) rest early a
       (brings plan.client w v c.core (do_ask.of c.core c.is) bytes now ret (within now (passes now until client_end early range)) step reply a.grant.message (ap is_indication a.grant.success) plan.client.transport head rest c.there on)
 
-  one : (event : Event) (w v : World) (ret : Answer) (place next : Place) → Leads plan request until place event ret next → IsAtStage place.stage w → IsStep event w ret v → IsAtStage next.stage v
-  one event w v ret place next (Draws now stage awaits in_time is by_draw to) s step =
-      subst (λ (x : Place). IsAtStage x.stage v) (sym to)
-      (drawn_to place.stage stage ret w v awaits by_draw s (transmits (head_of place.stage) w v now ret in_time.early (ready_of place.stage w awaits s) (subst (λ (e : Event). IsStep e w ret v) is step)))
-  one event w v ret place next (Calls what now awaits own in_time is to) s step =
-      subst (λ (x : Place). IsAtStage x.stage v) (sym to)
-      (stage_of place.stage w v awaits s (called (head_of place.stage) w v what now ret in_time.early own (ready_of place.stage w awaits s) (subst (λ (e : Event). IsStep e w ret v) is step)))
-  one event w v ret place next (Receives now in_time is to) s step =
-      subst (λ (x : Place). IsAtStage x.stage v) (sym to) (received place.stage w v now ret s (subst (λ (e : Event). IsStep e w ret v) is step))
-  one event w v ret place next (AtDesk bytes from now decision seed is to) s step =
-      subst (λ (x : Place). IsAtStage x.stage v) (sym to) (served place.stage w v ret bytes from now decision seed s (subst (λ (e : Event). IsStep e w ret v) is step))
-  one event w v ret place next (Grants bytes reply now decision seed at same is said success to) s step =
+  one : (event : Event) (w v : World) (ret : Answer) (position next : RequestPosition) → Leads plan request until position event ret next → IsAtStage position.stage w → IsStep event w ret v → IsAtStage next.stage v
+  one event w v ret position next (Draws now stage awaits in_time is by_draw to) s step =
+      subst (λ (x : RequestPosition). IsAtStage x.stage v) (sym to)
+      (drawn_to position.stage stage ret w v awaits by_draw s (transmits (head_of position.stage) w v now ret in_time.early (ready_of position.stage w awaits s) (subst (λ (e : Event). IsStep e w ret v) is step)))
+  one event w v ret position next (Calls what now awaits own in_time is to) s step =
+      subst (λ (x : RequestPosition). IsAtStage x.stage v) (sym to)
+      (stage_of position.stage w v awaits s (called (head_of position.stage) w v what now ret in_time.early own (ready_of position.stage w awaits s) (subst (λ (e : Event). IsStep e w ret v) is step)))
+  one event w v ret position next (Receives now in_time is to) s step =
+      subst (λ (x : RequestPosition). IsAtStage x.stage v) (sym to) (received position.stage w v now ret s (subst (λ (e : Event). IsStep e w ret v) is step))
+  one event w v ret position next (AtDesk bytes from now decision seed is to) s step =
+      subst (λ (x : RequestPosition). IsAtStage x.stage v) (sym to) (served position.stage w v ret bytes from now decision seed s (subst (λ (e : Event). IsStep e w ret v) is step))
+  one event w v ret position next (Grants bytes reply now decision seed at same is said success to) s step =
       let here : IsAtStage Transmitted w = subst (λ (x : Stage). IsAtStage x w) at s in
       let requested = subst (λ (a : Answer). IsStep (ToDesk bytes plan.client.here now decision seed) w a v) said (subst (λ (e : Event). IsStep e w ret v) is step) in
       let grant = granted w v bytes reply now decision seed same success here requested in
-      subst (λ (x : Place). IsAtStage x.stage v) (sym to) (record {
+      subst (λ (x : RequestPosition). IsAtStage x.stage v) (sym to) (record {
         ready = at_desk plan realm [] Asks w v (answer.Reply reply) bytes plan.client.here now decision seed here requested;
         grant = grant;
         part = none_yet reply.items grant.message;
       })
-  one event w v ret place next (Brings reply head rest bytes now at on in_time is to) s step =
+  one event w v ret position next (Brings reply head rest bytes now at on in_time is to) s step =
       let a : IsArriving reply head w = subst (λ (x : Stage). IsAtStage x w) at s in
-      subst (λ (x : Place). IsAtStage x.stage v) (sym to) (brought_on w v now reply head rest bytes ret in_time.early on a (subst (λ (e : Event). IsStep e w ret v) is step))
+      subst (λ (x : RequestPosition). IsAtStage x.stage v) (sym to) (brought_on w v now reply head rest bytes ret in_time.early on a (subst (λ (e : Event). IsStep e w ret v) is step))
 
-  pub asking : (pairs : List (Event × Answer)) (w v : World) (place last : Place) → IsAtStage place.stage w → IsRun w pairs v → IsAskingLoop plan request until place pairs last → IsAtStage last.stage v
+  pub asking : (pairs : List (Event × Answer)) (w v : World) (position last : RequestPosition) → IsAtStage position.stage w → IsRun w pairs v → IsAskingLoop plan request until position pairs last → IsAtStage last.stage v
   unfolding IsRun IsAskingLoop
-  asking [] w v place last s run is = subst (λ (x : Place). IsAtStage x.stage v) (sym is) (subst (λ (x : World). IsAtStage place.stage x) (sym run) s)
-  asking (pair ∷ pairs) w v place last s run is = asking pairs run.0 v is.0 last (one pair.0 w run.0 pair.1 place is.0 is.1 s run.1) run.2 is.2
+  asking [] w v position last s run is = subst (λ (x : RequestPosition). IsAtStage x.stage v) (sym is) (subst (λ (x : World). IsAtStage position.stage x) (sym run) s)
+  asking (pair ∷ pairs) w v position last s run is = asking pairs run.0 v is.0 last (one pair.0 w run.0 pair.1 position is.0 is.1 s run.1) run.2 is.2
 
   -- ---- while it is queued
 
@@ -283,9 +283,9 @@ module _ (plan : Plan) (realm request : List ℕ) (wanted : Wanted) (until : ℕ
     abbrev Both : (sent : ℕ) → Protocol → Type 0
     Both sent p = Asks p × Is sent p
 
-    pub record IsWaiting (place : Place) (w : World) : Type 0 where
-      pub before : place.sent ≤ place.last
-      pub ready : IsReady plan realm [] (Both place.sent) w
+    pub record IsWaiting (position : RequestPosition) (w : World) : Type 0 where
+      pub before : position.sent ≤ position.last
+      pub ready : IsReady plan realm [] (Both position.sent) w
 
     alone : (sent : ℕ) (w : World) → IsReady plan realm [] (Both sent) w → IsReady plan realm [] Asks w
     alone sent w r = record { client = record { core = r.client.core; there = r.client.there; is = r.client.is.0 }; desk = r.desk }
@@ -302,74 +302,74 @@ module _ (plan : Plan) (realm request : List ℕ) (wanted : Wanted) (until : ℕ
         let one_so = do_ask.waits [] p is.0 (nothing_of plan.client.transport) at given q r in
         ((one_so.0, grows sent p q.core is.1 (wait_grown plan.client.transport p at given q r)), one_so.1)
 
-    pub waiting_one : (event : Event) (w v : World) (ret : Answer) (place next : Place) → place.stage ≡ Pending → next.stage ≡ Pending → Leads plan request until place event ret next → IsWaiting place w → IsStep event w ret v → IsWaiting next v
-    waiting_one event w v ret place next at pending (Draws now stage awaits in_time is by_draw to) s step =
+    pub waiting_one : (event : Event) (w v : World) (ret : Answer) (position next : RequestPosition) → position.stage ≡ Pending → next.stage ≡ Pending → Leads plan request until position event ret next → IsWaiting position w → IsStep event w ret v → IsWaiting next v
+    waiting_one event w v ret position next at pending (Draws now stage awaits in_time is by_draw to) s step =
         let c = s.ready.client in
         let own_step = subst (λ (e : Event). IsStep e w ret v) is step in
         let before = s.before in
         let later = in_time.later in
         let d = draws_on (control_at plan.client.transport []) w v c.core now ret c.there (passes now until client_end in_time.early range) own_step in
-        let sent_before : place.sent ≤ now = omega (arith, before, later) in
-        let moved = goes place.sent now c.core d.core ret sent_before (do_ask.on c.core c.is.0) not_given c.is.1 d.by_draw in
-        let ready = both (sent_after now ret place.sent) v (transmits [] w v now ret in_time.early (alone place.sent w s.ready) own_step) d.core d.there moved in
-        subst (λ (x : Place). IsWaiting x v) (sym to) (record { before = sent_sooner ret place.sent now sent_before; ready = ready })
+        let sent_before : position.sent ≤ now = omega (arith, before, later) in
+        let moved = goes position.sent now c.core d.core ret sent_before (do_ask.on c.core c.is.0) not_given c.is.1 d.by_draw in
+        let ready = both (sent_after now ret position.sent) v (transmits [] w v now ret in_time.early (alone position.sent w s.ready) own_step) d.core d.there moved in
+        subst (λ (x : RequestPosition). IsWaiting x v) (sym to) (record { before = sent_sooner ret position.sent now sent_before; ready = ready })
       where
-        never : (stage : Stage) → IsDrawnTo request Pending ret stage → stage ≡ Pending → IsGiven request ret → ⊥
+        never : (stage : Stage) → IsDrawTo request Pending ret stage → stage ≡ Pending → IsGiven request ret → ⊥
         never stage (inl given) same = absurd (Prim.cc (sym given.1 ∙ same))
         never stage (inr other) same = other.0
 
         not_given : IsGiven request ret → ⊥
-        not_given = never stage (subst (λ (x : Stage). IsDrawnTo request x ret stage) at by_draw) (ap (λ (x : Place). x.stage) (sym to) ∙ pending)
-    waiting_one event w v ret place next at pending (Calls what now awaits own in_time is to) s step =
+        not_given = never stage (subst (λ (x : Stage). IsDrawTo request x ret stage) at by_draw) (ap (λ (x : RequestPosition). x.stage) (sym to) ∙ pending)
+    waiting_one event w v ret position next at pending (Calls what now awaits own in_time is to) s step =
         let c = s.ready.client in
         let own_step = subst (λ (e : Event). IsStep e w ret v) is step in
         let before = s.before in
         let later = in_time.later in
         let g = grows_on (control_at plan.client.transport []) w v c.core what now ret (do_ask.on c.core c.is.0) c.there own own_step in
-        let ready = both place.sent v (called [] w v what now ret in_time.early own (alone place.sent w s.ready) own_step) g.core g.there (grows place.sent c.core g.core c.is.1 g.grown) in
-        subst (λ (x : Place). IsWaiting x v) (sym to) (record { before = omega (arith, before, later); ready = ready })
-    waiting_one event w v ret place next at pending (Receives now in_time is to) s step =
+        let ready = both position.sent v (called [] w v what now ret in_time.early own (alone position.sent w s.ready) own_step) g.core g.there (grows position.sent c.core g.core c.is.1 g.grown) in
+        subst (λ (x : RequestPosition). IsWaiting x v) (sym to) (record { before = omega (arith, before, later); ready = ready })
+    waiting_one event w v ret position next at pending (Receives now in_time is to) s step =
         let c = s.ready.client in
         let before = s.before in
         let later = in_time.later in
-        let i = receives (control_at plan.client.transport []) (Both place.sent) w v c.core now ret c.there c.is (both_wait place.sent c.core c.is) (subst (λ (e : Event). IsStep e w ret v) is step) in
-        subst (λ (x : Place). IsWaiting x v) (sym to) (record { before = omega (arith, before, later); ready = placed plan realm plan.client.transport refl [] (Both place.sent) w v s.ready.desk i })
-    waiting_one event w v ret place next at pending (AtDesk bytes from now decision seed is to) s step =
-        subst (λ (x : Place). IsWaiting x v) (sym to)
-        (record { before = s.before; ready = at_desk plan realm [] (Both place.sent) w v ret bytes from now decision seed s.ready (subst (λ (e : Event). IsStep e w ret v) is step) })
-    waiting_one event w v ret place next at pending (Grants bytes reply now decision seed there same is said success to) s step = absurd (Prim.cc (sym at ∙ there))
-    waiting_one event w v ret place next at pending (Brings reply head rest bytes now there on in_time is to) s step = absurd (Prim.cc (sym at ∙ there))
+        let i = receives (control_at plan.client.transport []) (Both position.sent) w v c.core now ret c.there c.is (both_wait position.sent c.core c.is) (subst (λ (e : Event). IsStep e w ret v) is step) in
+        subst (λ (x : RequestPosition). IsWaiting x v) (sym to) (record { before = omega (arith, before, later); ready = placed plan realm plan.client.transport refl [] (Both position.sent) w v s.ready.desk i })
+    waiting_one event w v ret position next at pending (AtDesk bytes from now decision seed is to) s step =
+        subst (λ (x : RequestPosition). IsWaiting x v) (sym to)
+        (record { before = s.before; ready = at_desk plan realm [] (Both position.sent) w v ret bytes from now decision seed s.ready (subst (λ (e : Event). IsStep e w ret v) is step) })
+    waiting_one event w v ret position next at pending (Grants bytes reply now decision seed there same is said success to) s step = absurd (Prim.cc (sym at ∙ there))
+    waiting_one event w v ret position next at pending (Brings reply head rest bytes now there on in_time is to) s step = absurd (Prim.cc (sym at ∙ there))
 
     -- It was queued before.
-    pub pending_before : (event : Event) (ret : Answer) (place next : Place) → next.stage ≡ Pending → Leads plan request until place event ret next → place.stage ≡ Pending
-    pending_before event ret place next pending (Draws now stage awaits in_time is by_draw to) = by place.stage refl
+    pub pending_before : (event : Event) (ret : Answer) (position next : RequestPosition) → next.stage ≡ Pending → Leads plan request until position event ret next → position.stage ≡ Pending
+    pending_before event ret position next pending (Draws now stage awaits in_time is by_draw to) = by position.stage refl
       where
         at_stage : stage ≡ Pending
-        at_stage = ap (λ (x : Place). x.stage) (sym to) ∙ pending
+        at_stage = ap (λ (x : RequestPosition). x.stage) (sym to) ∙ pending
 
-        by : (was : Stage) → place.stage ≡ was → place.stage ≡ Pending
+        by : (was : Stage) → position.stage ≡ was → position.stage ≡ Pending
         by Pending is = is
-        by Transmitted is = absurd (Prim.cc (sym at_stage ∙ subst (λ (x : Stage). IsDrawnTo request x ret stage) is by_draw))
-        by (Granted reply head) is = absurd (Prim.cc (sym at_stage ∙ subst (λ (x : Stage). IsDrawnTo request x ret stage) is by_draw))
-        by (Got reply) is = absurd (Prim.cc (sym at_stage ∙ subst (λ (x : Stage). IsDrawnTo request x ret stage) is by_draw))
-    pending_before event ret place next pending (Calls what now awaits own in_time is to) = ap (λ (x : Place). x.stage) (sym to) ∙ pending
-    pending_before event ret place next pending (Receives now in_time is to) = ap (λ (x : Place). x.stage) (sym to) ∙ pending
-    pending_before event ret place next pending (AtDesk bytes from now decision seed is to) = ap (λ (x : Place). x.stage) (sym to) ∙ pending
-    pending_before event ret place next pending (Grants bytes reply now decision seed there same is said success to) = absurd (Prim.cc (ap (λ (x : Place). x.stage) (sym to) ∙ pending))
-    pending_before event ret place next pending (Brings reply head rest bytes now there on in_time is to) = absurd (not_brought (head ++ bytes.items) rest (ap (λ (x : Place). x.stage) (sym to) ∙ pending))
+        by Transmitted is = absurd (Prim.cc (sym at_stage ∙ subst (λ (x : Stage). IsDrawTo request x ret stage) is by_draw))
+        by (Granted reply head) is = absurd (Prim.cc (sym at_stage ∙ subst (λ (x : Stage). IsDrawTo request x ret stage) is by_draw))
+        by (Got reply) is = absurd (Prim.cc (sym at_stage ∙ subst (λ (x : Stage). IsDrawTo request x ret stage) is by_draw))
+    pending_before event ret position next pending (Calls what now awaits own in_time is to) = ap (λ (x : RequestPosition). x.stage) (sym to) ∙ pending
+    pending_before event ret position next pending (Receives now in_time is to) = ap (λ (x : RequestPosition). x.stage) (sym to) ∙ pending
+    pending_before event ret position next pending (AtDesk bytes from now decision seed is to) = ap (λ (x : RequestPosition). x.stage) (sym to) ∙ pending
+    pending_before event ret position next pending (Grants bytes reply now decision seed there same is said success to) = absurd (Prim.cc (ap (λ (x : RequestPosition). x.stage) (sym to) ∙ pending))
+    pending_before event ret position next pending (Brings reply head rest bytes now there on in_time is to) = absurd (not_brought (head ++ bytes.items) rest (ap (λ (x : RequestPosition). x.stage) (sym to) ∙ pending))
       where
         not_brought : (head rest : List ℕ) → brought reply head rest ≡ Pending → ⊥
         not_brought head [] same = absurd (Prim.cc same)
         not_brought head (byte ∷ rest) same = absurd (Prim.cc same)
 
-    pub pending_first : (pairs : List (Event × Answer)) (place last : Place) → last.stage ≡ Pending → IsAskingLoop plan request until place pairs last → place.stage ≡ Pending
+    pub pending_first : (pairs : List (Event × Answer)) (position last : RequestPosition) → last.stage ≡ Pending → IsAskingLoop plan request until position pairs last → position.stage ≡ Pending
     unfolding IsAskingLoop
-    pending_first [] place last pending is = ap (λ (x : Place). x.stage) (sym is) ∙ pending
-    pending_first (pair ∷ pairs) place last pending is = pending_before pair.0 pair.1 place is.0 (pending_first pairs is.0 last pending is.2) is.1
+    pending_first [] position last pending is = ap (λ (x : RequestPosition). x.stage) (sym is) ∙ pending
+    pending_first (pair ∷ pairs) position last pending is = pending_before pair.0 pair.1 position is.0 (pending_first pairs is.0 last pending is.2) is.1
 
-    pub waiting : (pairs : List (Event × Answer)) (w v : World) (place last : Place) → last.stage ≡ Pending → IsWaiting place w → IsRun w pairs v → IsAskingLoop plan request until place pairs last → IsWaiting last v
+    pub waiting : (pairs : List (Event × Answer)) (w v : World) (position last : RequestPosition) → last.stage ≡ Pending → IsWaiting position w → IsRun w pairs v → IsAskingLoop plan request until position pairs last → IsWaiting last v
     unfolding IsRun IsAskingLoop
-    waiting [] w v place last pending s run is = subst (λ (x : Place). IsWaiting x v) (sym is) (subst (λ (x : World). IsWaiting place x) (sym run) s)
-    waiting (pair ∷ pairs) w v place last pending s run is =
+    waiting [] w v position last pending s run is = subst (λ (x : RequestPosition). IsWaiting x v) (sym is) (subst (λ (x : World). IsWaiting position x) (sym run) s)
+    waiting (pair ∷ pairs) w v position last pending s run is =
         let next = pending_first pairs is.0 last pending is.2 in
-        waiting pairs run.0 v is.0 last pending (waiting_one pair.0 w run.0 pair.1 place is.0 (pending_before pair.0 pair.1 place is.0 next is.1) next is.1 s run.1) run.2 is.2
+        waiting pairs run.0 v is.0 last pending (waiting_one pair.0 w run.0 pair.1 position is.0 (pending_before pair.0 pair.1 position is.0 next is.1) next is.1 s run.1) run.2 is.2

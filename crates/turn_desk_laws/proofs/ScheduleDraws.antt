@@ -101,7 +101,7 @@ abbrev pub AreNumbered : Type 0
 AreNumbered = (a : auth.Client) (request : TurnRequest) (number : ℕ) → HasShortTexts a → IsLawfulRequest request → number < 2 ^ 96 → number_at (request_text a request number) ≡ number
 
 -- The outcome of a draw, and the request and the client after it.
-pub record IsDrawnTo (r : Request) (many now : ℕ) (p : Protocol) (sent : Option Sent) (q : Protocol) : Type 0 where
+pub record IsDrawTo (r : Request) (many now : ℕ) (p : Protocol) (sent : Option Sent) (q : Protocol) : Type 0 where
   pub next : ℕ
   pub by_draw : IsDrawOf r many now p sent next
   pub stays_stored : IsOutstanding r next q
@@ -113,7 +113,7 @@ pub record IsDrawnTo (r : Request) (many now : ℕ) (p : Protocol) (sent : Optio
 module _ (numbered : AreNumbered) (r : Request) (many now : ℕ) (p : Protocol) (there : IsOutstanding r many p) (order : IsInOrder p) where
   -- The client stays as it was.
   module _ (q : Protocol) (same : q ≡ p) (sent : Option Sent) (by_draw : IsDrawOf r many now p sent many) where
-    pub as_before : IsDrawnTo r many now p sent q
+    pub as_before : IsDrawTo r many now p sent q
     as_before = record {
       next = many;
       by_draw = by_draw;
@@ -126,7 +126,7 @@ module _ (numbered : AreNumbered) (r : Request) (many now : ℕ) (p : Protocol) 
 
   -- Only what is queued has changed, and the time of the last message.
   module _ (q : Protocol) (queue : List Queued) (last : Option ℕ) (same : q ≡ record p { queue = queue; last_send = last }) (less : (one : Queued) → IsIn one queue → IsIn one p.queue) (sent : Option Sent) (by_draw : IsDrawOf r many now p sent many) where
-    pub from_queue : IsDrawnTo r many now p sent q
+    pub from_queue : IsDrawTo r many now p sent q
     from_queue = record {
       next = many;
       by_draw = by_draw;
@@ -155,7 +155,7 @@ module _ (numbered : AreNumbered) (r : Request) (many now : ℕ) (p : Protocol) 
         same_bytes false = refl
 
     -- It is the request's own.
-    own_again : a.number ≡ r.number → IsDrawnTo r many now p sent q
+    own_again : a.number ≡ r.number → IsDrawTo r many now p sent q
     own_again same =
         let found : a.transaction ≡ transaction_of r many = Prim.cc (sym a.least.present ∙ (ap (λ (n : ℕ). map.get p.agent.outstanding n) same ∙ there)) in
         let due = is_due_if r many now p (ap (λ (x : Transaction). is_due_of p.agent now x) (sym found) ∙ a.least.passes) in
@@ -179,7 +179,7 @@ module _ (numbered : AreNumbered) (r : Request) (many now : ℕ) (p : Protocol) 
     number_is : number_at message.bytes ≡ a.number
     number_is = ap (λ (m : Sent). number_at m.bytes) a.is_sent ∙ order.numbers a.number a.transaction a.least.present
 
-    other_again : is_eq (nat_cmp r.number a.number) ≡ false → IsDrawnTo r many now p sent q
+    other_again : is_eq (nat_cmp r.number a.number) ≡ false → IsDrawTo r many now p sent q
     other_again apart =
         let differ : a.number ≡ r.number → ⊥ = λ same. clash (is_eq (nat_cmp r.number a.number)) (same_key r.number a.number (sym same)) apart in
         record {
@@ -195,7 +195,7 @@ module _ (numbered : AreNumbered) (r : Request) (many now : ℕ) (p : Protocol) 
           queue = λ one in_it. subst (λ (x : Protocol). IsIn one x.queue) a.after in_it;
         }
 
-    again : IsDrawnTo r many now p sent q
+    again : IsDrawTo r many now p sent q
     again = elim (cases_Bool (is_eq (nat_cmp r.number a.number))) [
       | inl same ↦ own_again (sym (same_number r.number a.number same))
       | inr apart ↦ other_again apart
@@ -207,18 +207,18 @@ module _ (numbered : AreNumbered) (r : Request) (many now : ℕ) (p : Protocol) 
     never : {A : Type 0} → IsDue r many now p → A
     never due = never_both r many now p due none
 
-    still : IsStill p sent q → IsDrawnTo r many now p sent q
+    still : IsStill p sent q → IsDrawTo r many now p sent q
     still is = as_before q is.1 sent (Still is.0 none refl)
 
     -- A reply to the server.
-    answers : (o : Option Queued) → find is_answer p.queue ≡ o → IsAnswerSent o p sent q → IsDrawnTo r many now p sent q
+    answers : (o : Option Queued) → find is_answer p.queue ≡ o → IsAnswerSent o p sent q → IsDrawTo r many now p sent q
     answers None found is = still is
     answers (Some one) found is =
         from_queue q (without_answer p.queue) p.last_send is.1 (λ x in_it. in_others is_answer x p.queue in_it) sent
         (Other _ is.0 (inr (one, found_in is_answer p.queue one found, refl)) (λ due. never due) refl)
 
     -- The first queued message.
-    queued : (one : Queued) (rest : List Queued) → p.queue ≡ one ∷ rest → (o : Option Sent) → sent ≡ o → Sends o (λ (s : Sent). IsQueuedSent p now one rest s q) → IsDrawnTo r many now p sent q
+    queued : (one : Queued) (rest : List Queued) → p.queue ≡ one ∷ rest → (o : Option Sent) → sent ≡ o → Sends o (λ (s : Sent). IsQueuedSent p now one rest s q) → IsDrawTo r many now p sent q
     queued one rest at None sent_is is = absurd is
     queued one rest at (Some s) sent_is is =
         from_queue q rest (Some now) is.after (λ x in_it. subst (λ (l : List Queued). IsIn x l) (sym at) (inr in_it)) sent
@@ -251,7 +251,7 @@ module _ (numbered : AreNumbered) (r : Request) (many now : ℕ) (p : Protocol) 
       abbrev with_it : agents.Agent
       with_it = with_request p.agent text p.server now
 
-      makes : q.agent ≡ with_it → q.auth ≡ p.auth → q.families ≡ p.families → q.queue ≡ p.queue → IsDrawnTo r many now p sent q
+      makes : q.agent ≡ with_it → q.auth ≡ p.auth → q.families ≡ p.families → q.queue ≡ p.queue → IsDrawTo r many now p sent q
       makes agent auth_is families queue = record {
         next = many;
         by_draw = Other s sent_is (inl (λ same. differs (ap number_at (sym (ap (λ (m : Sent). m.bytes) made.is_sent)) ∙ same))) (λ due. never due) refl;
@@ -269,55 +269,55 @@ module _ (numbered : AreNumbered) (r : Request) (many now : ℕ) (p : Protocol) 
         queue = λ one in_it. subst (λ (l : List Queued). IsIn one l) queue in_it;
       }
 
-    first : (o : Option Sent) → sent ≡ o → Sends o (λ (s : Sent). IsFirstSent p now s q) → IsDrawnTo r many now p sent q
+    first : (o : Option Sent) → sent ≡ o → Sends o (λ (s : Sent). IsFirstSent p now s q) → IsDrawTo r many now p sent q
     unfolding first_allocated sent_at_once
     first None sent_is is = absurd is
     first (Some s) sent_is is =
         makes s sent_is (FirstAllocate p.allocates p.families) is.number order.families is.made
         (ap (λ (x : Protocol). x.agent) is.after) (ap (λ (x : Protocol). x.auth) is.after) (ap (λ (x : Protocol). x.families) is.after) (ap (λ (x : Protocol). x.queue) is.after)
 
-    refreshes : (o : Option Sent) → sent ≡ o → Sends o (λ (s : Sent). IsRefreshSent p now s q) → IsDrawnTo r many now p sent q
+    refreshes : (o : Option Sent) → sent ≡ o → Sends o (λ (s : Sent). IsRefreshSent p now s q) → IsDrawTo r many now p sent q
     unfolding first_refreshed sent_at_once
     refreshes None sent_is is = absurd is
     refreshes (Some s) sent_is is =
         makes s sent_is (RefreshRequest allocation_lifetime) is.number (omega arith) is.made
         (ap (λ (x : Protocol). x.agent) is.after) (ap (λ (x : Protocol). x.auth) is.after) (ap (λ (x : Protocol). x.families) is.after) (ap (λ (x : Protocol). x.queue) is.after)
 
-    binds : (channel : ℕ) (peer : SocketAddr) (o : Option Sent) → sent ≡ o → Sends o (λ (s : Sent). IsChannelRenewalSent p channel peer now s q) → IsDrawnTo r many now p sent q
+    binds : (channel : ℕ) (peer : SocketAddr) (o : Option Sent) → sent ≡ o → Sends o (λ (s : Sent). IsChannelRenewalSent p channel peer now s q) → IsDrawTo r many now p sent q
     unfolding first_bound sent_at_once
     binds channel peer None sent_is is = absurd is
     binds channel peer (Some s) sent_is is =
         makes s sent_is (ChannelBind channel peer) is.number is.lawful is.made
         (ap (λ (x : Protocol). x.agent) is.after) (ap (λ (x : Protocol). x.auth) is.after) (ap (λ (x : Protocol). x.families) is.after) (ap (λ (x : Protocol). x.queue) is.after)
 
-    permits : (ip : IpAddr) (o : Option Sent) → sent ≡ o → Sends o (λ (s : Sent). IsRenewalSent p ip now s q) → IsDrawnTo r many now p sent q
+    permits : (ip : IpAddr) (o : Option Sent) → sent ≡ o → Sends o (λ (s : Sent). IsRenewalSent p ip now s q) → IsDrawTo r many now p sent q
     unfolding first_permitted sent_at_once
     permits ip None sent_is is = absurd is
     permits ip (Some s) sent_is is =
         makes s sent_is (CreatePermission ip) is.number is.lawful is.made
         (ap (λ (x : Protocol). x.agent) is.after) (ap (λ (x : Protocol). x.auth) is.after) (ap (λ (x : Protocol). x.families) is.after) (ap (λ (x : Protocol). x.queue) is.after)
 
-    renews : (o : Option Want) → IsRenewed o p now sent q → IsDrawnTo r many now p sent q
+    renews : (o : Option Want) → IsRenewed o p now sent q → IsDrawTo r many now p sent q
     renews None is = still is
     renews (Some Refresh) is = refreshes sent refl is
     renews (Some (Channel channel peer)) is = binds channel peer sent refl is
     renews (Some (Permission ip)) is = permits ip sent refl is
 
-    starts : (f : Phase) → IsStarted f p now sent q → IsDrawnTo r many now p sent q
+    starts : (f : Phase) → IsStarted f p now sent q → IsDrawTo r many now p sent q
     starts Initial is = first sent refl is
     starts (InitialSent numbers) is = still is
     starts (Authenticating numbers) is = still is
     starts Authenticated is = renews (wanted now p.allocations) is
     starts Ended is = still is
 
-    goes_on : (queue : List Queued) → p.queue ≡ queue → IsNextSent queue p now sent q → IsDrawnTo r many now p sent q
+    goes_on : (queue : List Queued) → p.queue ≡ queue → IsNextSent queue p now sent q → IsDrawTo r many now p sent q
     goes_on [] at is = starts p.phase is
     goes_on (one ∷ rest) at is = queued one rest at sent refl is
 
-    fresh : (rests : Bool) → MatchBool rests (IsAnswerSent (find is_answer p.queue) p sent q) (IsNextSent p.queue p now sent q) → IsDrawnTo r many now p sent q
+    fresh : (rests : Bool) → MatchBool rests (IsAnswerSent (find is_answer p.queue) p sent q) (IsNextSent p.queue p now sent q) → IsDrawTo r many now p sent q
     fresh true is = answers (find is_answer p.queue) refl is
     fresh false is = goes_on p.queue refl is
 
-  pub draws_by : (sent : Option Sent) (q : Protocol) → IsTransmitted p now sent q → IsDrawnTo r many now p sent q
+  pub draws_by : (sent : Option Sent) (q : Protocol) → IsTransmitted p now sent q → IsDrawTo r many now p sent q
   draws_by sent q (Again message is a) = again sent q message is a
   draws_by sent q (Fresh none is) = fresh (none_due_if r many now p (none r.number (transaction_of r many) there)) sent q (is_resting p.last_send now) is

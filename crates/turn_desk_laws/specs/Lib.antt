@@ -1,5 +1,4 @@
 pub mod Beside
-pub mod Small
 pub mod ConnectionLoops
 pub mod ConnectionPromises
 pub mod ConnectionRequests

@@ -53,7 +53,7 @@ HasNoneBut numbers number p =
 -- An established client has made this request, signed under its stored challenge, possibly after others that were
 -- challenged. The request is outstanding, and is not given up by the time `until`; and its allocation has not ended by
 -- `beyond`.
-pub record HasAsked (b : Beginning) (realm : List ℕ) (address : SocketAddr) (wanted : Wanted) (request : List ℕ)
+pub record HasMadeRequest (b : Beginning) (realm : List ℕ) (address : SocketAddr) (wanted : Wanted) (request : List ℕ)
     (until beyond : ℕ) (p : Protocol) : Type 0 where
   pub speaks : Speaks b realm address p
   pub phase : p.phase ≡ Authenticated
@@ -92,7 +92,7 @@ pub record MayAnswer (reported : ChallengeFields) (times : ℕ) (p : Protocol) :
 pub record IsMadeAgain (b : Beginning) (realm : List ℕ) (address : SocketAddr) (wanted : Wanted) (old_request : List ℕ)
     (until beyond : ℕ) (old new : Protocol) : Type 0 where
   pub request : List ℕ
-  pub asks : HasAsked b realm address wanted request until beyond new
+  pub asks : HasMadeRequest b realm address wanted request until beyond new
   pub other : number_at request ≢ number_at old_request
   pub queue_is : new.queue ≡ old.queue ++ queued_request b.here request ∷ []
   pub resends_is : new.resends ≡ old.resends + 1

@@ -77,18 +77,18 @@ pub data Stage : Type 0 where
 
 -- What was done so far; the time of the client's last event; and a time at or after which the client transmitted
 -- nothing, in nanoseconds by the client's clock.
-pub record Place : Type 0 where
+pub record RequestPosition : Type 0 where
   pub stage : Stage
   pub last : ℕ
   pub sent : ℕ
 
 -- The request was made at this time. The client transmitted its last message no later than at `sent`.
-abbrev pub requested : (made sent : ℕ) → Place
+abbrev pub requested : (made sent : ℕ) → RequestPosition
 requested made sent = record { stage = Pending; last = made; sent = sent }
 
 -- A time is not before that of the client's last event, and not after `until`.
-pub record IsNext (until : ℕ) (place : Place) (now : ℕ) : Type 0 where
-  pub later : place.last ≤ now
+pub record IsNext (until : ℕ) (position : RequestPosition) (now : ℕ) : Type 0 where
+  pub later : position.last ≤ now
   pub early : now ≤ until
 
 -- ---- what happens, and where it leads
@@ -105,10 +105,10 @@ abbrev pub IsGiven : (request : List ℕ) → Answer → Type 0
 IsGiven request ret = Gives ret (λ sent. sent.bytes ≡ request)
 
 -- What was done with the request after a draw with this result.
-abbrev pub IsDrawnTo : (request : List ℕ) → Stage → Answer → (next : Stage) → Type 0
-IsDrawnTo request Pending ret next =
+abbrev pub IsDrawTo : (request : List ℕ) → Stage → Answer → (next : Stage) → Type 0
+IsDrawTo request Pending ret next =
     (IsGiven request ret × (next ≡ Transmitted)) ⊎ ((IsGiven request ret → ⊥) × (next ≡ Pending))
-IsDrawnTo request stage ret next = next ≡ stage
+IsDrawTo request stage ret next = next ≡ stage
 
 -- The state after a chunk of the reply: `head` has come then, and `rest` is still to come.
 abbrev pub brought : (reply head rest : List ℕ) → Stage
@@ -117,38 +117,38 @@ brought reply head (byte ∷ rest) = Granted reply head
 
 -- What happens, and where its result leads. The request reaches the server core from the client's own address, at
 -- any time by the server core's clock, and its reply the client from the server's address.
-pub data Leads (plan : Plan) (request : List ℕ) (until : ℕ) (place : Place) (event : Event) (ret : Answer) (next : Place)
+pub data Leads (plan : Plan) (request : List ℕ) (until : ℕ) (position : RequestPosition) (event : Event) (ret : Answer) (next : RequestPosition)
     : Type 0 where
   -- The client is drawn, and may give nothing, another message, this request, or this request again.
-  Draws : (now : ℕ) (stage : Stage) → IsAwaited place.stage → IsNext until place now → event ≡ Draw now
-      → IsDrawnTo request place.stage ret stage
-      → next ≡ record { stage = stage; last = now; sent = sent_after now ret place.sent }
-      → Leads plan request until place event ret next
+  Draws : (now : ℕ) (stage : Stage) → IsAwaited position.stage → IsNext until position now → event ≡ Draw now
+      → IsDrawTo request position.stage ret stage
+      → next ≡ record { stage = stage; last = now; sent = sent_after now ret position.sent }
+      → Leads plan request until position event ret next
   -- `poll` and the getters are called, events are polled, and permissions and channels are requested.
-  Calls : (what : ClientCall) (now : ℕ) → IsAwaited place.stage → IsOwnCall what → IsNext until place now
-      → event ≡ Call what now → next ≡ record place { last = now } → Leads plan request until place event ret next
-  Receives : (now : ℕ) → IsNext until place now → event ≡ Call call.PollRecv now → next ≡ record place { last = now }
-      → Leads plan request until place event ret next
+  Calls : (what : ClientCall) (now : ℕ) → IsAwaited position.stage → IsOwnCall what → IsNext until position now
+      → event ≡ Call what now → next ≡ record position { last = now } → Leads plan request until position event ret next
+  Receives : (now : ℕ) → IsNext until position now → event ≡ Call call.PollRecv now → next ≡ record position { last = now }
+      → Leads plan request until position event ret next
   -- Anything reaches the server core.
   AtDesk : (bytes : Vec ℕ Global) (from : SocketAddr) (now : ℕ) (decision : Decision) (seed : List ℕ)
-      → event ≡ ToDesk bytes from now decision seed → next ≡ place → Leads plan request until place event ret next
+      → event ≡ ToDesk bytes from now decision seed → next ≡ position → Leads plan request until position event ret next
   -- The request reaches the server core, which grants it by a success response.
-  Grants : (bytes reply : Vec ℕ Global) (now : ℕ) (decision : Decision) (seed : List ℕ) → place.stage ≡ Transmitted
+  Grants : (bytes reply : Vec ℕ Global) (now : ℕ) (decision : Decision) (seed : List ℕ) → position.stage ≡ Transmitted
       → bytes.items ≡ request → event ≡ ToDesk bytes plan.client.here now decision seed → ret ≡ answer.Reply reply
-      → class_of (kind_at reply.items) ≡ Success → next ≡ record place { stage = Granted reply.items [] }
-      → Leads plan request until place event ret next
+      → class_of (kind_at reply.items) ≡ Success → next ≡ record position { stage = Granted reply.items [] }
+      → Leads plan request until position event ret next
   -- The response, or a chunk of it, reaches the client.
-  Brings : (reply head rest : List ℕ) (bytes : Vec ℕ Global) (now : ℕ) → place.stage ≡ Granted reply head
-      → BringsOn plan.client.transport reply head bytes.items rest → IsNext until place now
+  Brings : (reply head rest : List ℕ) (bytes : Vec ℕ Global) (now : ℕ) → position.stage ≡ Granted reply head
+      → BringsOn plan.client.transport reply head bytes.items rest → IsNext until position now
       → event ≡ ToClient bytes plan.client.server plan.client.here now
-      → next ≡ record place { stage = brought reply (head ++ bytes.items) rest; last = now }
-      → Leads plan request until place event ret next
+      → next ≡ record position { stage = brought reply (head ++ bytes.items) rest; last = now }
+      → Leads plan request until position event ret next
 
 -- The events and results lead from one place to another.
-unfoldable pub IsAskingLoop : Plan → (request : List ℕ) → (until : ℕ) → Place → List (Event × Answer) → Place → Type 0
-IsAskingLoop plan request until place [] last = last ≡ place
-IsAskingLoop plan request until place (pair ∷ pairs) last =
-    (next : Place) × Leads plan request until place pair.0 pair.1 next × IsAskingLoop plan request until next pairs last
+unfoldable pub IsAskingLoop : Plan → (request : List ℕ) → (until : ℕ) → RequestPosition → List (Event × Answer) → RequestPosition → Type 0
+IsAskingLoop plan request until position [] last = last ≡ position
+IsAskingLoop plan request until position (pair ∷ pairs) last =
+    (next : RequestPosition) × Leads plan request until position pair.0 pair.1 next × IsAskingLoop plan request until next pairs last
 
 -- ---- the queue, and what a draw gives
 
@@ -157,7 +157,7 @@ abbrev pub HasLastSent : (sent : ℕ) → Protocol → Type 0
 HasLastSent sent p = (last : ℕ) → p.last_send ≡ Some last → last ≤ sent
 
 -- The request is queued, behind this many other messages.
-pub record StandsBehind (request : List ℕ) (ahead : ℕ) (p : Protocol) : Type 0 where
+pub record IsQueuedAfter (request : List ℕ) (ahead : ℕ) (p : Protocol) : Type 0 where
   pub before : List Queued
   pub own : Queued
   pub after : List Queued
@@ -167,7 +167,7 @@ pub record StandsBehind (request : List ℕ) (ahead : ℕ) (p : Protocol) : Type
   pub many : length before ≡ ahead
 
 abbrev pub IsQueued : Plan → (request : List ℕ) → (ahead : ℕ) → World → Type 0
-IsQueued plan request ahead w = HasClient plan [] w (λ p. StandsBehind request ahead p)
+IsQueued plan request ahead w = HasClient plan [] w (λ p. IsQueuedAfter request ahead p)
 
 -- The bytes are those of a request to which no response has come.
 pub record IsOutstanding (bytes : List ℕ) (p : Protocol) : Type 0 where

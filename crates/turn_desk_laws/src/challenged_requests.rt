@@ -19,7 +19,7 @@ ghost use Rattle.turn_client_proto_handshake_laws.specs.Sent.{Beginning};
 ghost use Rattle.turn_client_proto_progress_laws.specs.Asking.{AChannel, APermission, HasRequested, Wanted};
 ghost use Rattle.turn_client_proto_progress_laws.specs.Holding.{HoldsChannel, HoldsPermission, IsGrantOf};
 ghost use Rattle.turn_client_proto_progress_laws.specs.Holding.{IsOwnRequest};
-ghost use Rattle.turn_desk_laws.specs.RequestChallenges.{HasAsked, IsChallengeTo, IsMadeAgain, MayAnswer};
+ghost use Rattle.turn_desk_laws.specs.RequestChallenges.{HasMadeRequest, IsChallengeTo, IsMadeAgain, MayAnswer};
 
 use turn_client_proto_messages::laws::{proof_requests_are_read, signed_requests_claim};
 
@@ -37,11 +37,11 @@ pub fn challenged_requests_are_made_again()
     ensures first { (b : Beginning) (realm : List ℕ) (address : SocketAddr) (wanted : Wanted)
         (request : List ℕ) (until : ℕ) (p : Protocol)
         → HasRequested b realm address wanted request until p
-        → HasAsked b realm address wanted request until until p }
+        → HasMadeRequest b realm address wanted request until until p }
     ensures again { (b : Beginning) (realm : List ℕ) (address : SocketAddr) (wanted : Wanted)
         (request : List ℕ) (until beyond now later times : ℕ) (old new : Protocol)
         (message : List ℕ) (reported : ChallengeFields) (handled : Bool)
-        → HasAsked b realm address wanted request until beyond old
+        → HasMadeRequest b realm address wanted request until beyond old
         → IsChallengeTo realm request reported message
         → MayAnswer reported (times + 1) old
         → later < end_at now b.config.waits
@@ -49,7 +49,7 @@ pub fn challenged_requests_are_made_again()
         → IsMadeAgain b realm address wanted request later beyond old new }
     ensures own { (b : Beginning) (realm : List ℕ) (address : SocketAddr) (wanted : Wanted)
         (request : List ℕ) (until beyond : ℕ) (p : Protocol)
-        → HasAsked b realm address wanted request until beyond p
+        → HasMadeRequest b realm address wanted request until beyond p
         → IsOwnRequest b realm wanted request }
 {
     proof_requests_are_read();
@@ -62,14 +62,14 @@ pub fn challenged_requests_are_made_again()
 pub fn requests_made_again_are_held()
     ensures permission { (b : Beginning) (realm : List ℕ) (address : SocketAddr) (ip : IpAddr)
         (request reply : List ℕ) (until beyond now : ℕ) (old new : Protocol) (handled : Bool)
-        → HasAsked b realm address (APermission ip) request until beyond old
+        → HasMadeRequest b realm address (APermission ip) request until beyond old
         → IsGrantOf b realm request reply
         → IsProcessed old reply now handled new
         → (handled ≡ true) × HoldsPermission b ip new }
     ensures channel { (b : Beginning) (realm : List ℕ) (address : SocketAddr) (channel : ℕ)
         (peer : SocketAddr) (request reply : List ℕ) (until beyond now : ℕ) (old new : Protocol)
         (handled : Bool)
-        → HasAsked b realm address (AChannel channel peer) request until beyond old
+        → HasMadeRequest b realm address (AChannel channel peer) request until beyond old
         → IsGrantOf b realm request reply
         → IsProcessed old reply now handled new
         → (handled ≡ true) × HoldsChannel b channel peer new }

@@ -19,6 +19,7 @@ pub use turn_desk_progress_laws::honest::{cuts_are_honest, honest_runs_allocate}
 pub use turn_desk_progress_laws::loops::honest_loops_allocate;
 pub use turn_desk_progress_laws::renewals::{renewals_are_cut, renewed_in_time};
 pub use turn_desk_progress_laws::requests::requested_things_are_held;
+pub use turn_desk_progress_laws::small;
 pub use turn_desk_progress_laws::unforged::honest_runs_are_unforged;
 pub use turn_desk_world_laws::laws::{
     accounts_count_alike, addresses_are_isolated, answers_give_what_was_delivered,
@@ -35,5 +36,4 @@ pub mod connections;
 pub mod renewals;
 pub mod requests;
 pub mod schedules;
-pub mod small;
 pub mod unanswered;

@@ -30,7 +30,7 @@ ghost use Rattle.turn_desk_progress_laws.specs.RequestPromises.{IsChannelHeld, I
 ghost use Rattle.turn_desk_progress_laws.specs.Scripts.{Done, Plan};
 ghost use Rattle.turn_desk_laws.specs.RequestLoops.{Got, HasAllocated, HasLastSent, HasMade};
 ghost use Rattle.turn_desk_laws.specs.RequestLoops.{IsAskingLoop, IsDrawOf, IsNext, IsQueued};
-ghost use Rattle.turn_desk_laws.specs.RequestLoops.{IsRequestCall, Pending, Place, requested};
+ghost use Rattle.turn_desk_laws.specs.RequestLoops.{IsRequestCall, Pending, RequestPosition, requested};
 
 use turn_client_proto_handshake_laws::stages::{
     granted_clients_hold, messages_reach_clients, stages_are_unserved,
@@ -139,51 +139,51 @@ pub fn loops_make_requests()
 pub fn loops_hold_what_is_requested()
     ensures permission { (plan : Plan) (old two three four : World) (address : SocketAddr)
         (third : List (Event × Answer)) (request grant : List ℕ) (made until sent now : ℕ)
-        (ip : IpAddr) (place : Place)
+        (ip : IpAddr) (position : RequestPosition)
         → HasAllocated plan old address two
         → HasMade plan (CreatePermission plan.client.config.transport ip) made until request two
         three
         → IsRun three third four
-        → IsAskingLoop plan request until (requested made sent) third place
-        → place.stage ≡ Got grant
-        → IsNext until place now
+        → IsAskingLoop plan request until (requested made sent) third position
+        → position.stage ≡ Got grant
+        → IsNext until position now
         → IsPermissionHeld plan ip now four }
     ensures channel { (plan : Plan) (old two three four : World) (address : SocketAddr)
         (third : List (Event × Answer)) (request grant : List ℕ) (made until sent now : ℕ)
-        (peer : SocketAddr) (place : Place)
+        (peer : SocketAddr) (position : RequestPosition)
         → HasAllocated plan old address two
         → HasMade plan (BindChannel plan.client.config.transport peer) made until request two three
         → IsRun three third four
-        → IsAskingLoop plan request until (requested made sent) third place
-        → place.stage ≡ Got grant
-        → IsNext until place now
+        → IsAskingLoop plan request until (requested made sent) third position
+        → position.stage ≡ Got grant
+        → IsNext until position now
         → IsChannelHeld plan peer now four }
     ensures queued { (plan : Plan) (old two three w : World) (address : SocketAddr)
         (third : List (Event × Answer)) (request : List ℕ) (made until sent most : ℕ)
-        (what : ClientCall) (place : Place)
+        (what : ClientCall) (position : RequestPosition)
         → HasAllocated plan old address two
         → IsRequestCall what
         → HasMade plan what made until request two three
         → HasClient plan [] two (λ p. length p.queue ≡ most)
         → sent ≤ made
         → IsRun three third w
-        → IsAskingLoop plan request until (requested made sent) third place
-        → place.stage ≡ Pending
+        → IsAskingLoop plan request until (requested made sent) third position
+        → position.stage ≡ Pending
         → (ahead : ℕ) × (ahead ≤ most) × IsQueued plan request ahead w }
     ensures by_draw { (plan : Plan) (old two three w v : World) (address : SocketAddr)
         (third : List (Event × Answer)) (request : List ℕ) (made until sent ahead now : ℕ)
-        (what : ClientCall) (place : Place) (ret : Answer)
+        (what : ClientCall) (position : RequestPosition) (ret : Answer)
         → HasAllocated plan old address two
         → IsRequestCall what
         → HasMade plan what made until request two three
         → HasClient plan [] two (λ p. HasLastSent sent p)
         → sent ≤ made
         → IsRun three third w
-        → IsAskingLoop plan request until (requested made sent) third place
-        → place.stage ≡ Pending
+        → IsAskingLoop plan request until (requested made sent) third position
+        → position.stage ≡ Pending
         → IsQueued plan request ahead w
-        → IsNext until place now
-        → time_after place.sent cadence ≤ now
+        → IsNext until position now
+        → time_after position.sent cadence ≤ now
         → IsStep (Draw now) w ret v
         → IsDrawOf plan request ahead w ret v }
 {

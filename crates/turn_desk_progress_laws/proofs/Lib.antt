@@ -24,5 +24,6 @@ pub mod Worlds
 pub mod SecondNumbers
 pub mod Ignoring
 pub mod Looping
+pub mod SmallLoop
 -- Crates that build on this one reach these proofs through it.
 pub use Rattle.turn_client_proto_progress_laws.proofs as TurnClientProtoProgressLaws

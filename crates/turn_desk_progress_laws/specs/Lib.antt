@@ -15,6 +15,7 @@ pub mod Rebinding
 pub mod Forged
 pub mod Loops
 pub mod LoopStages
+pub mod Small
 -- Crates that build on this one reach these definitions through it.
 pub use Rattle.turn_client_proto_messages.specs as TurnClientProtoMessages
 pub use Rattle.turn_client_proto_handshake_laws.specs as TurnClientProtoHandshakeLaws

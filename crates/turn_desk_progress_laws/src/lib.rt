@@ -9,4 +9,5 @@ pub mod honest;
 pub mod loops;
 pub mod renewals;
 pub mod requests;
+pub mod small;
 pub mod unforged;

@@ -40,7 +40,7 @@ use Rattle.turn_desk_progress_laws.proofs.Desks.{IsDeskOf}
 use Rattle.turn_desk_progress_laws.proofs.Following.{IsReady}
 use Rattle.turn_desk_progress_laws.proofs.Looping.{passes}
 use Rattle.turn_desk_progress_laws.proofs.RequestComing.{asker_waits, data_given, frame_answered, holder_waits, nothing_of}
-use Rattle.turn_desk_laws.specs.RequestLoops.{Again, Before, Got, HasAllocated, HasLastSent, HasMade, IsAskingLoop, IsDrawOf, IsGiven, IsNext, IsOutstanding, IsQueued, IsRequestCall, Itself, Pending, Place, Stage, StandsBehind, requested}
+use Rattle.turn_desk_laws.specs.RequestLoops.{Again, Before, Got, HasAllocated, HasLastSent, HasMade, IsAskingLoop, IsDrawOf, IsGiven, IsNext, IsOutstanding, IsQueued, IsRequestCall, Itself, Pending, RequestPosition, Stage, IsQueuedAfter, requested}
 use Rattle.turn_desk_laws.proofs.RequestMade as established
 use Rattle.turn_desk_laws.proofs.RequestMade.{sooner}
 use Rattle.turn_desk_laws.proofs.RequestQueue.{Given, IsBehind, IsGrown, IsInTime, Left, Next, Owns, Repeats, bind_queue, channel_stands, drawn_behind, drawn_in_time, drawn_last, grown_behind, grown_last, last_on, not_resting, permission_queue, permission_stands, sent_or}
@@ -63,7 +63,7 @@ module _ (plan : Plan) (request : List ℕ) (ahead now : ℕ) (w v : World) (ret
 
 -- No more messages are before it.
 abbrev IsFew : (request : List ℕ) (most : ℕ) → (sent : ℕ) → Protocol → Type 0
-IsFew request most sent p = (ahead : ℕ) × (ahead ≤ most) × StandsBehind request ahead p
+IsFew request most sent p = (ahead : ℕ) × (ahead ≤ most) × IsQueuedAfter request ahead p
 
 few_grows : (request : List ℕ) (most sent : ℕ) (p q : Protocol) → IsFew request most sent p → IsGrown p q → IsFew request most sent q
 few_grows request most sent p q is g = (is.0, is.1, grown_behind request is.0 p q is.2 g)
@@ -104,7 +104,7 @@ module _ (c : goal.After-frames_are_taken) (plan : Plan) (old two three : World)
     asks : Asks wanted after
     desk : IsDeskOf plan.client realm three.desk
     grown : IsGrown p after
-    stands : StandsBehind request (length p.queue) after
+    stands : IsQueuedAfter request (length p.queue) after
 
   abbrev ready_asked : (wanted : Wanted) → IsRequestMade wanted → IsReady plan realm [] (Asks wanted) three
   ready_asked wanted a = record { client = record { core = a.after; there = a.there; is = a.asks }; desk = a.desk }
@@ -170,7 +170,7 @@ module _ (c : goal.After-frames_are_taken) (plan : Plan) (old two three : World)
 
   -- ---- what is held
 
-  module _ (four : World) (third : List (Event × Answer)) (place : Place) (grant : List ℕ) (sent now : ℕ) (range : until ≤ client_end) (on : IsRun three third four) (loop : IsAskingLoop plan request until (requested made sent) third place) (got : place.stage ≡ Got grant) (next : IsNext until place now) where
+  module _ (four : World) (third : List (Event × Answer)) (position : RequestPosition) (grant : List ℕ) (sent now : ℕ) (range : until ≤ client_end) (on : IsRun three third four) (loop : IsAskingLoop plan request until (requested made sent) third position) (got : position.stage ≡ Got grant) (next : IsNext until position now) where
     abbrev at : now ≤ client_end
     at = passes now until client_end next.early range
 
@@ -180,11 +180,11 @@ module _ (c : goal.After-frames_are_taken) (plan : Plan) (old two three : World)
 
     permission_got : (ip : IpAddr) → IsRequestMade (APermission ip) → HasClient plan [] four (λ x. HoldsPermission plan.client ip x)
     permission_got ip a =
-        subst (λ (x : Stage). IsAtStage plan realm request (APermission ip) until (Asks (APermission ip)) (λ y. HoldsPermission plan.client ip y) (ask_permission ip) range x four) got (asking plan realm request (APermission ip) until (Asks (APermission ip)) (λ x. HoldsPermission plan.client ip x) (ask_permission ip) range third three four (requested made sent) place (ready_asked (APermission ip) a) on loop)
+        subst (λ (x : Stage). IsAtStage plan realm request (APermission ip) until (Asks (APermission ip)) (λ y. HoldsPermission plan.client ip y) (ask_permission ip) range x four) got (asking plan realm request (APermission ip) until (Asks (APermission ip)) (λ x. HoldsPermission plan.client ip x) (ask_permission ip) range third three four (requested made sent) position (ready_asked (APermission ip) a) on loop)
 
     channel_got : (channel : ℕ) (peer : SocketAddr) → IsRequestMade (AChannel channel peer) → HasClient plan [] four (λ x. HoldsChannel plan.client channel peer x)
     channel_got channel peer a =
-        subst (λ (x : Stage). IsAtStage plan realm request (AChannel channel peer) until (Asks (AChannel channel peer)) (λ y. HoldsChannel plan.client channel peer y) (ask_channel channel peer) range x four) got (asking plan realm request (AChannel channel peer) until (Asks (AChannel channel peer)) (λ x. HoldsChannel plan.client channel peer x) (ask_channel channel peer) range third three four (requested made sent) place (ready_asked (AChannel channel peer) a) on loop)
+        subst (λ (x : Stage). IsAtStage plan realm request (AChannel channel peer) until (Asks (AChannel channel peer)) (λ y. HoldsChannel plan.client channel peer y) (ask_channel channel peer) range x four) got (asking plan realm request (AChannel channel peer) until (Asks (AChannel channel peer)) (λ x. HoldsChannel plan.client channel peer x) (ask_channel channel peer) range third three four (requested made sent) position (ready_asked (AChannel channel peer) a) on loop)
 
     permission_held : (ip : IpAddr) → IsRequestMade (APermission ip) → IsPermissionHeld plan ip now four
     permission_held ip a = record {
@@ -220,12 +220,12 @@ module _ (c : goal.After-frames_are_taken) (plan : Plan) (old two three : World)
 
   -- ---- what is queued
 
-  module _ (w : World) (third : List (Event × Answer)) (place : Place) (sent : ℕ) (range : until ≤ client_end) (before : sent ≤ made) (on : IsRun three third w) (loop : IsAskingLoop plan request until (requested made sent) third place) (pending : place.stage ≡ Pending)
+  module _ (w : World) (third : List (Event × Answer)) (position : RequestPosition) (sent : ℕ) (range : until ≤ client_end) (before : sent ≤ made) (on : IsRun three third w) (loop : IsAskingLoop plan request until (requested made sent) third position) (pending : position.stage ≡ Pending)
       (wanted : Wanted) (Held : Protocol → Type 0) (do_ask : DoAsk plan realm request wanted until (Asks wanted) Held) (a : IsRequestMade wanted) where
     queued_so : (most : ℕ) → length p.queue ≡ most → (ahead : ℕ) × (ahead ≤ most) × IsQueued plan request ahead w
     queued_so most many =
         let s = waiting plan realm request wanted until (Asks wanted) Held do_ask range (IsFew request most) (λ n x y is g. few_grows request most n x y is g)
-        (λ n at x y ret early on_phase not_given is d. few_goes request most n at x y ret not_given is d) third three w (requested made sent) place pending
+        (λ n at x y ret early on_phase not_given is d. few_goes request most n at x y ret not_given is d) third three w (requested made sent) position pending
         (record {
           before = before;
           ready = record { client = record { core = a.after; there = a.there; is = (a.asks, (length p.queue, omega (arith, many), a.stands)) }; desk = a.desk };
@@ -233,55 +233,55 @@ module _ (c : goal.After-frames_are_taken) (plan : Plan) (old two three : World)
         let few = s.ready.client.is.1 in
         (few.0, few.1, record { core = s.ready.client.core; there = s.ready.client.there; is = few.2 })
 
-    drawn_there : (ahead now : ℕ) (v : World) (ret : Answer) → HasLastSent sent p → IsQueued plan request ahead w → IsNext until place now → time_after place.sent cadence ≤ now → IsStep (Draw now) w ret v → IsDrawOf plan request ahead w ret v
+    drawn_there : (ahead now : ℕ) (v : World) (ret : Answer) → HasLastSent sent p → IsQueued plan request ahead w → IsNext until position now → time_after position.sent cadence ≤ now → IsStep (Draw now) w ret v → IsDrawOf plan request ahead w ret v
     drawn_there ahead now v ret last behind next late step =
         let s = waiting plan realm request wanted until (Asks wanted) Held do_ask range HasLastSent (λ n x y is g. grown_last n x y is g)
-        (λ n at x y given early on_phase not_given is d. last_goes n at x y given early on_phase is d) third three w (requested made sent) place pending
+        (λ n at x y given early on_phase not_given is d. last_goes n at x y given early on_phase is d) third three w (requested made sent) position pending
         (record {
           before = before;
           ready = record { client = record { core = a.after; there = a.there; is = (a.asks, grown_last sent p a.after last a.grown) }; desk = a.desk };
         }) on loop in
         let core = s.ready.client.core in
         let same = same_core (control_at plan.client.transport []) behind.core core w.client behind.there s.ready.client.there in
-        let stands = subst (λ (x : Protocol). StandsBehind request ahead x) same behind.is in
+        let stands = subst (λ (x : Protocol). IsQueuedAfter request ahead x) same behind.is in
         let d = draws_on (control_at plan.client.transport []) w v core now ret s.ready.client.there (passes now until client_end next.early range) step in
         drawn_so plan request ahead now w v ret core d.core s.ready.client.there d.there d.by_draw
-        (drawn_in_time request ahead core stands now d.by_draw.given d.core (not_resting place.sent now core s.ready.client.is.1 late) d.by_draw.transmitted)
+        (drawn_in_time request ahead core stands now d.by_draw.given d.core (not_resting position.sent now core s.ready.client.is.1 late) d.by_draw.transmitted)
 
   abbrev Queued : World → ℕ → Type 0
   Queued w most = (ahead : ℕ) × (ahead ≤ most) × IsQueued plan request ahead w
 
-  queued_by : (what : ClientCall) → IsRequestCall what → HasMade plan what made until request two three → (w : World) (third : List (Event × Answer)) (place : Place) (sent most : ℕ) → sent ≤ made → length p.queue ≡ most → IsRun three third w
-      → IsAskingLoop plan request until (requested made sent) third place → place.stage ≡ Pending → Queued w most
-  queued_by (call.CreatePermission transport ip) is m w third place sent most before many on loop pending =
-      queued_so w third place sent m.in_range before on loop pending (APermission ip) (λ x. HoldsPermission plan.client ip x) (ask_permission ip) (permission_asked transport ip m) most many
-  queued_by (call.BindChannel transport peer) is m w third place sent most before many on loop pending =
+  queued_by : (what : ClientCall) → IsRequestCall what → HasMade plan what made until request two three → (w : World) (third : List (Event × Answer)) (position : RequestPosition) (sent most : ℕ) → sent ≤ made → length p.queue ≡ most → IsRun three third w
+      → IsAskingLoop plan request until (requested made sent) third position → position.stage ≡ Pending → Queued w most
+  queued_by (call.CreatePermission transport ip) is m w third position sent most before many on loop pending =
+      queued_so w third position sent m.in_range before on loop pending (APermission ip) (λ x. HoldsPermission plan.client ip x) (ask_permission ip) (permission_asked transport ip m) most many
+  queued_by (call.BindChannel transport peer) is m w third position sent most before many on loop pending =
       let a = channel_asked transport peer m in
-      queued_so w third place sent m.in_range before on loop pending (AChannel a.0 peer) (λ x. HoldsChannel plan.client a.0 peer x) (ask_channel a.0 peer) a.1 most many
-  queued_by _ is m w third place sent most before many on loop pending = absurd is
+      queued_so w third position sent m.in_range before on loop pending (AChannel a.0 peer) (λ x. HoldsChannel plan.client a.0 peer x) (ask_channel a.0 peer) a.1 most many
+  queued_by _ is m w third position sent most before many on loop pending = absurd is
 
-  by_draw_of : (what : ClientCall) → IsRequestCall what → HasMade plan what made until request two three → (w v : World) (third : List (Event × Answer)) (place : Place) (sent ahead now : ℕ) (ret : Answer) → sent ≤ made → HasLastSent sent p → IsRun three third w
-      → IsAskingLoop plan request until (requested made sent) third place → place.stage ≡ Pending → IsQueued plan request ahead w → IsNext until place now → time_after place.sent cadence ≤ now → IsStep (Draw now) w ret v → IsDrawOf plan request ahead w ret v
-  by_draw_of (call.CreatePermission transport ip) is m w v third place sent ahead now ret before last on loop pending behind next late step =
-      drawn_there w third place sent m.in_range before on loop pending (APermission ip) (λ x. HoldsPermission plan.client ip x) (ask_permission ip) (permission_asked transport ip m) ahead now v ret last behind next late step
-  by_draw_of (call.BindChannel transport peer) is m w v third place sent ahead now ret before last on loop pending behind next late step =
+  by_draw_of : (what : ClientCall) → IsRequestCall what → HasMade plan what made until request two three → (w v : World) (third : List (Event × Answer)) (position : RequestPosition) (sent ahead now : ℕ) (ret : Answer) → sent ≤ made → HasLastSent sent p → IsRun three third w
+      → IsAskingLoop plan request until (requested made sent) third position → position.stage ≡ Pending → IsQueued plan request ahead w → IsNext until position now → time_after position.sent cadence ≤ now → IsStep (Draw now) w ret v → IsDrawOf plan request ahead w ret v
+  by_draw_of (call.CreatePermission transport ip) is m w v third position sent ahead now ret before last on loop pending behind next late step =
+      drawn_there w third position sent m.in_range before on loop pending (APermission ip) (λ x. HoldsPermission plan.client ip x) (ask_permission ip) (permission_asked transport ip m) ahead now v ret last behind next late step
+  by_draw_of (call.BindChannel transport peer) is m w v third position sent ahead now ret before last on loop pending behind next late step =
       let a = channel_asked transport peer m in
-      drawn_there w third place sent m.in_range before on loop pending (AChannel a.0 peer) (λ x. HoldsChannel plan.client a.0 peer x) (ask_channel a.0 peer) a.1 ahead now v ret last behind next late step
-  by_draw_of _ is m w v third place sent ahead now ret before last on loop pending behind next late step = absurd is
+      drawn_there w third position sent m.in_range before on loop pending (AChannel a.0 peer) (λ x. HoldsChannel plan.client a.0 peer x) (ask_channel a.0 peer) a.1 ahead now v ret last behind next late step
+  by_draw_of _ is m w v third position sent ahead now ret before last on loop pending behind next late step = absurd is
 
 pub returns-clause-permission : goal.returns-clause-permission
-returns-clause-permission c = λ plan old two three four address third request grant made until sent now ip place has m on loop got next.
-    permission_held c plan old two three address has request made until four third place grant sent now m.in_range on loop got next ip (permission_asked c plan old two three address has request made until plan.client.config.transport ip m)
+returns-clause-permission c = λ plan old two three four address third request grant made until sent now ip position has m on loop got next.
+    permission_held c plan old two three address has request made until four third position grant sent now m.in_range on loop got next ip (permission_asked c plan old two three address has request made until plan.client.config.transport ip m)
 
 pub returns-clause-channel : goal.returns-clause-channel
-returns-clause-channel c = λ plan old two three four address third request grant made until sent now peer place has m on loop got next.
+returns-clause-channel c = λ plan old two three four address third request grant made until sent now peer position has m on loop got next.
     let a = channel_asked c plan old two three address has request made until plan.client.config.transport peer m in
-    channel_held c plan old two three address has request made until four third place grant sent now m.in_range on loop got next a.0 peer a.1
+    channel_held c plan old two three address has request made until four third position grant sent now m.in_range on loop got next a.0 peer a.1
 
 pub returns-clause-queued : goal.returns-clause-queued
-returns-clause-queued c = λ plan old two three w address third request made until sent most what place has asks m many before on loop pending.
-    queued_by c plan old two three address has request made until what asks m w third place sent most before (of_it c plan old two three address has request made until (λ x. length x.queue ≡ most) many) on loop pending
+returns-clause-queued c = λ plan old two three w address third request made until sent most what position has asks m many before on loop pending.
+    queued_by c plan old two three address has request made until what asks m w third position sent most before (of_it c plan old two three address has request made until (λ x. length x.queue ≡ most) many) on loop pending
 
 pub returns-clause-by_draw : goal.returns-clause-by_draw
-returns-clause-by_draw c = λ plan old two three w v address third request made until sent ahead now what place ret has asks m last before on loop pending behind next late step.
-    by_draw_of c plan old two three address has request made until what asks m w v third place sent ahead now ret before (of_it c plan old two three address has request made until (λ x. HasLastSent sent x) last) on loop pending behind next late step
+returns-clause-by_draw c = λ plan old two three w v address third request made until sent ahead now what position ret has asks m last before on loop pending behind next late step.
+    by_draw_of c plan old two three address has request made until what asks m w v third position sent ahead now ret before (of_it c plan old two three address has request made until (λ x. HasLastSent sent x) last) on loop pending behind next late step

@@ -13,13 +13,13 @@ use Rattle.turn_client_proto_messages.specs.Waiting.{Queued}
 use Rattle.turn_client_proto_timers.specs.Drawing.{IsTransmitted}
 use Rattle.turn_client_proto_timers.specs.Polling.{IsPolled}
 use Rattle.turn_desk_laws.specs.Schedules.{Again, AreCalled, IsDrawOf, IsDue, IsGivenUp, IsInOrder, IsLeft, IsNoneDue, IsOther, IsOutstanding, IsStillAwaited, IsTraced, Other, Request, Still, count_of, end_of, sent_of, slot_of}
-use Rattle.turn_desk_laws.proofs.ScheduleDraws.{AreNumbered, IsDrawnTo, draws_by}
+use Rattle.turn_desk_laws.proofs.ScheduleDraws.{AreNumbered, IsDrawTo, draws_by}
 use Rattle.turn_desk_laws.proofs.SchedulePolls.{IsPolledTo, polls_by}
 use Rattle.turn_desk_laws.proofs.schedules.requests_go_by_their_schedule.Goals as goal
 
 -- ---- a draw that gives nothing
 
-quiet_by : (r : Request) (many now : ℕ) (old new : Protocol) (d : IsDrawnTo r many now old None new) → IsDrawOf r many now old None d.next → IsNoneDue r many now old × IsOutstanding r many new
+quiet_by : (r : Request) (many now : ℕ) (old new : Protocol) (d : IsDrawTo r many now old None new) → IsDrawOf r many now old None d.next → IsNoneDue r many now old × IsOutstanding r many new
 quiet_by r many now old new d (Again due is next) = absurd (Prim.cc is)
 quiet_by r many now old new d (Other message is other lesser next) = absurd (Prim.cc is)
 quiet_by r many now old new d (Still is none next) = (none, subst (λ (n : ℕ). IsOutstanding r n new) next d.stays_stored)

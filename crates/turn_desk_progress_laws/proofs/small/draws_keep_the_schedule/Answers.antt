@@ -1,6 +1,6 @@
 use Rattle.std.proofs.Common.{◌<◌, ℕ, arith, subst, refl}
-use Rattle.turn_desk_laws.proofs.SmallLoop.{first_due, first_none, first_slot, second_none}
-use Rattle.turn_desk_laws.proofs.small.draws_keep_the_schedule.Goals as goal
+use Rattle.turn_desk_progress_laws.proofs.SmallLoop.{first_due, first_none, first_slot, second_none}
+use Rattle.turn_desk_progress_laws.proofs.small.draws_keep_the_schedule.Goals as goal
 
 never : {A : Type 0} (a : ℕ) → a < a → A
 never a less = absurd (omega (arith, less))

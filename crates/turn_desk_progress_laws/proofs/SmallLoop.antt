@@ -13,7 +13,7 @@ use Rattle.turn_desk_event.specs.declared.event.Event.{Event}
 use Rattle.turn_client_proto_handshake_laws.specs.Requested.{count_of}
 use Rattle.turn_desk_progress_laws.specs.Loops.{AsksFirst, AsksSecond, DrawsFirst, DrawsOn, GivesFirst, GivesSecond, IsLoop, IsNext, IsNoneDue, IsTransmissionDue, Leads, Looks, Polls, Position, Receives, Timing, start}
 use Rattle.turn_desk_progress_laws.specs.Scripts.{Came, Challenged, Done, Granted, Plan, Progress, Requested, Signed}
-use Rattle.turn_desk_laws.specs.Small.{Exchange, MayHappen, request_made_once, challenged_early, signed_once, small_end, small_loop, small_plan}
+use Rattle.turn_desk_progress_laws.specs.Small.{Exchange, MayHappen, request_made_once, challenged_early, signed_once, small_end, small_loop, small_plan}
 
 module _ (e : Exchange) where
   abbrev plan : Plan

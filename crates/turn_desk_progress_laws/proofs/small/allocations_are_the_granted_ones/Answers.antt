@@ -5,7 +5,7 @@ use Rattle.turn_client_proto_api.specs.declared.event.TurnEvent.{TurnEvent}
 use Rattle.turn_desk_core.specs.declared.grant.Grant.{Grant}
 use Rattle.turn_desk_progress_laws.specs.Promises.{control_at}
 use Rattle.turn_desk_progress_laws.proofs.SecondNumbers.{same_core}
-use Rattle.turn_desk_laws.proofs.small.allocations_are_the_granted_ones.Goals as goal
+use Rattle.turn_desk_progress_laws.proofs.small.allocations_are_the_granted_ones.Goals as goal
 
 tail : List Grant → List Grant
 tail [] = []

@@ -24,8 +24,8 @@ ghost use Rattle.turn_desk_progress_laws.specs.Loops.{IsSignedAgain, IsSignedInT
 ghost use Rattle.turn_desk_progress_laws.specs.Promises.{CannotAgree, HasClient, IsAllocated};
 ghost use Rattle.turn_desk_progress_laws.specs.Promises.{key_in_realm};
 ghost use Rattle.turn_desk_progress_laws.specs.Scripts.{Plan};
-ghost use Rattle.turn_desk_laws.specs.Small.{Exchange, MayHappen, request_made_once, challenged_early};
-ghost use Rattle.turn_desk_laws.specs.Small.{signed_once, small_end, small_loop, small_plan};
+ghost use Rattle.turn_desk_progress_laws.specs.Small.{Exchange, MayHappen, request_made_once, challenged_early};
+ghost use Rattle.turn_desk_progress_laws.specs.Small.{signed_once, small_end, small_loop, small_plan};
 
 /// There are loops. In `small_loop`, over UDP, the first reply comes after 20 ms. The second
 /// request is lost once and retransmitted, and its reply comes 501 ms after it was first

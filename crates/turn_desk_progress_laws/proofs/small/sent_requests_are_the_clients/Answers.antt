@@ -1,8 +1,8 @@
 use Rattle.std.proofs.Common.{◌<◌, ◌≡◌, ℕ, arith, ap, refl, subst, inl, inr}
 use Rattle.turn_client_proto_api.specs.Sent.{Sent}
 use Rattle.turn_desk_core.specs.StunTypesWire.Grammar.{number_at}
-use Rattle.turn_desk_laws.proofs.SmallLoop.{second_due, second_slot}
-use Rattle.turn_desk_laws.proofs.small.sent_requests_are_the_clients.Goals as goal
+use Rattle.turn_desk_progress_laws.proofs.SmallLoop.{second_due, second_slot}
+use Rattle.turn_desk_progress_laws.proofs.small.sent_requests_are_the_clients.Goals as goal
 
 never : {A : Type 0} (a : ℕ) → a < a → A
 never a less = absurd (omega (arith, less))
