@@ -1,8 +1,8 @@
 -- The small loop, and its times.
 use Rattle.std.proofs.Common.{◌≡◌, ◌<◌, ◌≤◌, ◌+◌, ◌^◌, ℕ, arith, List, [], ◌∷◌, ◌++◌, length, refl, sym, ap, ◌∙◌, subst, inl, inr}
-use Rattle.stun_types_base.specs.Times.{time_after}
-use Rattle.stun_types_base.specs.Family.{family_of_socket}
-use Rattle.stun_types_base.specs.declared.family.AddressFamily.{AddressFamily}
+use Rattle.turn_desk_core.specs.StunTypesBase.Times.{time_after}
+use Rattle.turn_desk_core.specs.StunTypesBase.Family.{family_of_socket}
+use Rattle.turn_desk_core.specs.StunTypesBase.declared.family.AddressFamily.{AddressFamily}
 use Rattle.turn_client_proto_api.specs.Sent.{sent_of}
 use Rattle.turn_desk_core.specs.StunProtoServer.Server.{Server}
 use Rattle.turn_desk_core.specs.declared.decision.Decision.TheVariants as by

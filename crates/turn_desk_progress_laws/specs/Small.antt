@@ -3,11 +3,11 @@
 use Rattle.std.specs.Prelude.{◌≡◌, ◌<◌, ℕ, List, [], ◌∷◌, Vec}
 use Rattle.std.specs.declared.alloc.Global.{Global}
 use Rattle.std.specs.declared.net.socket_addr.SocketAddr.{SocketAddr}
-use Rattle.stun_types_base.specs.declared.data.Data.{Data}
-use Rattle.stun_types_base.specs.declared.family.AddressFamily.TheVariants.{IPV4}
-use Rattle.stun_types_base.specs.declared.transmit.Transmit.{Transmit}
-use Rattle.stun_types_base.specs.declared.transport.TransportType.TheVariants.{Udp}
-use Rattle.stun_types_base.specs.Family.{family_of_socket}
+use Rattle.turn_desk_core.specs.StunTypesBase.declared.data.Data.{Data}
+use Rattle.turn_desk_core.specs.StunTypesBase.declared.family.AddressFamily.TheVariants.{IPV4}
+use Rattle.turn_desk_core.specs.StunTypesBase.declared.transmit.Transmit.{Transmit}
+use Rattle.turn_desk_core.specs.StunTypesBase.declared.transport.TransportType.TheVariants.{Udp}
+use Rattle.turn_desk_core.specs.StunTypesBase.Family.{family_of_socket}
 use Rattle.turn_client_proto_messages.specs.StunTypesIntegrity.Credentials.{NameAndPassword}
 use Rattle.turn_client_proto_api.specs.Config.{default_config}
 use Rattle.turn_client_proto_api.specs.Sent.{sent_of}

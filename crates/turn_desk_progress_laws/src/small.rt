@@ -6,9 +6,9 @@
 
 ghost use Rattle.std.specs.Prelude.{◌≡◌, ◌≢◌, ◌≤◌, ◌<◌, ℕ, List, [], ◌∷◌, length};
 ghost use Rattle.std.specs.declared.net.socket_addr.SocketAddr.{SocketAddr};
-ghost use Rattle.stun_types_base.specs.declared.data.Data.{Data};
-ghost use Rattle.stun_types_base.specs.declared.transmit.Transmit.{Transmit as Sending};
-ghost use Rattle.stun_types_base.specs.declared.transport.TransportType.{TransportType};
+ghost use Rattle.turn_desk_core.specs.StunTypesBase.declared.data.Data.{Data};
+ghost use Rattle.turn_desk_core.specs.StunTypesBase.declared.transmit.Transmit.{Transmit as Sending};
+ghost use Rattle.turn_desk_core.specs.StunTypesBase.declared.transport.TransportType.{TransportType};
 ghost use Rattle.turn_client_proto_messages.specs.Allocation.Listed.{relayed_listed};
 ghost use Rattle.turn_client_proto_messages.specs.StunProtoClient.Digests.{IsRight};
 ghost use Rattle.turn_client_proto_api.specs.Sent.{Sent, sent_of};
