@@ -1,6 +1,6 @@
 -- A request for a permission or a channel that a call made, and that is not answered (RFC 8656, sections 10.1
 -- and 12.1).
-use Rattle.std.specs.Prelude.{◌≡◌, ◌<◌, ◌≤◌, ◌^◌, ℕ, Bool, false, List, [], ◌∷◌, find, Some, None}
+use Rattle.std.specs.Prelude.{◌≡◌, ◌≢◌, ◌<◌, ◌≤◌, ◌^◌, ℕ, Bool, true, false, List, [], ◌∷◌, find, Some, None}
 use Rattle.std.specs.FinMap as map
 use Rattle.std.specs.declared.net.ip_addr.IpAddr.{IpAddr}
 use Rattle.std.specs.declared.net.socket_addr.SocketAddr.{SocketAddr}
@@ -8,7 +8,7 @@ use Rattle.turn_client_proto_messages.specs.StunTypesBase.Family.{family_of_ip, 
 use Rattle.turn_client_proto_messages.specs.StunTypesBase.declared.transport.TransportType.{TransportType}
 use Rattle.turn_client_proto_messages.specs.StunProtoTransaction.Agents.{Transaction, is_ended}
 use Rattle.turn_client_proto_messages.specs.TurnTypesAttributes.TurnRegistry.{greatest_channel, least_channel}
-use Rattle.turn_client_proto_messages.specs.Allocation.Awaited.{asks_for_channel, asks_for_permission, is_refresh}
+use Rattle.turn_client_proto_messages.specs.Allocation.Awaited.{asks_for_channel, asks_for_permission, has_number, is_refresh}
 use Rattle.turn_client_proto_messages.specs.Allocation.Awaited.{renews_channel}
 use Rattle.turn_client_proto_messages.specs.Allocation.declared.allocation.Allocation.{Allocation}
 use Rattle.turn_client_proto_step_laws.specs.Peers.Channel.Binding.{barring}
@@ -78,43 +78,61 @@ abbrev pub NonePasses : {X : Type 0} → (X → Bool) → List X → Type 0
 NonePasses {X = X} test xs = (x : X) → IsIn x xs → test x ≡ false
 
 -- The request with this transaction ID asks the allocation for a permission for this address, and for nothing
--- else.
-pub record AwaitsPermission (transaction_id : ℕ) (ip : IpAddr) (a : Allocation) : Type 0 where
-  pub no_refresh : NonePasses (is_refresh transaction_id) a.pending_refreshes
-  pub no_channel : NonePasses (asks_for_channel transaction_id) a.pending_channels
-  pub no_renewal : NonePasses (renews_channel transaction_id) a.channels
-  pub requested : find (asks_for_permission transaction_id) a.pending_permissions ≡ Some (record { ip = ip; numbers = transaction_id ∷ [] })
+-- else. These are the transaction IDs of all requests that asked for it: several, if some were challenged.
+pub record AwaitsPermission (numbers : List ℕ) (number : ℕ) (ip : IpAddr) (a : Allocation) : Type 0 where
+  pub no_refresh : NonePasses (is_refresh number) a.pending_refreshes
+  pub no_channel : NonePasses (asks_for_channel number) a.pending_channels
+  pub no_renewal : NonePasses (renews_channel number) a.channels
+  pub requested : find (asks_for_permission number) a.pending_permissions ≡ Some (record { ip = ip; numbers = numbers })
 
 -- The request with this transaction ID asks the allocation for a channel to this peer, with a number that no
 -- other channel has.
-pub record AwaitsChannel (transaction_id channel : ℕ) (peer : SocketAddr) (a : Allocation) : Type 0 where
-  pub no_refresh : NonePasses (is_refresh transaction_id) a.pending_refreshes
-  pub requested : find (asks_for_channel transaction_id) a.pending_channels
-      ≡ Some (record { channel = channel; peer = peer; numbers = transaction_id ∷ [] })
+pub record AwaitsChannel (numbers : List ℕ) (number channel : ℕ) (peer : SocketAddr) (a : Allocation) : Type 0 where
+  pub no_refresh : NonePasses (is_refresh number) a.pending_refreshes
+  pub requested : find (asks_for_channel number) a.pending_channels
+      ≡ Some (record { channel = channel; peer = peer; numbers = numbers })
   pub free : NonePasses (is_numbered channel) a.channels
 
-abbrev pub Awaits : ℕ → Wanted → Allocation → Type 0
-Awaits transaction_id (APermission ip) a = AwaitsPermission transaction_id ip a
-Awaits transaction_id (AChannel channel peer) a = AwaitsChannel transaction_id channel peer a
+abbrev pub Awaits : (numbers : List ℕ) (number : ℕ) → Wanted → Allocation → Type 0
+Awaits numbers number (APermission ip) a = AwaitsPermission numbers number ip a
+Awaits numbers number (AChannel channel peer) a = AwaitsChannel numbers number channel peer a
 
--- An established client has made this request, signed under its stored challenge. The request is outstanding,
--- and is not given up by the time `now`; and its allocation has not ended by then.
-pub record HasRequested (b : Beginning) (realm : List ℕ) (address : SocketAddr) (wanted : Wanted) (request : List ℕ)
-    (now : ℕ) (p : Protocol) : Type 0 where
+-- Of these requests only the one with this transaction ID is outstanding, if it is.
+abbrev pub HasNoneBut : (numbers : List ℕ) (number : ℕ) → Protocol → Type 0
+HasNoneBut numbers number p =
+    (n : ℕ) → has_number n numbers ≡ true → n ≢ number → map.get p.agent.outstanding n ≡ None
+
+-- An established client has made this request, signed under its stored challenge, possibly after others that were
+-- challenged. The request is outstanding, and is not given up by the time `until`; and its allocation has not ended by
+-- `beyond`. `Counts` holds of the number of challenges that the client answered in a row.
+pub record HasMadeRequest (b : Beginning) (realm : List ℕ) (address : SocketAddr) (wanted : Wanted) (request : List ℕ)
+    (until beyond : ℕ) (Counts : ℕ → Type 0) (p : Protocol) : Type 0 where
   pub speaks : Speaks b realm address p
   pub phase : p.phase ≡ Authenticated
   pub allocation : Allocation
   pub only : p.allocations ≡ allocation ∷ []
   pub occurs : allocation.is_expired ≡ false
-  pub later : now < allocation.expiry
+  pub later : beyond < allocation.expiry
   pub number : ℕ
   pub fits : number < 2 ^ 96
   pub lawful : IsLawfulRequest (request_for wanted)
   pub text : request ≡ request_text p.auth (request_for wanted) number
-  pub awaits : Awaits number wanted allocation
+  pub numbers : List ℕ
+  pub awaits : Awaits numbers number wanted allocation
+  pub others : HasNoneBut numbers number p
   pub transaction : Transaction
   pub outstanding : map.get p.agent.outstanding number ≡ Some transaction
-  pub continues : is_ended now transaction ≡ false
+  pub continues : is_ended until transaction ≡ false
+  pub counts : Counts p.resends
+
+-- Any number.
+abbrev pub AnyCount : ℕ → Type 0
+AnyCount n = Unit {0}
+
+-- The same, if the allocation has not ended by that time either, and of any number of challenges.
+abbrev pub HasRequested : Beginning → (realm : List ℕ) → SocketAddr → Wanted → (request : List ℕ) → (now : ℕ) → Protocol
+    → Type 0
+HasRequested b realm address wanted request now p = HasMadeRequest b realm address wanted request now now AnyCount p
 
 -- A request is outstanding that wasn't before.
 pub record IsMade (old new : Protocol) (request : List ℕ) : Type 0 where

@@ -10,3 +10,6 @@ pub mod TcpBinding
 pub mod Overs
 pub mod Replies
 pub mod Resting
+pub mod RequestChallenges
+pub mod Schedules
+pub mod ScheduleEnds

@@ -16,10 +16,12 @@ use Rattle.turn_client_proto_handshake_laws.specs.Stages.{IsOf}
 use Rattle.turn_client_proto_handshake_laws.specs.Sent.{Beginning}
 
 -- What a client signs by: the credentials of its settings, and a stored challenge of this realm. Their texts
--- fit into a request, and can be decoded from it.
+-- fit into a request, and can be decoded from it. It answers challenges by its settings.
 pub record Signs (b : Beginning) (realm : List ℕ) (auth : Client) : Type 0 where
   pub account : auth.account ≡ Some b.config.credentials
   pub hides : auth.anonymous_username ≡ b.config.anonymous_username
+  pub algorithms : auth.algorithms ≡ b.config.algorithms
+  pub hardened : auth.hardened ≡ b.config.hardened
   pub challenge : Challenge
   pub stored : auth.challenge ≡ Some challenge
   pub realm_is : challenge.realm ≡ realm

@@ -16,13 +16,7 @@ pub mod UnansweredComing
 pub mod UnansweredIgnoring
 pub mod UnansweredStaying
 pub mod UnansweredPolls
-pub mod ScheduleDraws
-pub mod SchedulePolls
-pub mod ScheduleEnds
-pub mod RequestBound
-pub mod RequestChallenged
-pub mod RequestGranted
+pub mod RequestAwaited
 pub mod RequestMade
-pub mod RequestOwn
 pub mod RequestQueue
 pub mod RequestRuns

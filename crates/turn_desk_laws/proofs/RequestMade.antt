@@ -1,17 +1,11 @@
 -- A client that a loop has left established, and what its application requests.
 use Rattle.std.proofs.Common.{◌≡◌, ℕ, ◌≤◌, ◌^◌, arith, true, false, List, [], Some, refl, sym, ap, ◌∙◌, subst, inl, inr}
-use Rattle.std.specs.Prelude.{nat_le}
 use Rattle.std.specs.declared.net.ip_addr.IpAddr.{IpAddr}
 use Rattle.std.specs.declared.net.socket_addr.SocketAddr.{SocketAddr}
-use Rattle.std.proofs.lemmas.Bool.{cases_Bool, leb-false, lt-leb}
 use Rattle.turn_desk_core.specs.StunTypesBase.declared.transport.TransportType.{TransportType}
 use Rattle.turn_desk_core.specs.State.{State}
-use Rattle.turn_client_proto_messages.specs.StunProtoTransaction.Agents.{Transaction, is_ended, is_over}
-use Rattle.turn_client_proto_messages.specs.StunProtoTransaction.Schedule.{end_at}
-use Rattle.turn_client_proto_handshake_laws.specs.Sent.{Beginning}
-use Rattle.turn_client_proto_progress_laws.specs.Asking.{HasRequested, IsMade, Wanted}
+use Rattle.turn_client_proto_progress_laws.specs.Asking.{IsMade}
 use Rattle.turn_client_proto_progress_laws.specs.Speaking.{Speaks}
-use Rattle.turn_client_proto_progress_laws.proofs.Asking.Lists.{not_both}
 use Rattle.turn_client_proto_step_laws.specs.Recv.ClientState.{ClientState, Protocol}
 use Rattle.turn_client_proto_step_laws.specs.Recv.Control.{Control}
 use Rattle.turn_desk_world_laws.specs.World.Calls.{IsBindReported, IsCallReported, IsCalled, IsPermissionReported}
@@ -30,38 +24,6 @@ use Rattle.turn_desk_progress_laws.proofs.Desks.{IsDeskOf}
 use Rattle.turn_desk_progress_laws.proofs.Following.{IsReady, SpeaksIn, clean, replies_on}
 use Rattle.turn_desk_progress_laws.proofs.Parts.{desk_on}
 use Rattle.turn_desk_laws.specs.RequestLoops.{HasAllocated}
-
--- ---- a request that is not given up by a time is not given up before it
-
-open_before : (until now : ℕ) (t : Transaction) → now ≤ until → is_ended until t ≡ false → is_ended now t ≡ false
-open_before until now t early lasts_so = elim (cases_Bool (is_over t.cancelled)) [
-  | inl over ↦
-      let here : is_ended until t ≡ true = rw over refl in
-      not_both (is_ended until t) here lasts_so
-  | inr lasts ↦
-      let ends : is_ended until t ≡ nat_le (end_at t.sent t.waits) until = rw lasts refl in
-      let later = leb-false (end_at t.sent t.waits) until (sym ends ∙ lasts_so) in
-      let at_later = lt-leb (end_at t.sent t.waits) now (omega (arith, later, early)) in
-      rw (lasts, at_later) refl
-]
-
-pub sooner : (b : Beginning) (realm : List ℕ) (address : SocketAddr) (wanted : Wanted) (request : List ℕ) (until now : ℕ) (p : Protocol) → now ≤ until → HasRequested b realm address wanted request until p → HasRequested b realm address wanted request now p
-sooner b realm address wanted request until now p early h = (let later = h.later in record {
-  speaks = h.speaks;
-  phase = h.phase;
-  allocation = h.allocation;
-  only = h.only;
-  occurs = h.occurs;
-  later = omega (arith, early, later);
-  number = h.number;
-  fits = h.fits;
-  lawful = h.lawful;
-  text = h.text;
-  awaits = h.awaits;
-  transaction = h.transaction;
-  outstanding = h.outstanding;
-  continues = open_before until now h.transaction early h.continues;
-})
 
 -- ---- the calls
 

@@ -5,10 +5,13 @@ use Rattle.std.specs.declared.alloc.Global.{Global}
 use Rattle.std.specs.declared.net.ip_addr.IpAddr.{IpAddr}
 use Rattle.std.specs.declared.net.socket_addr.SocketAddr.{SocketAddr}
 use Rattle.turn_desk_core.specs.StunTypesWire.Attributes.{kind_at}
-use Rattle.turn_desk_core.specs.StunTypesWire.declared.class.MessageClass.TheVariants.{Success}
-use Rattle.turn_desk_core.specs.StunTypesWire.Types.{class_of}
+use Rattle.turn_desk_core.specs.StunTypesWire.Grammar.{number_at, refusal}
+use Rattle.turn_desk_core.specs.StunTypesWire.declared.class.MessageClass.TheVariants.{Error, Success}
+use Rattle.turn_desk_core.specs.StunTypesWire.Types.{class_of, method_of, type_of}
 use Rattle.turn_desk_core.specs.StunTypesBase.declared.transport.TransportType.{TransportType}
 use Rattle.turn_desk_core.specs.StunTypesBase.declared.transport.TransportType.TheVariants.{Tcp, Udp}
+use Rattle.turn_client_proto_messages.specs.Requests.{request_method}
+use Rattle.turn_client_proto_messages.specs.StunProtoClient.Challenges.{ChallengeFields, challenge_visible}
 use Rattle.turn_client_proto_messages.specs.TurnRuns.Indications.{is_indication}
 use Rattle.turn_client_proto_api.specs.Payloads.{PeerPayload}
 use Rattle.turn_client_proto_api.specs.Sent.{Sent, sent_of}
@@ -19,8 +22,9 @@ use Rattle.turn_client_proto_handshake_laws.specs.Core.Receiving.{IsProcessed}
 use Rattle.turn_client_proto_handshake_laws.specs.Core.declared.protocol.Phase.TheVariants.{Authenticated}
 use Rattle.turn_client_proto_handshake_laws.specs.Driving.{client_end}
 use Rattle.turn_client_proto_handshake_laws.specs.Stages.{IsOf}
-use Rattle.turn_client_proto_progress_laws.specs.Asking.{Wanted}
+use Rattle.turn_client_proto_progress_laws.specs.Asking.{APermission, AChannel, Wanted, request_for}
 use Rattle.turn_client_proto_progress_laws.specs.Holding.{IsGrantOf, IsOwnRequest}
+use Rattle.turn_client_proto_progress_laws.proofs.TcpBinding.Tools.{challenges_respond}
 use Rattle.turn_client_proto_progress_laws.proofs.Asking.Chunks.{IsTakenFrom, Nothing as TakenNothing, Raw, nothing_stored, taken_from}
 use Rattle.turn_client_proto_step_laws.specs.Recv.ClientState.{ClientState, Protocol}
 use Rattle.turn_client_proto_step_laws.specs.Recv.Control.{Control, Datagrams, Open}
@@ -39,17 +43,23 @@ use Rattle.turn_desk_event.specs.declared.event.ClientCall.TheVariants as call
 use Rattle.turn_desk_event.specs.declared.event.Event.{Event}
 use Rattle.turn_desk_event.specs.declared.event.Event.TheVariants.{Call, Draw, ToClient, ToDesk}
 use Rattle.turn_desk_progress_laws.specs.Asking.{IsOwnCall}
-use Rattle.turn_desk_progress_laws.specs.Loops.{Gives, sent_after}
+use Rattle.turn_desk_progress_laws.specs.Loops.{Gives, MayBegin, sent_after}
 use Rattle.turn_desk_progress_laws.specs.Promises.{HasClient, control_at, over}
 use Rattle.turn_desk_progress_laws.specs.Scripts.{BringsOn, IsLook, Plan}
+use Rattle.turn_desk_progress_laws.specs.Standing.{IsOfSettings}
+use Rattle.turn_desk_progress_laws.proofs.Challenged as challenges
 use Rattle.turn_desk_progress_laws.proofs.Calls.{DoesWait, IsActed, IsActedOn, Transmitted as ActsTransmitted, calls, draws, receives}
 use Rattle.turn_desk_progress_laws.proofs.Clients.{IsLooked, Still, Took, done, draws as draws_at, looks, same_desk, stays, within}
 use Rattle.turn_desk_progress_laws.proofs.Coming.{none_yet}
 use Rattle.turn_desk_progress_laws.proofs.Desks.{IsDeskOf, grants_own}
 use Rattle.turn_desk_progress_laws.proofs.Following.{IsReady, at_desk, placed}
 use Rattle.turn_desk_progress_laws.proofs.Looping.{passes, sent_sooner}
+use Rattle.turn_desk_progress_laws.proofs.Successes.{IsMethod}
 use Rattle.turn_desk_progress_laws.proofs.RequestComing.{IsBrought, IsStoredOf, brings, nothing_of, part_of_one}
-use Rattle.turn_desk_laws.specs.RequestLoops.{AtDesk, Brings, Calls, Draws, Grants, Granted, Got, IsAskingLoop, IsAwaited, IsDrawTo, IsGiven, IsNext, Leads, Pending, RequestPosition, Receives, Stage, Transmitted, brought}
+use Rattle.turn_desk_laws.specs.RenewalStages.{KeepsSettings}
+use Rattle.turn_desk_laws.specs.RequestLoops.{AtDesk, Brings, Calls, Challenged, Challenges, Draws, Grants, Granted, Got, IsAskingLoop, IsAwaited, IsDrawTo, IsGiven, IsNext, Leads, Pending, RequestPosition, Receives, Stage, Transmitted, Turns, brought}
+use Rattle.turn_desk_laws.proofs.RenewalWorlds.{keeps_on}
+use Rattle.turn_client_proto_progress_laws.proofs.RequestChallenged.{no_indication}
 use Rattle.turn_desk_laws.proofs.RequestQueue.{IsGrown, bind_queue, permission_queue, polled_queue, same_queue, sent_or, taken_queue, unchanged_queue}
 
 -- ---- what is known of a client that awaits a response
@@ -150,9 +160,37 @@ wait_grown Tcp p at given q r = tcp_grown p q (taken_from (over (Open (alive [])
 pub same_core : (c : Control) (p q : Protocol) (o : Option ClientState) → o ≡ Some (over c p) → o ≡ Some (over c q) → p ≡ q
 same_core c p q o one other = (let same : over c p ≡ over c q = Prim.cc (sym one ∙ other) in ap (λ (k : ClientState). k.core) same)
 
+-- ---- the methods of requests
+
+is_method : (wanted : Wanted) → IsMethod (request_method (request_for wanted))
+is_method (APermission ip) = record { error = refl; success = refl; method = refl }
+is_method (AChannel channel peer) = record { error = refl; success = refl; method = refl }
+
+error_so : (wanted : Wanted) → method_of (type_of Error (request_method (request_for wanted))) ≡ request_method (request_for wanted)
+error_so (APermission ip) = refl
+error_so (AChannel channel peer) = refl
+
 -- ---- the request, from the call to the reply
 
-module _ (plan : Plan) (realm request : List ℕ) (wanted : Wanted) (until : ℕ) (Asks Held : Protocol → Type 0) (do_ask : DoAsk plan realm request wanted until Asks Held) (range : until ≤ client_end) where
+module _ (plan : Plan) (old : World) (may : MayBegin plan old) (request : List ℕ) (wanted : Wanted) (until : ℕ) (Asks Held : Protocol → Type 0) (do_ask : DoAsk plan old.desk.auth.realm request wanted until Asks Held) (range : until ≤ client_end) where
+  abbrev realm : List ℕ
+  realm = old.desk.auth.realm
+
+  -- The server core's reply is a challenge to the request, of the server core's settings.
+  pub record IsChallenging (reply : List ℕ) : Type 0 where
+    pub message : refusal reply ≡ None
+    pub answers : is_indication (class_of (kind_at reply)) ≡ false
+    pub number_is : number_at reply ≡ number_at request
+    pub reported : ChallengeFields
+    pub visible : challenge_visible reply ≡ Some reported
+    pub of : IsOfSettings old.desk.auth reported
+
+  -- These first bytes of it have come.
+  pub record IsTurning (reply head : List ℕ) (w : World) : Type 0 where
+    pub ready : IsReady plan realm head Asks w
+    pub is : IsChallenging reply
+    pub part : IsPartOf head reply
+
   pub record IsArriving (reply head : List ℕ) (w : World) : Type 0 where
     pub ready : IsReady plan realm head Asks w
     pub grant : IsGrantOf plan.client realm request reply
@@ -163,24 +201,28 @@ module _ (plan : Plan) (realm request : List ℕ) (wanted : Wanted) (until : ℕ
   IsAtStage Pending w = IsReady plan realm [] Asks w
   IsAtStage Transmitted w = IsReady plan realm [] Asks w
   IsAtStage (Granted reply head) w = IsArriving reply head w
+  IsAtStage (Challenged reply head) w = IsTurning reply head w
   IsAtStage (Got reply) w = HasClient plan [] w Held
 
   abbrev pub head_of : Stage → List ℕ
   head_of Pending = []
   head_of Transmitted = []
   head_of (Granted reply head) = head
+  head_of (Challenged reply head) = head
   head_of (Got reply) = []
 
   pub ready_of : (stage : Stage) (w : World) → IsAwaited stage → IsAtStage stage w → IsReady plan realm (head_of stage) Asks w
   ready_of Pending w awaits s = s
   ready_of Transmitted w awaits s = s
   ready_of (Granted reply head) w awaits s = s.ready
+  ready_of (Challenged reply head) w awaits s = s.ready
   ready_of (Got reply) w awaits s = absurd awaits
 
   stage_of : (stage : Stage) (w v : World) → IsAwaited stage → IsAtStage stage w → IsReady plan realm (head_of stage) Asks v → IsAtStage stage v
   stage_of Pending w v awaits s ready = ready
   stage_of Transmitted w v awaits s ready = ready
   stage_of (Granted reply head) w v awaits s ready = record { ready = ready; grant = s.grant; part = s.part }
+  stage_of (Challenged reply head) w v awaits s ready = record { ready = ready; is = s.is; part = s.part }
   stage_of (Got reply) w v awaits s ready = absurd awaits
 
   acted : (head : List ℕ) (w v : World) (at : ℕ) → at ≤ until → (ready : IsReady plan realm head Asks w) → IsActedOn (control_at plan.client.transport head) ready.client.core at w v → IsReady plan realm head Asks v
@@ -199,6 +241,7 @@ module _ (plan : Plan) (realm request : List ℕ) (wanted : Wanted) (until : ℕ
   drawn_to Pending next ret w v awaits (inr other) s ready = subst (λ (x : Stage). IsAtStage x v) (sym other.1) ready
   drawn_to Transmitted next ret w v awaits to s ready = subst (λ (x : Stage). IsAtStage x v) (sym to) ready
   drawn_to (Granted reply head) next ret w v awaits to s ready = subst (λ (x : Stage). IsAtStage x v) (sym to) (stage_of (Granted reply head) w v awaits s ready)
+  drawn_to (Challenged reply head) next ret w v awaits to s ready = subst (λ (x : Stage). IsAtStage x v) (sym to) (stage_of (Challenged reply head) w v awaits s ready)
   drawn_to (Got reply) next ret w v awaits to s ready = absurd awaits
 
   -- `poll_recv` is called.
@@ -212,6 +255,7 @@ module _ (plan : Plan) (realm request : List ℕ) (wanted : Wanted) (until : ℕ
   received Pending w v at ret s step = received_on [] w v at ret (nothing_of plan.client.transport) s step
   received Transmitted w v at ret s step = received_on [] w v at ret (nothing_of plan.client.transport) s step
   received (Granted reply head) w v at ret s step = record { ready = received_on head w v at ret (part_of_one plan.client.transport head reply s.part) s.ready step; grant = s.grant; part = s.part }
+  received (Challenged reply head) w v at ret s step = record { ready = received_on head w v at ret (part_of_one plan.client.transport head reply s.part) s.ready step; is = s.is; part = s.part }
   received (Got reply) w v at ret s step =
       let i = receives (control_at plan.client.transport []) Held w v s.core at ret s.there s.is (do_ask.rests s.core s.is) step in
       record { core = i.core; there = i.there; is = i.is }
@@ -221,6 +265,7 @@ module _ (plan : Plan) (realm request : List ℕ) (wanted : Wanted) (until : ℕ
   served Pending w v ret bytes from at decision seed s step = at_desk plan realm [] Asks w v ret bytes from at decision seed s step
   served Transmitted w v ret bytes from at decision seed s step = at_desk plan realm [] Asks w v ret bytes from at decision seed s step
   served (Granted reply head) w v ret bytes from at decision seed s step = record { ready = at_desk plan realm head Asks w v ret bytes from at decision seed s.ready step; grant = s.grant; part = s.part }
+  served (Challenged reply head) w v ret bytes from at decision seed s step = record { ready = at_desk plan realm head Asks w v ret bytes from at decision seed s.ready step; is = s.is; part = s.part }
   served (Got reply) w v ret bytes from at decision seed s step = record { core = s.core; there = ap (λ (x : World). x.client) step.1 ∙ s.there; is = s.is }
 
   granted : (w v : World) (bytes reply : Vec ℕ Global) (now : ℕ) (decision : Decision) (seed : List ℕ) → bytes.items ≡ request → class_of (kind_at reply.items) ≡ Success
@@ -228,6 +273,49 @@ module _ (plan : Plan) (realm request : List ℕ) (wanted : Wanted) (until : ℕ
   granted w v bytes reply now decision seed same success ready step =
       let requested = subst (λ (l : List ℕ). IsDeskAnswered (answer.Reply reply) w.desk l plan.client.here now decision seed v.desk) same step.0 in
       grants_own plan.client realm wanted request (do_ask.own ready.client.core ready.client.is) w.desk v.desk ready.desk plan.client.here reply.items now (words_of seed) decision requested.reply.served success requested.reply.answer
+
+  -- The server core challenges the request.
+  challenging : (w v : World) (bytes reply : Vec ℕ Global) (now : ℕ) (decision : Decision) (seed : List ℕ) (shown : ChallengeFields) → bytes.items ≡ request → challenge_visible reply.items ≡ Some shown → KeepsSettings plan old w.desk
+      → IsReady plan realm [] Asks w → IsStep (ToDesk bytes plan.client.here now decision seed) w (answer.Reply reply) v → IsChallenging reply.items
+  challenging w v bytes reply now decision seed shown same shows keeps ready step =
+      let requested = subst (λ (l : List ℕ). IsDeskAnswered (answer.Reply reply) w.desk l plan.client.here now decision seed v.desk) same step.0 in
+      let method = request_method (request_for wanted) in
+      let own = do_ask.own ready.client.core ready.client.is in
+      let kept = keeps_on plan old may (ToDesk bytes plan.client.here now decision seed) w v (answer.Reply reply) step keeps in
+      let served_so = requested.reply.served in
+      let replied = requested.reply.answer in
+      record {
+        message = challenges.message_is w.desk v.desk plan.client.here request reply.items now (words_of seed) decision method (is_method wanted) (error_so wanted) own.method served_so replied shown shows;
+        answers = no_indication (class_of (kind_at reply.items)) (challenges_respond reply.items shown shows);
+        number_is = challenges.number_same w.desk v.desk plan.client.here request reply.items now (words_of seed) decision method (is_method wanted) (error_so wanted) own.method served_so replied shown shows;
+        reported = shown;
+        visible = shows;
+        of = record {
+          realm = challenges.realm_is w.desk v.desk plan.client.here request reply.items now (words_of seed) decision method (is_method wanted) (error_so wanted) own.method served_so replied shown shows ∙ keeps.realm;
+          takes_own = challenges.takes_so w.desk v.desk plan.client.here request reply.items now (words_of seed) decision method (is_method wanted) (error_so wanted) own.method served_so replied shown shows
+              old.desk.auth.algorithms old.desk.auth.anonymous_username keeps.algorithms kept.announces;
+          hides = challenges.hides_so w.desk v.desk plan.client.here request reply.items now (words_of seed) decision method (is_method wanted) (error_so wanted) own.method served_so replied shown shows
+              old.desk.auth.algorithms old.desk.auth.anonymous_username keeps.algorithms kept.announces;
+          listed = challenges.list_there w.desk v.desk plan.client.here request reply.items now (words_of seed) decision method (is_method wanted) (error_so wanted) own.method served_so replied shown shows;
+        };
+      }
+
+  -- A chunk of the challenge comes, and more is to come.
+  turned : (w v : World) (now : ℕ) (reply before head rest : List ℕ) → rest ≢ [] → (t : IsTurning reply before w) → IsBrought plan.client.transport t.ready.client.core reply head rest now w v → IsTurning reply head v
+  turned w v now reply before head [] some t b = absurd (some refl)
+  turned w v now reply before head (byte ∷ rest) some t b = record {
+    ready = placed plan realm plan.client.transport refl head Asks w v t.ready.desk
+        (record { core = b.0.core; there = b.0.there; is = subst (λ (x : Protocol). Asks x) (sym b.0.is) t.ready.client.is; of = b.0.of });
+    is = t.is;
+    part = b.1;
+  }
+
+  -- The last chunk of it comes.
+  pub turned_on : (w v : World) (now : ℕ) (reply head rest : List ℕ) (bytes : Vec ℕ Global) (ret : Answer) → now ≤ until → BringsOn plan.client.transport reply head bytes.items rest → (t : IsTurning reply head w)
+      → IsStep (ToClient bytes plan.client.server plan.client.here now) w ret v → IsBrought plan.client.transport t.ready.client.core reply (head ++ bytes.items) rest now w v
+  turned_on w v now reply head rest bytes ret early on t step =
+      let c = t.ready.client in
+      brings plan.client w v c.core (do_ask.of c.core c.is) bytes now ret (within now (passes now until client_end early range)) step reply t.is.message t.is.answers plan.client.transport head rest c.there on
 
   -- A chunk of the reply comes.
   came : (w v : World) (now : ℕ) (reply before head rest : List ℕ) → now ≤ until → (a : IsArriving reply before w) → IsBrought plan.client.transport a.ready.client.core reply head rest now w v → IsAtStage (brought reply head rest) v
@@ -246,18 +334,18 @@ module _ (plan : Plan) (realm request : List ℕ) (wanted : Wanted) (until : ℕ
       came w v now reply head (head ++ bytes.items) rest early a
       (brings plan.client w v c.core (do_ask.of c.core c.is) bytes now ret (within now (passes now until client_end early range)) step reply a.grant.message (ap is_indication a.grant.success) plan.client.transport head rest c.there on)
 
-  one : (event : Event) (w v : World) (ret : Answer) (position next : RequestPosition) → Leads plan request until position event ret next → IsAtStage position.stage w → IsStep event w ret v → IsAtStage next.stage v
-  one event w v ret position next (Draws now stage awaits in_time is by_draw to) s step =
+  one : (event : Event) (w v : World) (ret : Answer) (position next : RequestPosition) → Leads plan request until position event ret next → KeepsSettings plan old w.desk → IsAtStage position.stage w → IsStep event w ret v → IsAtStage next.stage v
+  one event w v ret position next (Draws now stage awaits in_time is by_draw to) keeps s step =
       subst (λ (x : RequestPosition). IsAtStage x.stage v) (sym to)
       (drawn_to position.stage stage ret w v awaits by_draw s (transmits (head_of position.stage) w v now ret in_time.early (ready_of position.stage w awaits s) (subst (λ (e : Event). IsStep e w ret v) is step)))
-  one event w v ret position next (Calls what now awaits own in_time is to) s step =
+  one event w v ret position next (Calls what now awaits own in_time is to) keeps s step =
       subst (λ (x : RequestPosition). IsAtStage x.stage v) (sym to)
       (stage_of position.stage w v awaits s (called (head_of position.stage) w v what now ret in_time.early own (ready_of position.stage w awaits s) (subst (λ (e : Event). IsStep e w ret v) is step)))
-  one event w v ret position next (Receives now in_time is to) s step =
+  one event w v ret position next (Receives now in_time is to) keeps s step =
       subst (λ (x : RequestPosition). IsAtStage x.stage v) (sym to) (received position.stage w v now ret s (subst (λ (e : Event). IsStep e w ret v) is step))
-  one event w v ret position next (AtDesk bytes from now decision seed is to) s step =
+  one event w v ret position next (AtDesk bytes from now decision seed is to) keeps s step =
       subst (λ (x : RequestPosition). IsAtStage x.stage v) (sym to) (served position.stage w v ret bytes from now decision seed s (subst (λ (e : Event). IsStep e w ret v) is step))
-  one event w v ret position next (Grants bytes reply now decision seed at same is said success to) s step =
+  one event w v ret position next (Grants bytes reply now decision seed at same is said success to) keeps s step =
       let here : IsAtStage Transmitted w = subst (λ (x : Stage). IsAtStage x w) at s in
       let requested = subst (λ (a : Answer). IsStep (ToDesk bytes plan.client.here now decision seed) w a v) said (subst (λ (e : Event). IsStep e w ret v) is step) in
       let grant = granted w v bytes reply now decision seed same success here requested in
@@ -266,14 +354,28 @@ module _ (plan : Plan) (realm request : List ℕ) (wanted : Wanted) (until : ℕ
         grant = grant;
         part = none_yet reply.items grant.message;
       })
-  one event w v ret position next (Brings reply head rest bytes now at on in_time is to) s step =
+  one event w v ret position next (Challenges bytes reply now decision seed reported at same is said shows to) keeps s step =
+      let here : IsAtStage Transmitted w = subst (λ (x : Stage). IsAtStage x w) at s in
+      let requested = subst (λ (a : Answer). IsStep (ToDesk bytes plan.client.here now decision seed) w a v) said (subst (λ (e : Event). IsStep e w ret v) is step) in
+      let challenge = challenging w v bytes reply now decision seed reported same shows keeps here requested in
+      subst (λ (x : RequestPosition). IsAtStage x.stage v) (sym to) (record {
+        ready = at_desk plan realm [] Asks w v (answer.Reply reply) bytes plan.client.here now decision seed here requested;
+        is = challenge;
+        part = none_yet reply.items challenge.message;
+      })
+  one event w v ret position next (Turns reply head rest bytes now at on some in_time is to) keeps s step =
+      let t : IsTurning reply head w = subst (λ (x : Stage). IsAtStage x w) at s in
+      subst (λ (x : RequestPosition). IsAtStage x.stage v) (sym to)
+      (turned w v now reply head (head ++ bytes.items) rest some t (turned_on w v now reply head rest bytes ret in_time.early on t (subst (λ (e : Event). IsStep e w ret v) is step)))
+  one event w v ret position next (Brings reply head rest bytes now at on in_time is to) keeps s step =
       let a : IsArriving reply head w = subst (λ (x : Stage). IsAtStage x w) at s in
       subst (λ (x : RequestPosition). IsAtStage x.stage v) (sym to) (brought_on w v now reply head rest bytes ret in_time.early on a (subst (λ (e : Event). IsStep e w ret v) is step))
 
-  pub asking : (pairs : List (Event × Answer)) (w v : World) (position last : RequestPosition) → IsAtStage position.stage w → IsRun w pairs v → IsAskingLoop plan request until position pairs last → IsAtStage last.stage v
+  pub asking : (pairs : List (Event × Answer)) (w v : World) (position last : RequestPosition) → KeepsSettings plan old w.desk → IsAtStage position.stage w → IsRun w pairs v → IsAskingLoop plan request until position pairs last → IsAtStage last.stage v
   unfolding IsRun IsAskingLoop
-  asking [] w v position last s run is = subst (λ (x : RequestPosition). IsAtStage x.stage v) (sym is) (subst (λ (x : World). IsAtStage position.stage x) (sym run) s)
-  asking (pair ∷ pairs) w v position last s run is = asking pairs run.0 v is.0 last (one pair.0 w run.0 pair.1 position is.0 is.1 s run.1) run.2 is.2
+  asking [] w v position last keeps s run is = subst (λ (x : RequestPosition). IsAtStage x.stage v) (sym is) (subst (λ (x : World). IsAtStage position.stage x) (sym run) s)
+  asking (pair ∷ pairs) w v position last keeps s run is =
+      asking pairs run.0 v is.0 last (keeps_on plan old may pair.0 w run.0 pair.1 run.1 keeps) (one pair.0 w run.0 pair.1 position is.0 is.1 keeps s run.1) run.2 is.2
 
   -- ---- while it is queued
 
@@ -338,6 +440,8 @@ module _ (plan : Plan) (realm request : List ℕ) (wanted : Wanted) (until : ℕ
         subst (λ (x : RequestPosition). IsWaiting x v) (sym to)
         (record { before = s.before; ready = at_desk plan realm [] (Both position.sent) w v ret bytes from now decision seed s.ready (subst (λ (e : Event). IsStep e w ret v) is step) })
     waiting_one event w v ret position next at pending (Grants bytes reply now decision seed there same is said success to) s step = absurd (Prim.cc (sym at ∙ there))
+    waiting_one event w v ret position next at pending (Challenges bytes reply now decision seed reported there same is said shows to) s step = absurd (Prim.cc (sym at ∙ there))
+    waiting_one event w v ret position next at pending (Turns reply head rest bytes now there on some in_time is to) s step = absurd (Prim.cc (sym at ∙ there))
     waiting_one event w v ret position next at pending (Brings reply head rest bytes now there on in_time is to) s step = absurd (Prim.cc (sym at ∙ there))
 
     -- It was queued before.
@@ -351,11 +455,14 @@ module _ (plan : Plan) (realm request : List ℕ) (wanted : Wanted) (until : ℕ
         by Pending is = is
         by Transmitted is = absurd (Prim.cc (sym at_stage ∙ subst (λ (x : Stage). IsDrawTo request x ret stage) is by_draw))
         by (Granted reply head) is = absurd (Prim.cc (sym at_stage ∙ subst (λ (x : Stage). IsDrawTo request x ret stage) is by_draw))
+        by (Challenged reply head) is = absurd (Prim.cc (sym at_stage ∙ subst (λ (x : Stage). IsDrawTo request x ret stage) is by_draw))
         by (Got reply) is = absurd (Prim.cc (sym at_stage ∙ subst (λ (x : Stage). IsDrawTo request x ret stage) is by_draw))
     pending_before event ret position next pending (Calls what now awaits own in_time is to) = ap (λ (x : RequestPosition). x.stage) (sym to) ∙ pending
     pending_before event ret position next pending (Receives now in_time is to) = ap (λ (x : RequestPosition). x.stage) (sym to) ∙ pending
     pending_before event ret position next pending (AtDesk bytes from now decision seed is to) = ap (λ (x : RequestPosition). x.stage) (sym to) ∙ pending
     pending_before event ret position next pending (Grants bytes reply now decision seed there same is said success to) = absurd (Prim.cc (ap (λ (x : RequestPosition). x.stage) (sym to) ∙ pending))
+    pending_before event ret position next pending (Challenges bytes reply now decision seed reported there same is said shows to) = absurd (Prim.cc (ap (λ (x : RequestPosition). x.stage) (sym to) ∙ pending))
+    pending_before event ret position next pending (Turns reply head rest bytes now there on some in_time is to) = absurd (Prim.cc (ap (λ (x : RequestPosition). x.stage) (sym to) ∙ pending))
     pending_before event ret position next pending (Brings reply head rest bytes now there on in_time is to) = absurd (not_brought (head ++ bytes.items) rest (ap (λ (x : RequestPosition). x.stage) (sym to) ∙ pending))
       where
         not_brought : (head rest : List ℕ) → brought reply head rest ≡ Pending → ⊥

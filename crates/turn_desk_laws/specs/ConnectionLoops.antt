@@ -188,9 +188,9 @@ abbrev pub after_draw : Reached → Answer → Reached
 after_draw (Queued method) ret = transmitted_next method ret
 after_draw reached ret = reached
 
-abbrev pub by_draw : (now : ℕ) → Answer → Timing → Timing
-by_draw now (answer.Transmit message) t = record t { sent = now }
-by_draw now _ t = t
+abbrev pub timing_after_draw : (now : ℕ) → Answer → Timing → Timing
+timing_after_draw now (answer.Transmit message) t = record t { sent = now }
+timing_after_draw now _ t = t
 
 -- All of a success response has come.
 abbrev pub permitted : (now : ℕ) → Timing → Timing
@@ -281,7 +281,7 @@ pub data Leads (plan : Plan) (lifetime since : ℕ) (target : Target) (position 
       → next ≡ record {
         reached = after_draw position.reached ret;
         last = now;
-        timing = by_draw now ret position.timing;
+        timing = timing_after_draw now ret position.timing;
       }
       → Leads plan lifetime since target position event ret next
   -- The request reaches the server core, which grants it.

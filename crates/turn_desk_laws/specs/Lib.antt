@@ -8,7 +8,5 @@ pub mod RenewalLoops
 pub mod RenewalStages
 pub mod Unanswered
 pub mod UnansweredStages
-pub mod Schedules
-pub mod ScheduleEnds
-pub mod RequestChallenges
+pub mod AwaitedRequests
 pub mod RequestLoops

@@ -148,11 +148,11 @@ abbrev pub turned_next : (request : Sent) (reply : List ℕ) → Answer → Rene
 turned_next request reply (answer.Transmit message) = Refreshing (sent_of message)
 turned_next request reply _ = Turned request reply
 
-abbrev pub by_draw_of : Plan → (now : ℕ) → Answer → Renewal → RenewalPosition → RenewalPosition
-by_draw_of plan now ret Holding p = holding_draw now ret p
-by_draw_of plan now ret (Turned request reply) p =
+abbrev pub position_after_draw : Plan → (now : ℕ) → Answer → Renewal → RenewalPosition → RenewalPosition
+position_after_draw plan now ret Holding p = holding_draw now ret p
+position_after_draw plan now ret (Turned request reply) p =
     record (counted_draw plan now ret p) { progress = turned_next request reply ret }
-by_draw_of plan now ret _ p = counted_draw plan now ret p
+position_after_draw plan now ret _ p = counted_draw plan now ret p
 
 -- Once all of the success response has come, the allocation is granted for the new lifetime.
 abbrev pub renewed_by : (request : Sent) (more : ℕ) (reply head rest : List ℕ) (now : ℕ) → RenewalPosition
@@ -186,7 +186,7 @@ challenged_by request reply head (byte ∷ rest) now p =
 -- core, unaltered from where it was sent, at any time by the server core's own clock.
 pub data Renews (plan : Plan) (p : RenewalPosition) (event : Event) (ret : Answer) (next : RenewalPosition)
     : Type 0 where
-  Draws : (now : ℕ) → IsInTime p now → event ≡ Draw now → next ≡ by_draw_of plan now ret p.progress p
+  Draws : (now : ℕ) → IsInTime p now → event ≡ Draw now → next ≡ position_after_draw plan now ret p.progress p
       → Renews plan p event ret next
   Polls : (now : ℕ) → IsInTime p now → MayPollOn plan p.progress p.made now → event ≡ Call call.Poll now
       → next ≡ record p { last = now } → Renews plan p event ret next

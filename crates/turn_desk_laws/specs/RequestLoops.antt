@@ -1,6 +1,6 @@
 -- What becomes of a request of a client that a loop drives, over a network that takes time (RFC 8489, sections 6.2.1
 -- and 6.3.1; RFC 8656, sections 10 and 12).
-use Rattle.std.specs.Prelude.{◌≡◌, ◌≤◌, ◌<◌, ◌+◌, ◌⊎◌, ◌++◌, ℕ, true, List, [], ◌∷◌, length, Some, Vec}
+use Rattle.std.specs.Prelude.{◌≡◌, ◌≢◌, ◌≤◌, ◌<◌, ◌+◌, ◌⊎◌, ◌++◌, ℕ, true, List, [], ◌∷◌, length, Some, Vec}
 use Rattle.std.specs.FinMap as map
 use Rattle.std.specs.declared.alloc.Global.{Global}
 use Rattle.std.specs.declared.net.socket_addr.SocketAddr.{SocketAddr}
@@ -9,6 +9,7 @@ use Rattle.turn_desk_core.specs.StunTypesWire.declared.class.MessageClass.TheVar
 use Rattle.turn_desk_core.specs.StunTypesWire.Types.{class_of}
 use Rattle.turn_desk_core.specs.declared.decision.Decision.{Decision}
 use Rattle.turn_desk_event.specs.StunProtoTransaction.Schedule.{end_at}
+use Rattle.turn_client_proto_messages.specs.StunProtoClient.Challenges.{ChallengeFields, challenge_visible}
 use Rattle.turn_client_proto_messages.specs.StunProtoTransaction.Agents.{Transaction}
 use Rattle.turn_client_proto_messages.specs.Waiting.{Queued}
 use Rattle.turn_client_proto_handshake_laws.specs.Driving.{client_end}
@@ -72,6 +73,8 @@ pub data Stage : Type 0 where
   Transmitted : Stage
   -- The server core granted it by a reply, of which these first bytes reached the client so far.
   Granted : (reply head : List ℕ) → Stage
+  -- The same of a reply by which the server core challenged it.
+  Challenged : (reply head : List ℕ) → Stage
   -- All of that reply reached the client.
   Got : (reply : List ℕ) → Stage
 
@@ -98,6 +101,7 @@ abbrev pub IsAwaited : Stage → Type 0
 IsAwaited Pending = Unit {0}
 IsAwaited Transmitted = Unit {0}
 IsAwaited (Granted reply head) = Unit {0}
+IsAwaited (Challenged reply head) = Unit {0}
 IsAwaited (Got reply) = ⊥
 
 -- The result is this request.
@@ -117,8 +121,8 @@ brought reply head (byte ∷ rest) = Granted reply head
 
 -- What happens, and where its result leads. The request reaches the server core from the client's own address, at
 -- any time by the server core's clock, and its reply the client from the server's address.
-pub data Leads (plan : Plan) (request : List ℕ) (until : ℕ) (position : RequestPosition) (event : Event) (ret : Answer) (next : RequestPosition)
-    : Type 0 where
+pub data Leads (plan : Plan) (request : List ℕ) (until : ℕ) (position : RequestPosition) (event : Event) (ret : Answer)
+    (next : RequestPosition) : Type 0 where
   -- The client is drawn, and may give nothing, another message, this request, or this request again.
   Draws : (now : ℕ) (stage : Stage) → IsAwaited position.stage → IsNext until position now → event ≡ Draw now
       → IsDrawTo request position.stage ret stage
@@ -127,8 +131,8 @@ pub data Leads (plan : Plan) (request : List ℕ) (until : ℕ) (position : Requ
   -- `poll` and the getters are called, events are polled, and permissions and channels are requested.
   Calls : (what : ClientCall) (now : ℕ) → IsAwaited position.stage → IsOwnCall what → IsNext until position now
       → event ≡ Call what now → next ≡ record position { last = now } → Leads plan request until position event ret next
-  Receives : (now : ℕ) → IsNext until position now → event ≡ Call call.PollRecv now → next ≡ record position { last = now }
-      → Leads plan request until position event ret next
+  Receives : (now : ℕ) → IsNext until position now → event ≡ Call call.PollRecv now
+      → next ≡ record position { last = now } → Leads plan request until position event ret next
   -- Anything reaches the server core.
   AtDesk : (bytes : Vec ℕ Global) (from : SocketAddr) (now : ℕ) (decision : Decision) (seed : List ℕ)
       → event ≡ ToDesk bytes from now decision seed → next ≡ position → Leads plan request until position event ret next
@@ -137,18 +141,32 @@ pub data Leads (plan : Plan) (request : List ℕ) (until : ℕ) (position : Requ
       → bytes.items ≡ request → event ≡ ToDesk bytes plan.client.here now decision seed → ret ≡ answer.Reply reply
       → class_of (kind_at reply.items) ≡ Success → next ≡ record position { stage = Granted reply.items [] }
       → Leads plan request until position event ret next
-  -- The response, or a chunk of it, reaches the client.
+  -- The request reaches the server core, which challenges it.
+  Challenges : (bytes reply : Vec ℕ Global) (now : ℕ) (decision : Decision) (seed : List ℕ) (reported : ChallengeFields)
+      → position.stage ≡ Transmitted → bytes.items ≡ request
+      → event ≡ ToDesk bytes plan.client.here now decision seed → ret ≡ answer.Reply reply
+      → challenge_visible reply.items ≡ Some reported → next ≡ record position { stage = Challenged reply.items [] }
+      → Leads plan request until position event ret next
+  -- The success response, or a chunk of it, reaches the client.
   Brings : (reply head rest : List ℕ) (bytes : Vec ℕ Global) (now : ℕ) → position.stage ≡ Granted reply head
       → BringsOn plan.client.transport reply head bytes.items rest → IsNext until position now
       → event ≡ ToClient bytes plan.client.server plan.client.here now
       → next ≡ record position { stage = brought reply (head ++ bytes.items) rest; last = now }
       → Leads plan request until position event ret next
+  -- A chunk of the challenge reaches the client, and more is to come.
+  Turns : (reply head rest : List ℕ) (bytes : Vec ℕ Global) (now : ℕ) → position.stage ≡ Challenged reply head
+      → BringsOn plan.client.transport reply head bytes.items rest → rest ≢ [] → IsNext until position now
+      → event ≡ ToClient bytes plan.client.server plan.client.here now
+      → next ≡ record position { stage = Challenged reply (head ++ bytes.items); last = now }
+      → Leads plan request until position event ret next
 
 -- The events and results lead from one place to another.
-unfoldable pub IsAskingLoop : Plan → (request : List ℕ) → (until : ℕ) → RequestPosition → List (Event × Answer) → RequestPosition → Type 0
+unfoldable pub IsAskingLoop : Plan → (request : List ℕ) → (until : ℕ) → RequestPosition → List (Event × Answer)
+    → RequestPosition → Type 0
 IsAskingLoop plan request until position [] last = last ≡ position
 IsAskingLoop plan request until position (pair ∷ pairs) last =
-    (next : RequestPosition) × Leads plan request until position pair.0 pair.1 next × IsAskingLoop plan request until next pairs last
+    (next : RequestPosition) × Leads plan request until position pair.0 pair.1 next
+    × IsAskingLoop plan request until next pairs last
 
 -- ---- the queue, and what a draw gives
 

@@ -100,9 +100,9 @@ MayDraw plan Unmade now = now ≡ plan.client.made
 MayDraw plan _ now = Unit {0}
 
 -- Once the client was drawn, its request is made.
-abbrev pub by_draw : RequestState → RequestState
-by_draw Unmade = Outstanding
-by_draw request = request
+abbrev pub after_draw : RequestState → RequestState
+after_draw Unmade = Outstanding
+after_draw request = request
 
 -- The client is polled before its request is given up.
 abbrev pub IsBeforeEnd : Plan → RequestState → (now : ℕ) → Type 0
@@ -114,7 +114,7 @@ IsBeforeEnd plan _ now = Unit {0}
 pub data Goes (plan : Plan) (position : Position) (event : Event) (ret : Answer) (next : Position) : Type 0 where
   -- The client is drawn.
   Draws : (now : ℕ) → MayDraw plan position.request now → now ≤ client_end → event ≡ Draw now
-      → next ≡ record position { request = by_draw position.request; timing = counted now ret position.timing }
+      → next ≡ record position { request = after_draw position.request; timing = counted now ret position.timing }
       → Goes plan position event ret next
   -- The client is polled before the end of its request's schedule, or before or after that request.
   Polls : (now : ℕ) → IsBeforeEnd plan position.request now → now ≤ client_end → event ≡ Call call.Poll now

@@ -47,7 +47,7 @@ ghost use Rattle.turn_desk_laws.specs.ConnectionLoops.{MayDraw, MayPoll, Method,
 ghost use Rattle.turn_desk_laws.specs.ConnectionLoops.{Permitted, Position, Queued, Reached};
 ghost use Rattle.turn_desk_laws.specs.ConnectionLoops.{Target, Timing, Transmitted, Unpermitted};
 ghost use Rattle.turn_desk_laws.specs.ConnectionLoops.{Waiting, after_draw, after_look, after_poll};
-ghost use Rattle.turn_desk_laws.specs.ConnectionLoops.{called, challenged, by_draw, holding};
+ghost use Rattle.turn_desk_laws.specs.ConnectionLoops.{called, challenged, timing_after_draw, holding};
 ghost use Rattle.turn_desk_laws.specs.ConnectionLoops.{permitted, requested};
 ghost use Rattle.turn_desk_laws.specs.ConnectionPromises.{HasReached, IsDrawAt, IsGivenBy};
 ghost use Rattle.turn_desk_laws.specs.ConnectionPromises.{IsPolledAt, IsRequest};
@@ -153,8 +153,8 @@ pub fn draws_give_queued_requests()
         → MayDraw lifetime since reached t now
         → IsStage plan old target address lifetime since reached t w
         → IsStep (Draw now) w ret v
-        → IsStage plan old target address lifetime since (after_draw reached ret) (by_draw now ret t)
-        v
+        → IsStage plan old target address lifetime since (after_draw reached ret)
+        (timing_after_draw now ret t) v
         × IsDrawAt plan old target reached t now ret }
 {
     holders_rest();

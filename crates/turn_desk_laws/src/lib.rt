@@ -10,6 +10,7 @@
 //! `docs/GUARANTEES.md` has the premises of each, and who can know them.
 #![tactic(auto)]
 
+pub use turn_client_proto_progress_laws::{challenged_requests, schedules};
 pub use turn_desk_progress_laws::connections::{
     challenged_bindings_go_again, connections_are_bound, successes_bind,
 };
@@ -30,10 +31,10 @@ pub use turn_desk_world_laws::running::Runs;
 
 pub mod beside;
 pub mod challenged_connects;
+pub mod challenged_loops;
 pub mod challenged_refreshes;
-pub mod challenged_requests;
 pub mod connections;
+pub mod excluded;
 pub mod renewals;
 pub mod requests;
-pub mod schedules;
 pub mod unanswered;

@@ -35,13 +35,9 @@ ghost use Rattle.turn_desk_laws.specs.RequestLoops.{IsRequestCall, Pending, Requ
 use turn_client_proto_handshake_laws::stages::{
     granted_clients_hold, messages_reach_clients, stages_are_unserved,
 };
-use turn_client_proto_progress_laws::channels::{
-    channels_are_requested_for, frames_are_taken, granted_channels_are_held,
-};
-use turn_client_proto_progress_laws::requests::{
-    datagrams_are_taken, granted_permissions_are_held, holders_speak,
-    permissions_are_requested_for, requests_are_own,
-};
+use turn_client_proto_messages::laws::{proof_requests_are_read, signed_requests_claim};
+use turn_client_proto_progress_laws::channels::channels_are_requested_for;
+use turn_client_proto_progress_laws::requests::{holders_speak, permissions_are_requested_for};
 use turn_desk_progress_laws::loops::honest_loops_allocate;
 
 /// After a loop that allocates, the client is established: it has that allocation alone, and signs
@@ -116,9 +112,10 @@ pub fn loops_make_requests()
 ///    presumed to give something or nothing. Anything reaches the server core.
 /// 4. Once a draw has given the request, one transmission of it reaches the server core from the
 ///    client's own address, at any time by the server core's clock. The server core grants it by a
-///    success response. That reaches the client from the server's address, unaltered, at any later
-///    time no later than `until`: over UDP as one datagram, over TCP in chunks, each at its own
-///    time. Nothing else reaches the client (`IsAskingLoop`). Who sees the network's log knows that.
+///    success response (if it challenges it: [`crate::challenged_loops`]). That reaches the client
+///    from the server's address, unaltered, at any later time no later than `until`: over UDP as
+///    one datagram, over TCP in chunks, each at its own time. Nothing else reaches the client
+///    (`IsAskingLoop`). Who sees the network's log knows that.
 ///
 /// # Conclusions
 ///
@@ -129,7 +126,7 @@ pub fn loops_make_requests()
 ///   The result is its data (RFC 8656, sections 10 to 12).
 /// - `queued`: Until a draw gives the request, it is queued, behind no more messages than were
 ///   queued before the call.
-/// - `by_draw`: So that a draw gives it is no premise. While it is queued, let a draw come at least
+/// - `sendings`: So that a draw gives it is no premise. While it is queued, let a draw come at least
 ///   50 ms after the client's last message, which came no later than `sent`. The result is a message
 ///   (`IsDrawOf`): a request that is due again, of those to which no response has come; or the first
 ///   of the messages before this request, so that one less is left; or, if none is left, this
@@ -170,7 +167,7 @@ pub fn loops_hold_what_is_requested()
         → IsAskingLoop plan request until (requested made sent) third position
         → position.stage ≡ Pending
         → (ahead : ℕ) × (ahead ≤ most) × IsQueued plan request ahead w }
-    ensures by_draw { (plan : Plan) (old two three w v : World) (address : SocketAddr)
+    ensures sendings { (plan : Plan) (old two three w v : World) (address : SocketAddr)
         (third : List (Event × Answer)) (request : List ℕ) (made until sent ahead now : ℕ)
         (what : ClientCall) (position : RequestPosition) (ret : Answer)
         → HasAllocated plan old address two
@@ -188,11 +185,6 @@ pub fn loops_hold_what_is_requested()
         → IsDrawOf plan request ahead w ret v }
 {
     loops_leave_speakers();
-    permissions_are_requested_for();
-    channels_are_requested_for();
-    requests_are_own();
-    granted_permissions_are_held();
-    granted_channels_are_held();
-    datagrams_are_taken::<&[u8]>();
-    frames_are_taken::<&[u8]>();
+    proof_requests_are_read();
+    signed_requests_claim();
 }

@@ -31,7 +31,7 @@ ghost use Rattle.turn_desk_progress_laws.specs.Scripts.{BringsOn, IsLook, Plan};
 ghost use Rattle.turn_desk_laws.specs.Unanswered.{Goes, HasNewClient, HasReported, HasSent};
 ghost use Rattle.turn_desk_laws.specs.Unanswered.{IsBeforeEnd, IsDrawAt, IsPolledAt};
 ghost use Rattle.turn_desk_laws.specs.Unanswered.{IsUnanswered, MayCome, MayDraw, Outstanding};
-ghost use Rattle.turn_desk_laws.specs.Unanswered.{Position, RequestState, TimedOut, begin, by_draw};
+ghost use Rattle.turn_desk_laws.specs.Unanswered.{Position, RequestState, TimedOut, begin, after_draw};
 ghost use Rattle.turn_desk_laws.specs.Unanswered.{end_in, sending_of, sendings_in, until_whole};
 ghost use Rattle.turn_desk_laws.specs.UnansweredStages.{IsAtPosition, IsStageOf};
 
@@ -153,7 +153,7 @@ pub fn unanswered_clients_ask_again()
         → MayDraw plan request now
         → now ≤ client_end
         → IsStep (Draw now) w ret v
-        → IsStageOf plan (reported ++ event_in ret) (by_draw request) (counted now ret t) head v
+        → IsStageOf plan (reported ++ event_in ret) (after_draw request) (counted now ret t) head v
         × IsDrawAt plan request t now ret }
     ensures sends { (plan : Plan) (w v : World) (reported : List TurnEvent)
         (sendings : List Sending) (request : RequestState) (t : Timing) (head : List ℕ) (now : ℕ)

@@ -21,7 +21,7 @@ use Rattle.turn_desk_world_laws.specs.TurnClientProto.SocketsReported.{replaced,
 use Rattle.turn_client_proto_api.specs.declared.error.TcpAllocateError.{TcpAllocateError}
 use Rattle.turn_client_proto_api.specs.Payloads.{PeerPayload}
 use Rattle.turn_client_proto_step_laws.specs.Recv.Receipts.{IsWaitingGiven}
-use Rattle.turn_client_proto_progress_laws.specs.Asking.{HasRequested, Wanted}
+use Rattle.turn_client_proto_progress_laws.specs.Asking.{HasMadeRequest, Wanted}
 use Rattle.turn_client_proto_progress_laws.specs.Speaking.{Speaks}
 use Rattle.turn_client_proto_progress_laws.proofs.Asking.Between as requested
 use Rattle.turn_client_proto_progress_laws.proofs.Asking.Others as others
@@ -126,14 +126,14 @@ acted_speaks b realm address p q at is (Permitted transport ip r ample made) = s
 acted_speaks b realm address p q at is (Bound transport peer r ample made) = speaking.bind_speaks b realm address p is transport peer at r q ample made
 acted_speaks b realm address p q at is (Transmitted sent transmitted) = speaking.transmitted_speaks b realm address p is at sent q transmitted
 
-pub acted_asks : (b : Beginning) (realm : List ℕ) (address : SocketAddr) (wanted : Wanted) (request : List ℕ) (now : ℕ) (p q : Protocol) (at : ℕ) → at ≤ now → HasRequested b realm address wanted request now p → IsActed p at q
-    → HasRequested b realm address wanted request now q
-acted_asks b realm address wanted request now p q at early is (Nothing same) = subst (λ (x : Protocol). HasRequested b realm address wanted request now x) (sym same) is
-acted_asks b realm address wanted request now p q at early is (Reported event taken) = requested.reported_so b realm address wanted request now p is event q taken
-acted_asks b realm address wanted request now p q at early is (Polled r ample polled) = requested.polled_so b realm address wanted request now p is at early r q ample polled
-acted_asks b realm address wanted request now p q at early is (Permitted transport ip r ample made) = requested.permission_so b realm address wanted request now p is at early transport ip r q ample made
-acted_asks b realm address wanted request now p q at early is (Bound transport peer r ample made) = requested.bind_so b realm address wanted request now p is at early transport peer r q ample made
-acted_asks b realm address wanted request now p q at early is (Transmitted sent transmitted) = requested.generated_so b realm address wanted request now p is at sent q transmitted
+pub acted_asks : (b : Beginning) (realm : List ℕ) (address : SocketAddr) (wanted : Wanted) (request : List ℕ) (until beyond : ℕ) (Counts : ℕ → Type 0) (p q : Protocol) (at : ℕ) → at ≤ until → at ≤ beyond → HasMadeRequest b realm address wanted request until beyond Counts p → IsActed p at q
+    → HasMadeRequest b realm address wanted request until beyond Counts q
+acted_asks b realm address wanted request until beyond Counts p q at early before is (Nothing same) = subst (λ (x : Protocol). HasMadeRequest b realm address wanted request until beyond Counts x) (sym same) is
+acted_asks b realm address wanted request until beyond Counts p q at early before is (Reported event taken) = requested.reported_so b realm address wanted request until beyond Counts p is event q taken
+acted_asks b realm address wanted request until beyond Counts p q at early before is (Polled r ample polled) = requested.polled_so b realm address wanted request until beyond Counts p is at early before r q ample polled
+acted_asks b realm address wanted request until beyond Counts p q at early before is (Permitted transport ip r ample made) = requested.permission_so b realm address wanted request until beyond Counts p is at early before transport ip r q ample made
+acted_asks b realm address wanted request until beyond Counts p q at early before is (Bound transport peer r ample made) = requested.bind_so b realm address wanted request until beyond Counts p is at early before transport peer r q ample made
+acted_asks b realm address wanted request until beyond Counts p q at early before is (Transmitted sent transmitted) = requested.generated_so b realm address wanted request until beyond Counts p is at sent q transmitted
 
 -- ---- what is reported of other calls
 

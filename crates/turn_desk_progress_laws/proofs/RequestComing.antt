@@ -31,7 +31,7 @@ use Rattle.turn_client_proto_progress_laws.proofs.Asking.Processing.{processed_s
 use Rattle.turn_client_proto_step_laws.specs.Recv.Datagrams.{Foreign, Processed, IsDatagramTaken, IsDelivered, IsMessageTaken, IsRead, Lost as MessageLost, Own, in_place}
 use Rattle.turn_client_proto_progress_laws.proofs.Asking.Given.{given_by, processed_by, no_payload_of}
 use Rattle.turn_client_proto_progress_laws.proofs.Asking.Chunks.{IsUnderWay, nothing_stored, part_stored, chunk_ends, chunk_waits, taken_asks, taken_come, taken_from, taken_holds, taken_speaks as taken_still}
-use Rattle.turn_client_proto_progress_laws.specs.Asking.{HasRequested, Wanted}
+use Rattle.turn_client_proto_progress_laws.specs.Asking.{HasMadeRequest, Wanted}
 use Rattle.turn_client_proto_messages.specs.Allocation.declared.allocation.Allocation.{Allocation}
 use Rattle.turn_client_proto_api.specs.declared.error.TcpAllocateError.{TcpAllocateError}
 use Rattle.turn_desk_world_laws.specs.TurnClientProtoConnection.Streams.{emptied_in}
@@ -243,12 +243,12 @@ speaker_waits b realm address Tcp head p is stored = λ at given q r.
     let t = taken_from (over (Open (alive head)) p) at given q head stored refl r in
     (taken_still b realm address (over (Open (alive head)) p) q is t, taken_come (over (Open (alive head)) p) q head refl t)
 
-pub asker_waits : (b : Beginning) (realm : List ℕ) (address : SocketAddr) (wanted : Wanted) (request : List ℕ) (now : ℕ) (transport : TransportType) (head : List ℕ) (p : Protocol) → HasRequested b realm address wanted request now p → IsStoredOf transport head
-    → DoesWait (control_at transport head) p (λ x. HasRequested b realm address wanted request now x)
-asker_waits b realm address wanted request now Udp head p is stored = none_waits p (λ x. HasRequested b realm address wanted request now x) is
-asker_waits b realm address wanted request now Tcp head p is stored = λ at given q r.
+pub asker_waits : (b : Beginning) (realm : List ℕ) (address : SocketAddr) (wanted : Wanted) (request : List ℕ) (until beyond : ℕ) (Counts : ℕ → Type 0) (transport : TransportType) (head : List ℕ) (p : Protocol) → HasMadeRequest b realm address wanted request until beyond Counts p → IsStoredOf transport head
+    → DoesWait (control_at transport head) p (λ x. HasMadeRequest b realm address wanted request until beyond Counts x)
+asker_waits b realm address wanted request until beyond Counts Udp head p is stored = none_waits p (λ x. HasMadeRequest b realm address wanted request until beyond Counts x) is
+asker_waits b realm address wanted request until beyond Counts Tcp head p is stored = λ at given q r.
     let t = taken_from (over (Open (alive head)) p) at given q head stored refl r in
-    (taken_asks b realm address wanted request now (over (Open (alive head)) p) q is t, taken_come (over (Open (alive head)) p) q head refl t)
+    (taken_asks b realm address wanted request until beyond Counts (over (Open (alive head)) p) q is t, taken_come (over (Open (alive head)) p) q head refl t)
 
 pub holder_waits : (b : Beginning) (Is : Allocation → Type 0) → ((a : Allocation) → Is a → Is (emptied_in a)) → (transport : TransportType) (head : List ℕ) (p : Protocol) → HasHeld b p Is → IsStoredOf transport head
     → DoesWait (control_at transport head) p (λ x. HasHeld b x Is)

@@ -9,7 +9,7 @@ use Rattle.turn_desk_core.specs.StunTypesWire.Types.{class_of}
 use Rattle.turn_client_proto_messages.specs.TurnRuns.Indications.{is_indication}
 use Rattle.turn_client_proto_handshake_laws.specs.Coming.{IsPartOf}
 use Rattle.turn_client_proto_handshake_laws.specs.Core.Receiving.{IsProcessed}
-use Rattle.turn_client_proto_progress_laws.specs.Asking.{HasRequested, Wanted}
+use Rattle.turn_client_proto_progress_laws.specs.Asking.{AnyCount, HasRequested, Wanted}
 use Rattle.turn_client_proto_progress_laws.specs.Holding.{IsGrantOf, IsOwnRequest}
 use Rattle.turn_desk_world_laws.specs.World.Desks.{IsDeskAnswered, words_of}
 use Rattle.turn_client_proto_step_laws.specs.Recv.ClientState.{Protocol}
@@ -53,7 +53,7 @@ module _ (plan : Plan) (realm : List ℕ) (address : SocketAddr) (wanted : Wante
 
   acted : (w v : World) (at : ℕ) → at ≤ now → (ready : IsReady plan realm [] Asks w) → IsActedOn (control_at plan.client.transport []) ready.client.core at w v → IsReady plan realm [] Asks v
   acted w v at early ready a = placed plan realm plan.client.transport refl [] Asks w v ready.desk
-      (record { core = a.core; there = a.there; is = acted_asks plan.client realm address wanted request now ready.client.core a.core at early ready.client.is a.acted; of = a.of })
+      (record { core = a.core; there = a.there; is = acted_asks plan.client realm address wanted request now now AnyCount ready.client.core a.core at early early ready.client.is a.acted; of = a.of })
 
   between : (event : Event) (w v : World) (ret : Answer) → IsBetween now event → IsReady plan realm [] Asks w → IsStep event w ret v → IsReady plan realm [] Asks v
   between (Call what at) w v ret is ready step = acted w v at is.1 ready (calls (control_at plan.client.transport []) w v ready.client.core what at ret ready.client.there is.0 step)
@@ -103,7 +103,7 @@ module _ (plan : Plan) (realm : List ℕ) (address : SocketAddr) (wanted : Wante
       record {
         ready = placed plan realm plan.client.transport refl head Asks w v s.ready.desk
             (receives (control_at plan.client.transport head) Asks w v c.core at ret c.there c.is
-            (asker_waits plan.client realm address wanted request now plan.client.transport head c.core c.is (part_of_one plan.client.transport head reply s.part)) step);
+            (asker_waits plan.client realm address wanted request now now AnyCount plan.client.transport head c.core c.is (part_of_one plan.client.transport head reply s.part)) step);
         early = s.early;
         grant = s.grant;
         part = s.part;

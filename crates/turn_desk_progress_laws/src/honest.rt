@@ -204,7 +204,8 @@ pub fn second_requests_are_granted()
         → IsWhole address
         → IsStep (ToDesk bytes request.from plan.second
         (by.Allocate (address ∷ []) lifetime) seed) w ret v
-        → IsAtStage plan old (reported ++ event_in ret) (replied_second request address lifetime ret) v }
+        → IsAtStage plan old (reported ++ event_in ret) (replied_second request address lifetime ret)
+        v }
 {
     proof_requests_are_read();
     signed_allocates_answer();

@@ -51,8 +51,8 @@ pub fn loops_take_their_time()
 ///
 /// None of them is what a loop promises.
 ///
-/// `request_made` and `signed`: What the small loop has in their places is: the first request at 500 ms;
-/// and at 50 ms a request that is valid under the user's key (`IsSecondRequest`).
+/// `request_made` and `signed`: What the small loop has in their places is: the first request at 500
+/// ms; and at 50 ms a request that is valid under the user's key (`IsSecondRequest`).
 pub fn draws_keep_the_schedule()
     ensures due { (e : Exchange)
         → IsOnSchedule (small_plan e) request_made_once 500_000_000 Nothing → ⊥ }

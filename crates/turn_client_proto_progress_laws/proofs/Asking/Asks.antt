@@ -39,9 +39,9 @@ use Rattle.turn_client_proto_messages.proofs.Reading.{number_law}
 use Rattle.turn_client_proto_step_laws.proofs.Numbers.{number_small}
 use Rattle.turn_client_proto_progress_laws.proofs.Asking.Tools.{put_or, put_there}
 use Rattle.turn_client_proto_handshake_laws.specs.Sent.{Beginning}
-use Rattle.turn_client_proto_progress_laws.specs.Asking.{APermission, AwaitsPermission, HasRequested, IsMade, MayPermit}
+use Rattle.turn_client_proto_progress_laws.specs.Asking.{APermission, AwaitsPermission, HasMadeRequest, IsMade, MayPermit}
 use Rattle.turn_client_proto_progress_laws.specs.Speaking.{AreHeldBeyond, HasAtMost, IsOwn, Speaks}
-use Rattle.turn_client_proto_progress_laws.proofs.Asking.Lists.{first_not, second_not, found_last, none_of_any, one_changed, one_found}
+use Rattle.turn_client_proto_progress_laws.proofs.Asking.Lists.{first_not, second_not, found_last, none_of_any, one_changed, one_found, only_one}
 use Rattle.turn_client_proto_progress_laws.proofs.Asking.Moving.{speaks_on}
 
 -- ---- tools
@@ -225,7 +225,7 @@ module _ (b : Beginning) (realm : List ℕ) (address : SocketAddr) (p : Protocol
     abbrev pending : PendingPermission
     pending = record { ip = ip; numbers = number ∷ [] }
 
-    awaits_it : AwaitsPermission number ip (asking pending may.allocation)
+    awaits_it : AwaitsPermission (number ∷ []) number ip (asking pending may.allocation)
     unfolding is_awaited
     awaits_it =
         let a = may.allocation in
@@ -275,9 +275,9 @@ module _ (b : Beginning) (realm : List ℕ) (address : SocketAddr) (p : Protocol
           | inr old ↦ absurd (Prim.cc (sym m.none ∙ old.1))
         ]
 
-    asks_after : (now : ℕ) → AreHeldBeyond now p.allocations → now < end_at at b.config.waits → HasRequested b realm address (APermission ip) text now after
+    asks_after : (until beyond : ℕ) (Counts : ℕ → Type 0) → AreHeldBeyond beyond p.allocations → until < end_at at b.config.waits → Counts p.resends → HasMadeRequest b realm address (APermission ip) text until beyond Counts after
     unfolding requested
-    asks_after now held early =
+    asks_after until beyond Counts held early counts =
         let a = may.allocation in
         let holds = held a (subst (λ (l : List Allocation). IsIn a l) (sym may.only) (inl refl)) in
         let own = own_of a may.only in
@@ -294,14 +294,17 @@ module _ (b : Beginning) (realm : List ℕ) (address : SocketAddr) (p : Protocol
           fits = number_small p number is.is_next;
           lawful = is.lawful;
           text = refl;
+          numbers = number ∷ [];
           awaits = awaits_it;
+          others = λ n has apart. absurd (apart (only_one n number has));
           transaction = transaction;
           outstanding = there_after;
-          continues = lt-leb (end_at at p.agent.waits) now (omega (arith, ends, early));
+          continues = lt-leb (end_at at p.agent.waits) until (omega (arith, ends, early));
+          counts = counts;
         }
 
-    pub asks : (now : ℕ) → AreHeldBeyond now p.allocations → now < end_at at b.config.waits → HasRequested b realm address (APermission ip) text now q
-    asks now held early = subst (λ (x : Protocol). HasRequested b realm address (APermission ip) text now x) (sym (is.after ∙ is_after)) (asks_after now held early)
+    pub asks : (until beyond : ℕ) (Counts : ℕ → Type 0) → AreHeldBeyond beyond p.allocations → until < end_at at b.config.waits → Counts p.resends → HasMadeRequest b realm address (APermission ip) text until beyond Counts q
+    asks until beyond Counts held early counts = subst (λ (x : Protocol). HasMadeRequest b realm address (APermission ip) text until beyond Counts x) (sym (is.after ∙ is_after)) (asks_after until beyond Counts held early counts)
 
     -- Its transaction ID was free, so the request is a new one.
     free : is_some (finite.get p.agent.outstanding number) ≡ false

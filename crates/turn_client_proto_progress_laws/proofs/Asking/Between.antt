@@ -51,10 +51,10 @@ use Rattle.turn_client_proto_step_laws.specs.Timers.declared.wanting.Want.TheVar
 use Rattle.turn_client_proto_progress_laws.proofs.Asking.Tools.{refused_or}
 use Rattle.turn_client_proto_handshake_laws.specs.Driving.{IsEventTaken}
 use Rattle.turn_client_proto_handshake_laws.specs.Sent.{Beginning}
-use Rattle.turn_client_proto_progress_laws.specs.Asking.{HasRequested, Wanted}
+use Rattle.turn_client_proto_progress_laws.specs.Asking.{HasMadeRequest, Wanted}
 use Rattle.turn_client_proto_progress_laws.proofs.Asking.Stored.{Keeps, all_polled, channel_requested, channel_renewed, itself, permission_requested, permission_renewed, refresh_sent, socket_requested}
 use Rattle.turn_client_proto_progress_laws.proofs.Asking.Lists.{found_one, one_stored}
-use Rattle.turn_client_proto_progress_laws.proofs.Asking.Moving.{IsTickedOn, apart_from, requested_still, beside_made, beside_sent, ticked_on}
+use Rattle.turn_client_proto_progress_laws.proofs.Asking.Moving.{IsTickedOn, apart_from, beside_made, beside_sent, others_made, others_sent, requested_still, ticked_on}
 
 -- What is transmitted, if something is.
 pub sent_so : (answer : Option Sent) (Is : Sent → Type 0) → Sends answer Is → (sent : Sent) × Is sent
@@ -66,20 +66,20 @@ pub tested : {P Q R : Type 0} (x : Bool) → (x ≡ true → P → R) → (x ≡
 tested true f g is = f refl is
 tested false f g is = g refl is
 
-module _ (b : Beginning) (realm : List ℕ) (address : SocketAddr) (wanted : Wanted) (request : List ℕ) (now : ℕ) (p : Protocol) (h : HasRequested b realm address wanted request now p) where
+module _ (b : Beginning) (realm : List ℕ) (address : SocketAddr) (wanted : Wanted) (request : List ℕ) (until beyond : ℕ) (Counts : ℕ → Type 0) (p : Protocol) (h : HasMadeRequest b realm address wanted request until beyond Counts p) where
   abbrev Asks : Protocol → Type 0
-  Asks q = HasRequested b realm address wanted request now q
+  Asks q = HasMadeRequest b realm address wanted request until beyond Counts q
 
   -- Nothing of the client changes.
   unchanged : (q : Protocol) → q ≡ p → Asks q
   unchanged q same = subst (λ (x : Protocol). Asks x) (sym same) h
 
-  abbrev stored_itself : Keeps h.number wanted h.allocation h.allocation
-  stored_itself = itself h.number wanted h.allocation
+  abbrev stored_itself : Keeps h.numbers h.number wanted h.allocation h.allocation
+  stored_itself = itself h.numbers h.number wanted h.allocation
 
   -- The first allocation that passes is changed.
-  changed_one : (test : Allocation → Bool) (f : Allocation → Allocation) → Keeps h.number wanted h.allocation (f h.allocation)
-      → (a : Allocation) × (change_first test f p.allocations ≡ a ∷ []) × Keeps h.number wanted h.allocation a
+  changed_one : (test : Allocation → Bool) (f : Allocation → Allocation) → Keeps h.numbers h.number wanted h.allocation (f h.allocation)
+      → (a : Allocation) × (change_first test f p.allocations ≡ a ∷ []) × Keeps h.numbers h.number wanted h.allocation a
   changed_one test f keeps =
       let at : change_first test f p.allocations ≡ change_first test f (h.allocation ∷ []) = ap (λ (l : List Allocation). change_first test f l) h.only in
       elim (cases_Bool (test h.allocation)) [
@@ -90,31 +90,31 @@ module _ (b : Beginning) (realm : List ℕ) (address : SocketAddr) (wanted : Wan
   -- ---- what is transmitted
 
   -- A request that is made and transmitted at once.
-  module _ (other : TurnRequest) (number at : ℕ) (lawful : IsLawfulRequest other) (next : IsNextNumber p number) (test : Allocation → Bool) (f : Allocation → Allocation) (keeps : Keeps h.number wanted h.allocation (f h.allocation)) where
+  module _ (other : TurnRequest) (number at : ℕ) (lawful : IsLawfulRequest other) (next : IsNextNumber p number) (test : Allocation → Bool) (f : Allocation → Allocation) (keeps : Keeps h.numbers h.number wanted h.allocation (f h.allocation)) where
     made_so : Asks (after_sending at (record (sent_at_once (after_number p) other number at) { allocations = change_first test f p.allocations }))
     unfolding sent_at_once
     made_so =
         let changed = changed_one test f keeps in
-        requested_still b realm address wanted request now p h _ (record { server = refl; remote = refl; transport = refl; here = refl; waits = refl; allocates = refl; families = refl; auth = refl; phase = refl })
-        changed.0 changed.1 changed.2 h.transaction (beside_made b realm address wanted request now p h other number at p.server lawful next) h.continues
+        requested_still b realm address wanted request until beyond Counts p h _ (record { server = refl; remote = refl; transport = refl; here = refl; waits = refl; allocates = refl; families = refl; auth = refl; phase = refl }) refl
+        changed.0 changed.1 changed.2 (others_made b realm address wanted request until beyond Counts p h other number at p.server lawful next) h.transaction (beside_made b realm address wanted request until beyond Counts p h other number at p.server lawful next) h.continues
 
   refreshed_so : (at : ℕ) (sent : Sent) (q : Protocol) → IsRefreshSent p at sent q → Asks q
   unfolding first_refreshed
   refreshed_so at sent q is = subst (λ (x : Protocol). Asks x) (sym is.after)
       (made_so (RefreshRequest allocation_lifetime) is.number at (omega arith) is.made.is_next (wants at) (refreshing (record { number = is.number; lifetime = allocation_lifetime }))
-      (refresh_sent h.number is.number (apart_from b realm address wanted request now p h is.number is.made.is_next) wanted allocation_lifetime h.allocation))
+      (refresh_sent h.numbers h.number is.number (apart_from b realm address wanted request until beyond Counts p h is.number is.made.is_next) wanted allocation_lifetime h.allocation))
 
   renewed_so : (at : ℕ) (ip : IpAddr) (sent : Sent) (q : Protocol) → IsRenewalSent p ip at sent q → Asks q
   unfolding first_permitted
   renewed_so at ip sent q is = subst (λ (x : Protocol). Asks x) (sym is.after)
       (made_so (CreatePermission ip) is.number at is.lawful is.made.is_next (wants at) (permission_wanting.renewing at is.number)
-      (permission_renewed h.number is.number (apart_from b realm address wanted request now p h is.number is.made.is_next) wanted at h.allocation))
+      (permission_renewed h.numbers h.number is.number (apart_from b realm address wanted request until beyond Counts p h is.number is.made.is_next) wanted at h.allocation))
 
   rebound_so : (at channel : ℕ) (peer : SocketAddr) (sent : Sent) (q : Protocol) → IsChannelRenewalSent p channel peer at sent q → Asks q
   unfolding first_bound
   rebound_so at channel peer sent q is = subst (λ (x : Protocol). Asks x) (sym is.after)
       (made_so (ChannelBind channel peer) is.number at is.lawful is.made.is_next (wants at) (channel_wanting.renewing at is.number)
-      (channel_renewed h.number is.number (apart_from b realm address wanted request now p h is.number is.made.is_next) wanted at h.allocation))
+      (channel_renewed h.numbers h.number is.number (apart_from b realm address wanted request until beyond Counts p h is.number is.made.is_next) wanted at h.allocation))
 
   renewal_so : (what : Option Want) (at : ℕ) (sent : Option Sent) (q : Protocol) → IsRenewed what p at sent q → Asks q
   renewal_so None at sent q is = unchanged q is.1
@@ -125,8 +125,8 @@ module _ (b : Beginning) (realm : List ℕ) (address : SocketAddr) (wanted : Wan
   -- The client with another queue.
   queued_so : (queue : List Queued) (last : Option ℕ) → Asks (record p { queue = queue; last_send = last })
   queued_so queue last =
-      requested_still b realm address wanted request now p h _ (record { server = refl; remote = refl; transport = refl; here = refl; waits = refl; allocates = refl; families = refl; auth = refl; phase = refl })
-      h.allocation h.only stored_itself h.transaction h.outstanding h.continues
+      requested_still b realm address wanted request until beyond Counts p h _ (record { server = refl; remote = refl; transport = refl; here = refl; waits = refl; allocates = refl; families = refl; auth = refl; phase = refl }) refl
+      h.allocation h.only stored_itself h.others h.transaction h.outstanding h.continues
 
   answer_so : (found : Option Queued) (sent : Option Sent) (q : Protocol) → IsAnswerSent found p sent q → Asks q
   answer_so None sent q is = unchanged q is.1
@@ -138,10 +138,10 @@ module _ (b : Beginning) (realm : List ℕ) (address : SocketAddr) (wanted : Wan
 
   again_so : (at : ℕ) (sent : Sent) (q : Protocol) → IsRepeated p at sent q → Asks q
   again_so at sent q is =
-      let t = beside_sent b realm address wanted request now p h is.number is.transaction (agents.is_tcp p.agent.transport) is.least.present in
+      let t = beside_sent b realm address wanted request until beyond Counts p h is.number is.transaction (agents.is_tcp p.agent.transport) is.least.present in
       subst (λ (y : Protocol). Asks y) (sym is.after)
-      (requested_still b realm address wanted request now p h _ (record { server = refl; remote = refl; transport = refl; here = refl; waits = refl; allocates = refl; families = refl; auth = refl; phase = refl })
-      h.allocation h.only stored_itself t.0 t.1 t.2)
+      (requested_still b realm address wanted request until beyond Counts p h _ (record { server = refl; remote = refl; transport = refl; here = refl; waits = refl; allocates = refl; families = refl; auth = refl; phase = refl }) refl
+      h.allocation h.only stored_itself (others_sent b realm address wanted request until beyond Counts p h is.number is.transaction (agents.is_tcp p.agent.transport) is.least.present) t.0 t.1 t.2)
 
   pub generated_so : (at : ℕ) (sent : Option Sent) (q : Protocol) → IsTransmitted p at sent q → Asks q
   generated_so at sent q (Again one is r) = again_so at one q r
@@ -151,16 +151,16 @@ module _ (b : Beginning) (realm : List ℕ) (address : SocketAddr) (wanted : Wan
 
   pub reported_so : (event : Option TurnEvent) (q : Protocol) → IsEventTaken p event q → Asks q
   reported_so event q is = subst (λ (y : Protocol). Asks y) (sym is.others)
-      (requested_still b realm address wanted request now p h _ (record { server = refl; remote = refl; transport = refl; here = refl; waits = refl; allocates = refl; families = refl; auth = refl; phase = refl })
-      h.allocation h.only stored_itself h.transaction h.outstanding h.continues)
+      (requested_still b realm address wanted request until beyond Counts p h _ (record { server = refl; remote = refl; transport = refl; here = refl; waits = refl; allocates = refl; families = refl; auth = refl; phase = refl }) refl
+      h.allocation h.only stored_itself h.others h.transaction h.outstanding h.continues)
 
   -- ---- it is polled, not later
 
-  module _ (at : ℕ) (early : at ≤ now) where
+  module _ (at : ℕ) (early : at ≤ until) (before : at ≤ beyond) where
     lasts : nat_lt at h.allocation.expiry ≡ true
-    lasts = (let later = h.later in lt-ltb at h.allocation.expiry (omega (arith, later, early)))
+    lasts = (let later = h.later in lt-ltb at h.allocation.expiry (omega (arith, later, before)))
 
-    module _ (ticked : StunAgentPollRet) (agent : agents.Agent) (t : IsTickedOn b realm address wanted request now p h ticked agent) where
+    module _ (ticked : StunAgentPollRet) (agent : agents.Agent) (t : IsTickedOn b realm address wanted request until beyond Counts p h ticked agent) where
       abbrev over : Option ℕ
       over = ended_of ticked
 
@@ -186,8 +186,8 @@ module _ (b : Beginning) (realm : List ℕ) (address : SocketAddr) (wanted : Wan
         closing = closing;
       })
       with_closing closing =
-          requested_still b realm address wanted request now p h _ (record { server = refl; remote = t.remote; transport = t.transport; here = t.here; waits = t.waits; allocates = refl; families = refl; auth = refl; phase = refl })
-          after polled_is (all_polled h.number over at t.continues wanted h.allocation) h.transaction t.there h.continues
+          requested_still b realm address wanted request until beyond Counts p h _ (record { server = refl; remote = t.remote; transport = t.transport; here = t.here; waits = t.waits; allocates = refl; families = refl; auth = refl; phase = refl }) refl
+          after polled_is (all_polled h.numbers h.number over at t.continues wanted h.allocation) t.others h.transaction t.there h.continues
 
       closing_so : (closing : List SocketAddr) (wish ret : TurnPollRet) (q : Protocol) → IsClosing closing wish (after_time over at k) ret q → Asks q
       unfolding after_time
@@ -197,10 +197,10 @@ module _ (b : Beginning) (realm : List ℕ) (address : SocketAddr) (wanted : Wan
       socket_so : (w : Waiting) (ret : TurnPollRet) (q : Protocol) → Answers (socket_for k w) (after_socket k) ret q → Asks q
       unfolding after_socket
       socket_so w ret q is =
-          let changed = changed_one has_unasked requested_in (socket_requested h.number wanted h.allocation) in
+          let changed = changed_one has_unasked requested_in (socket_requested h.numbers h.number wanted h.allocation) in
           subst (λ (y : Protocol). Asks y) (sym is.1)
-          (requested_still b realm address wanted request now p h _ (record { server = refl; remote = t.remote; transport = t.transport; here = t.here; waits = t.waits; allocates = refl; families = refl; auth = refl; phase = refl })
-          changed.0 changed.1 changed.2 h.transaction t.there h.continues)
+          (requested_still b realm address wanted request until beyond Counts p h _ (record { server = refl; remote = t.remote; transport = t.transport; here = t.here; waits = t.waits; allocates = refl; families = refl; auth = refl; phase = refl }) refl
+          changed.0 changed.1 changed.2 t.others h.transaction t.there h.continues)
 
       standing_so : (found : Option Waiting) (wait : ℕ) (ret : TurnPollRet) (q : Protocol)
           → MatchOption found (AreAllocationsPolled over wait k at ret q) (λ w. Answers (socket_for k w) (after_socket k) ret q) → Asks q
@@ -213,7 +213,7 @@ module _ (b : Beginning) (realm : List ℕ) (address : SocketAddr) (wanted : Wan
     by_events : (events : List TurnEvent) (ret : TurnPollRet) (q : Protocol) → IsPolledBy events p at ret q → Asks q
     by_events (e ∷ events) ret q is = unchanged q is.1
     by_events [] ret q is = tested (list_any is_answer p.queue) (λ _ x. unchanged q x.1)
-        (λ _ x. in_phase x.ticked x.agent (ticked_on b realm address wanted request now p h at x.ticked x.agent early x.is_ticked) _ ret q x.outcome) is
+        (λ _ x. in_phase x.ticked x.agent (ticked_on b realm address wanted request until beyond Counts p h at x.ticked x.agent early x.is_ticked) _ ret q x.outcome) is
 
     pub polled_so : (ret : TurnPollRet) (q : Protocol) → ret ≢ answer.NoMemory → IsPolled p at ret q → Asks q
     polled_so ret q ample is = elim (refused_or p at ret q is) [
@@ -224,7 +224,7 @@ module _ (b : Beginning) (realm : List ℕ) (address : SocketAddr) (wanted : Wan
     -- ---- something else is requested, not later
 
     not_past : is_past at h.allocation ≡ false
-    not_past = (let later = h.later in lt-leb h.allocation.expiry at (omega (arith, later, early)))
+    not_past = (let later = h.later in lt-leb h.allocation.expiry at (omega (arith, later, before)))
 
     -- An allocation that is found is the only one.
     found_is : (test : Allocation → Bool) (a : Allocation) → find test p.allocations ≡ Some a → a ≡ h.allocation
@@ -238,19 +238,19 @@ module _ (b : Beginning) (realm : List ℕ) (address : SocketAddr) (wanted : Wan
         rw past refl
 
     -- A request that is queued.
-    module _ (other : TurnRequest) (number : ℕ) (lawful : IsLawfulRequest other) (next : IsNextNumber p number) (test : Allocation → Bool) (f : Allocation → Allocation) (keeps : Keeps h.number wanted h.allocation (f h.allocation)) where
+    module _ (other : TurnRequest) (number : ℕ) (lawful : IsLawfulRequest other) (next : IsNextNumber p number) (test : Allocation → Bool) (f : Allocation → Allocation) (keeps : Keeps h.numbers h.number wanted h.allocation (f h.allocation)) where
       waits_so : Asks (record (requested (after_number p) other number at) { allocations = change_first test f p.allocations })
       unfolding requested
       waits_so =
           let changed = changed_one test f keeps in
-          requested_still b realm address wanted request now p h _ (record { server = refl; remote = refl; transport = refl; here = refl; waits = refl; allocates = refl; families = refl; auth = refl; phase = refl })
-          changed.0 changed.1 changed.2 h.transaction (beside_made b realm address wanted request now p h other number at p.server lawful next) h.continues
+          requested_still b realm address wanted request until beyond Counts p h _ (record { server = refl; remote = refl; transport = refl; here = refl; waits = refl; allocates = refl; families = refl; auth = refl; phase = refl }) refl
+          changed.0 changed.1 changed.2 (others_made b realm address wanted request until beyond Counts p h other number at p.server lawful next) h.transaction (beside_made b realm address wanted request until beyond Counts p h other number at p.server lawful next) h.continues
 
     permission_made : (transport : TransportType) (ip : IpAddr) (q : Protocol) → IsPermissionRequested p transport ip at q → Asks q
     unfolding after_permission
     permission_made transport ip q is = subst (λ (y : Protocol). Asks y) (sym is.after)
         (waits_so (CreatePermission ip) is.number is.lawful is.is_next (is_of transport (family_of_ip ip)) (permission_asking.asking (record { ip = ip; numbers = is.number ∷ [] }))
-        (permission_requested h.number is.number (apart_from b realm address wanted request now p h is.number is.is_next) wanted ip h.allocation))
+        (permission_requested h.numbers h.number is.number (apart_from b realm address wanted request until beyond Counts p h is.number is.is_next) wanted ip h.allocation))
 
     permission_by : (transport : TransportType) (ip : IpAddr) (ret : Result (Unit {0}) CreatePermissionError) (q : Protocol) (refusal : Option CreatePermissionError) → ret ≢ Err not_permitted.NoMemory
         → IfSome refusal (λ error. (ret ≡ Err error) × (q ≡ refused_in (allocation_for transport ip p) transport ip at p))
@@ -272,7 +272,7 @@ module _ (b : Beginning) (realm : List ℕ) (address : SocketAddr) (wanted : Wan
     unfolding after_binding
     channel_made transport peer channel q is = subst (λ (y : Protocol). Asks y) (sym is.after)
         (waits_so (ChannelBind channel peer) is.number is.lawful is.is_next (is_of transport (family_of_socket peer)) (asking_channel channel peer is.number)
-        (channel_requested h.number is.number (apart_from b realm address wanted request now p h is.number is.is_next) wanted channel (socket_ip peer) peer h.allocation))
+        (channel_requested h.numbers h.number is.number (apart_from b realm address wanted request until beyond Counts p h is.number is.is_next) wanted channel (socket_ip peer) peer h.allocation))
 
     channel_by : (transport : TransportType) (peer : SocketAddr) (ret : Result (Unit {0}) BindChannelError) (q : Protocol) (free : Option ℕ) → ret ≢ Err not_bound.NoMemory
         → MatchOption free ((ret ≡ Err not_bound.NoChannel) × (q ≡ p))

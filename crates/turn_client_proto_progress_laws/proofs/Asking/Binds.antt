@@ -36,10 +36,10 @@ use Rattle.turn_client_proto_messages.proofs.Reading.{number_law}
 use Rattle.turn_client_proto_step_laws.proofs.Numbers.{number_small}
 use Rattle.turn_client_proto_progress_laws.proofs.Asking.Tools.{put_or, put_there}
 use Rattle.turn_client_proto_handshake_laws.specs.Sent.{Beginning}
-use Rattle.turn_client_proto_progress_laws.specs.Asking.{AChannel, AwaitsChannel, HasRequested, IsMade, MayBind}
+use Rattle.turn_client_proto_progress_laws.specs.Asking.{AChannel, AwaitsChannel, HasMadeRequest, IsMade, MayBind}
 use Rattle.turn_client_proto_progress_laws.specs.Speaking.{AreHeldBeyond, HasAtMost, IsOwn, Speaks}
 use Rattle.turn_client_proto_progress_laws.proofs.Asking.Asks.{both_of, continues, later_than, of_both}
-use Rattle.turn_client_proto_progress_laws.proofs.Asking.Lists.{first_not, second_not, found_last, none_of_any, one_changed, one_found}
+use Rattle.turn_client_proto_progress_laws.proofs.Asking.Lists.{first_not, second_not, found_last, none_of_any, one_changed, one_found, only_one}
 use Rattle.turn_client_proto_progress_laws.proofs.Asking.Moving.{speaks_on}
 
 -- The first of two causes does not apply.
@@ -203,14 +203,14 @@ module _ (b : Beginning) (realm : List ℕ) (address : SocketAddr) (p : Protocol
     pending = record { channel = channel; peer = peer; numbers = number ∷ [] }
 
     -- The permission that is requested with the channel makes no difference.
-    beside : (ip : IpAddr) (x : Allocation) → AwaitsChannel number channel peer x → AwaitsChannel number channel peer (permission_beside ip number x)
+    beside : (ip : IpAddr) (x : Allocation) → AwaitsChannel (number ∷ []) number channel peer x → AwaitsChannel (number ∷ []) number channel peer (permission_beside ip number x)
     unfolding permission_beside
     beside ip x is = elim (cases_Bool (knows ip x)) [
       | inl known ↦ rw known is
       | inr new ↦ rw new (record { no_refresh = is.no_refresh; requested = is.requested; free = is.free })
     ]
 
-    awaits_alone : AwaitsChannel number channel peer (asking pending a)
+    awaits_alone : AwaitsChannel (number ∷ []) number channel peer (asking pending a)
     unfolding is_awaited
     awaits_alone =
         let one = second_not (list_any (renews_permission number) a.permissions) _ unawaited in
@@ -278,9 +278,9 @@ module _ (b : Beginning) (realm : List ℕ) (address : SocketAddr) (p : Protocol
     same_changed : IsSame changed
     same_changed = same_beside (socket_ip peer) (asking pending a) (record { transport_is = refl; address_is = refl; expiry_is = refl; visible_is = refl })
 
-    binds_after : (now : ℕ) → AreHeldBeyond now p.allocations → now < end_at at b.config.waits → HasRequested b realm address (AChannel channel peer) text now after
+    binds_after : (until beyond : ℕ) (Counts : ℕ → Type 0) → AreHeldBeyond beyond p.allocations → until < end_at at b.config.waits → Counts p.resends → HasMadeRequest b realm address (AChannel channel peer) text until beyond Counts after
     unfolding requested
-    binds_after now held early =
+    binds_after until beyond Counts held early counts =
         let holds = held a (subst (λ (l : List Allocation). IsIn a l) (sym is_bound.may.only) (inl refl)) in
         let own = own_of a is_bound.may.only in
         let same = same_changed in
@@ -292,19 +292,22 @@ module _ (b : Beginning) (realm : List ℕ) (address : SocketAddr) (p : Protocol
           allocation = changed;
           only = only_after;
           occurs = same.visible_is ∙ holds.0;
-          later = subst (λ (n : ℕ). now < n) (sym same.expiry_is) holds.1;
+          later = subst (λ (n : ℕ). beyond < n) (sym same.expiry_is) holds.1;
           number = number;
           fits = number_small p number is_bound.is.is_next;
           lawful = is_bound.is.lawful;
           text = refl;
+          numbers = number ∷ [];
           awaits = beside (socket_ip peer) (asking pending a) awaits_alone;
+          others = λ n has apart. absurd (apart (only_one n number has));
           transaction = transaction;
           outstanding = there_after;
-          continues = lt-leb (end_at at p.agent.waits) now (omega (arith, ends, early));
+          continues = lt-leb (end_at at p.agent.waits) until (omega (arith, ends, early));
+          counts = counts;
         }
 
-    pub binds : (now : ℕ) → AreHeldBeyond now p.allocations → now < end_at at b.config.waits → HasRequested b realm address (AChannel channel peer) text now q
-    binds now held early = subst (λ (x : Protocol). HasRequested b realm address (AChannel channel peer) text now x) (sym (is_bound.is.after ∙ is_after)) (binds_after now held early)
+    pub binds : (until beyond : ℕ) (Counts : ℕ → Type 0) → AreHeldBeyond beyond p.allocations → until < end_at at b.config.waits → Counts p.resends → HasMadeRequest b realm address (AChannel channel peer) text until beyond Counts q
+    binds until beyond Counts held early counts = subst (λ (x : Protocol). HasMadeRequest b realm address (AChannel channel peer) text until beyond Counts x) (sym (is_bound.is.after ∙ is_after)) (binds_after until beyond Counts held early counts)
 
     -- Its transaction ID was free, so the request is a new one.
     free : is_some (finite.get p.agent.outstanding number) ≡ false

@@ -37,26 +37,26 @@ use Rattle.turn_client_proto_step_laws.specs.Peers.Permission.Granted.{permitted
 use Rattle.turn_client_proto_step_laws.proofs.Lists.{found_in}
 use Rattle.turn_client_proto_progress_laws.proofs.Asking.Tools.{where_false, where_true}
 use Rattle.turn_client_proto_handshake_laws.specs.Sent.{Beginning}
-use Rattle.turn_client_proto_progress_laws.specs.Asking.{AChannel, AwaitsChannel, HasRequested}
+use Rattle.turn_client_proto_progress_laws.specs.Asking.{AChannel, AwaitsChannel, HasMadeRequest}
 use Rattle.turn_client_proto_progress_laws.specs.Holding.{HoldsChannel, IsBoundTo, IsFrameOf, IsGrantOf}
 use Rattle.turn_client_proto_progress_laws.specs.Speaking.{standing_under}
 use Rattle.turn_client_proto_progress_laws.proofs.Asking.Granted.{after_like, answers}
 use Rattle.turn_client_proto_progress_laws.proofs.Asking.Lists.{found_last, none_found, one_changed, one_found}
 use Rattle.turn_client_proto_progress_laws.proofs.Asking.Moving.{own}
 
-module _ (number channel : ℕ) (peer : SocketAddr) where
+module _ (numbers : List ℕ) (number channel : ℕ) (peer : SocketAddr) where
   -- What the request with this transaction ID asks for.
-  asks_in : (a : Allocation) → AwaitsChannel number channel peer a → requested_of number a ≡ Some (NewChannel a.transport channel peer)
+  asks_in : (a : Allocation) → AwaitsChannel numbers number channel peer a → requested_of number a ≡ Some (NewChannel a.transport channel peer)
   unfolding requested_of
   asks_in a is =
       let one = none_found (is_refresh number) a.pending_refreshes is.no_refresh in
       let two = is.requested in
       rw (one, two) refl
 
-  awaits_in : (a : Allocation) → AwaitsChannel number channel peer a → awaits_reply number a ≡ true
+  awaits_in : (a : Allocation) → AwaitsChannel numbers number channel peer a → awaits_reply number a ≡ true
   awaits_in a is = ap is_some (asks_in a is)
 
-module _ (b : Beginning) (realm : List ℕ) (address : SocketAddr) (channel : ℕ) (peer : SocketAddr) (request : List ℕ) (now : ℕ) (p : Protocol) (h : HasRequested b realm address (AChannel channel peer) request now p) where
+module _ (b : Beginning) (realm : List ℕ) (address : SocketAddr) (channel : ℕ) (peer : SocketAddr) (request : List ℕ) (until beyond now : ℕ) (Counts : ℕ → Type 0) (p : Protocol) (h : HasMadeRequest b realm address (AChannel channel peer) request until beyond Counts p) where
   abbrev a : Allocation
   a = h.allocation
 
@@ -64,7 +64,7 @@ module _ (b : Beginning) (realm : List ℕ) (address : SocketAddr) (channel : �
   requested_here number same =
       ap (λ (n : ℕ). pending_request n p.allocations) same
       ∙ (ap (λ (l : List Allocation). pending_request h.number l) h.only
-      ∙ (ap (λ (o : Option Allocation). option_and_then (requested_of h.number) o) (one_found (awaits_reply h.number) a (awaits_in h.number channel peer a h.awaits)) ∙ asks_in h.number channel peer a h.awaits))
+      ∙ (ap (λ (o : Option Allocation). option_and_then (requested_of h.number) o) (one_found (awaits_reply h.number) a (awaits_in h.numbers h.number channel peer a h.awaits)) ∙ asks_in h.numbers h.number channel peer a h.awaits))
 
   module _ (reply : List ℕ) (shows : number_at request ≡ h.number) (claims : claimed request ≡ own_claim p.auth.anonymous_username (standing_under b h.speaks.signs.challenge)) (method : method_of (kind_at request) ≡ channel_bind_method)
       (g : IsGrantOf b realm request reply) where
@@ -112,16 +112,16 @@ module _ (b : Beginning) (realm : List ℕ) (address : SocketAddr) (channel : �
       pub transport : one.transport ≡ a.transport
       pub occurs : one.is_expired ≡ a.is_expired
       pub channels : one.channels ≡ a.channels
-      pub awaits : AwaitsChannel number channel peer one
+      pub awaits : AwaitsChannel h.numbers number channel peer one
 
-    own_awaits : AwaitsChannel number channel peer a
-    own_awaits = subst (λ (n : ℕ). AwaitsChannel n channel peer a) (sym numbered) h.awaits
+    own_awaits : AwaitsChannel h.numbers number channel peer a
+    own_awaits = subst (λ (n : ℕ). AwaitsChannel h.numbers n channel peer a) (sym numbered) h.awaits
 
     permitted_so : (o : Option IpAddr) → IsPermitted (permitted_with o number now p.allocations)
     permitted_so None = record { one = a; only = h.only; transport = refl; occurs = refl; channels = refl; awaits = own_awaits }
     permitted_so (Some x) = record {
       one = permitted x number now a;
-      only = ap (λ (l : List Allocation). change_first (awaits_reply number) (permitted x number now) l) h.only ∙ one_changed (awaits_reply number) (permitted x number now) a (awaits_in number channel peer a own_awaits);
+      only = ap (λ (l : List Allocation). change_first (awaits_reply number) (permitted x number now) l) h.only ∙ one_changed (awaits_reply number) (permitted x number now) a (awaits_in h.numbers number channel peer a own_awaits);
       transport = refl;
       occurs = refl;
       channels = refl;
@@ -131,9 +131,9 @@ module _ (b : Beginning) (realm : List ℕ) (address : SocketAddr) (channel : �
     bound_is : (s : (l : List Allocation) × IsPermitted l) → all_bound channel peer number now s.0 ≡ bound_in_one channel peer number now s.1.one ∷ []
     bound_is s =
         ap (λ (l : List Allocation). change_first (awaits_reply number) (bound_in_one channel peer number now) l) s.1.only
-        ∙ one_changed (awaits_reply number) (bound_in_one channel peer number now) s.1.one (awaits_in number channel peer s.1.one s.1.awaits)
+        ∙ one_changed (awaits_reply number) (bound_in_one channel peer number now) s.1.one (awaits_in h.numbers number channel peer s.1.one s.1.awaits)
 
-    is_bound : (x : Allocation) → AwaitsChannel number channel peer x → IsBoundTo channel peer (bound_in_one channel peer number now x)
+    is_bound : (x : Allocation) → AwaitsChannel h.numbers number channel peer x → IsBoundTo channel peer (bound_in_one channel peer number now x)
     is_bound x is = record {
       standing = granted_to channel peer now;
       first = found_last (is_numbered channel) x.channels (granted_to channel peer now) is.free (eq-eqb channel channel refl);
@@ -159,14 +159,14 @@ module _ (b : Beginning) (realm : List ℕ) (address : SocketAddr) (channel : �
           phase = h.phase;
           allocation = bound_in_one channel peer number now s.one;
           only = bound_is (permitted_with (ip client) number now p.allocations, s);
-          transport = s.transport ∙ (own b realm address (AChannel channel peer) request now p h).transport;
+          transport = s.transport ∙ (own b realm address (AChannel channel peer) request until beyond Counts p h).transport;
           occurs = s.occurs ∙ h.occurs;
           is = is_bound s.one s.awaits;
         })
 
     pub binds : (handled : Bool) (q : Protocol) → IsProcessed p reply now handled q → (handled ≡ true) × HoldsChannel b channel peer q
     binds handled q processed =
-        let r = answers b realm address (AChannel channel peer) request now p h reply shows claims g handled q processed in
+        let r = answers b realm address (AChannel channel peer) request until beyond now Counts p h reply shows claims g handled q processed in
         let done = bound_so r.client handled q (by_method r.client handled q r.answered) in
         (done.0, subst (λ (x : Protocol). HoldsChannel b channel peer x) (sym done.1) (holds_after r.client))
 

@@ -42,7 +42,7 @@ use Rattle.turn_client_proto_step_laws.specs.Recv.declared.handing.Taken.TheVari
 use Rattle.turn_client_proto_handshake_laws.specs.Coming.{HasCome, IsFromServer, IsProcessedAs, IsLost, IsPartOf}
 use Rattle.turn_client_proto_handshake_laws.specs.Stages.{IsOf}
 use Rattle.turn_client_proto_handshake_laws.specs.Sent.{Beginning}
-use Rattle.turn_client_proto_progress_laws.specs.Asking.{APermission, AChannel, Awaits, HasRequested, Wanted}
+use Rattle.turn_client_proto_progress_laws.specs.Asking.{APermission, AChannel, Awaits, HasMadeRequest, Wanted}
 use Rattle.turn_client_proto_progress_laws.specs.Holding.{HasHeld}
 use Rattle.turn_client_proto_progress_laws.specs.Speaking.{Speaks}
 use Rattle.turn_client_proto_progress_laws.proofs.Asking.Given.{no_payload_of, same_stored}
@@ -190,10 +190,10 @@ module _ (k : ClientState) (now : ℕ) (given : Option PeerPayload) (k2 : Client
 
 -- ---- what that leaves
 
-emptied_keeps : (number : ℕ) (wanted : Wanted) (a : Allocation) → Keeps number wanted a (emptied_in a)
-emptied_keeps number wanted a = record { transport = refl; address = refl; expiry = refl; visible = refl; awaits = awaits wanted }
+emptied_keeps : (numbers : List ℕ) (number : ℕ) (wanted : Wanted) (a : Allocation) → Keeps numbers number wanted a (emptied_in a)
+emptied_keeps numbers number wanted a = record { transport = refl; address = refl; expiry = refl; visible = refl; awaits = awaits wanted }
   where
-    awaits : (wanted : Wanted) → Awaits number wanted a → Awaits number wanted (emptied_in a)
+    awaits : (wanted : Wanted) → Awaits numbers number wanted a → Awaits numbers number wanted (emptied_in a)
     awaits (APermission ip) is = record { no_refresh = is.no_refresh; no_channel = is.no_channel; no_renewal = is.no_renewal; requested = is.requested }
     awaits (AChannel which peer) is = record { no_refresh = is.no_refresh; requested = is.requested; free = is.free }
 
@@ -203,16 +203,16 @@ taken_speaks b realm address k k2 is (Raw after control) = subst (λ (x : Protoc
     (speaks_with b realm address k.core is (record k.core { allocations = emptied k.core.allocations }) (own_agent b realm address k.core is) refl refl refl refl refl
     (most_changed b address is_any_raw emptied_in (λ a. record { transport = refl; address = refl }) k.core.allocations is.one))
 
-pub taken_asks : (b : Beginning) (realm : List ℕ) (address : SocketAddr) (wanted : Wanted) (request : List ℕ) (now : ℕ) (k k2 : ClientState) → HasRequested b realm address wanted request now k.core → IsTakenFrom k k2
-    → HasRequested b realm address wanted request now k2.core
-taken_asks b realm address wanted request now k k2 h (Nothing same) = subst (λ (x : ClientState). HasRequested b realm address wanted request now x.core) (sym same) h
-taken_asks b realm address wanted request now k k2 h (Raw after control) =
+pub taken_asks : (b : Beginning) (realm : List ℕ) (address : SocketAddr) (wanted : Wanted) (request : List ℕ) (until beyond : ℕ) (Counts : ℕ → Type 0) (k k2 : ClientState) → HasMadeRequest b realm address wanted request until beyond Counts k.core → IsTakenFrom k k2
+    → HasMadeRequest b realm address wanted request until beyond Counts k2.core
+taken_asks b realm address wanted request until beyond Counts k k2 h (Nothing same) = subst (λ (x : ClientState). HasMadeRequest b realm address wanted request until beyond Counts x.core) (sym same) h
+taken_asks b realm address wanted request until beyond Counts k k2 h (Raw after control) =
     let at : emptied k.core.allocations ≡ emptied (h.allocation ∷ []) = ap emptied h.only in
-    subst (λ (x : Protocol). HasRequested b realm address wanted request now x) (sym after) (elim (cases_Bool (is_any_raw h.allocation)) [
-      | inl raw ↦ requested_still b realm address wanted request now k.core h _ (record { server = refl; remote = refl; transport = refl; here = refl; waits = refl; allocates = refl; families = refl; auth = refl; phase = refl })
-          (emptied_in h.allocation) (at ∙ rw raw refl) (emptied_keeps h.number wanted h.allocation) h.transaction h.outstanding h.continues
-      | inr none ↦ requested_still b realm address wanted request now k.core h _ (record { server = refl; remote = refl; transport = refl; here = refl; waits = refl; allocates = refl; families = refl; auth = refl; phase = refl })
-          h.allocation (at ∙ rw none refl) (itself h.number wanted h.allocation) h.transaction h.outstanding h.continues
+    subst (λ (x : Protocol). HasMadeRequest b realm address wanted request until beyond Counts x) (sym after) (elim (cases_Bool (is_any_raw h.allocation)) [
+      | inl raw ↦ requested_still b realm address wanted request until beyond Counts k.core h _ (record { server = refl; remote = refl; transport = refl; here = refl; waits = refl; allocates = refl; families = refl; auth = refl; phase = refl }) refl
+          (emptied_in h.allocation) (at ∙ rw raw refl) (emptied_keeps h.numbers h.number wanted h.allocation) h.others h.transaction h.outstanding h.continues
+      | inr none ↦ requested_still b realm address wanted request until beyond Counts k.core h _ (record { server = refl; remote = refl; transport = refl; here = refl; waits = refl; allocates = refl; families = refl; auth = refl; phase = refl }) refl
+          h.allocation (at ∙ rw none refl) (itself h.numbers h.number wanted h.allocation) h.others h.transaction h.outstanding h.continues
     ])
 
 -- A statement on an allocation that does not concern connections still holds.

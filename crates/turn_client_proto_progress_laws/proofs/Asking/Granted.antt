@@ -55,13 +55,13 @@ use Rattle.turn_client_proto_messages.specs.Allocation.Same.{is_same_ip, is_same
 use Rattle.turn_client_proto_progress_laws.proofs.Asking.Tools.{no_challenge, successes_respond}
 use Rattle.turn_client_proto_progress_laws.proofs.Asking.Tools.{where_false, where_true}
 use Rattle.turn_client_proto_handshake_laws.specs.Sent.{Beginning}
-use Rattle.turn_client_proto_progress_laws.specs.Asking.{APermission, HasRequested, Wanted}
+use Rattle.turn_client_proto_progress_laws.specs.Asking.{APermission, HasMadeRequest, Wanted}
 use Rattle.turn_client_proto_progress_laws.specs.Holding.{HoldsPermission, IsGrantOf}
 use Rattle.turn_client_proto_progress_laws.specs.Speaking.{standing_under}
 use Rattle.turn_client_proto_progress_laws.proofs.Asking.Lists.{none_found, one_changed, one_found}
 use Rattle.turn_client_proto_progress_laws.proofs.Asking.Moving.{own}
 
-module _ (b : Beginning) (realm : List ℕ) (address : SocketAddr) (wanted : Wanted) (request : List ℕ) (now : ℕ) (p : Protocol) (h : HasRequested b realm address wanted request now p) where
+module _ (b : Beginning) (realm : List ℕ) (address : SocketAddr) (wanted : Wanted) (request : List ℕ) (until beyond now : ℕ) (Counts : ℕ → Type 0) (p : Protocol) (h : HasMadeRequest b realm address wanted request until beyond Counts p) where
   abbrev standing : auth.Standing
   standing = standing_under b h.speaks.signs.challenge
 
@@ -145,7 +145,7 @@ after_like agent bytes from = elim (cases_Bool (ends_one agent bytes)) [
   | inr not ↦ rw not (record { remote = refl; transport = refl; here = refl; waits = refl })
 ]
 
-module _ (b : Beginning) (realm : List ℕ) (address : SocketAddr) (ip : IpAddr) (request : List ℕ) (now : ℕ) (p : Protocol) (h : HasRequested b realm address (APermission ip) request now p) where
+module _ (b : Beginning) (realm : List ℕ) (address : SocketAddr) (ip : IpAddr) (request : List ℕ) (until beyond now : ℕ) (Counts : ℕ → Type 0) (p : Protocol) (h : HasMadeRequest b realm address (APermission ip) request until beyond Counts p) where
   abbrev a : Allocation
   a = h.allocation
 
@@ -217,14 +217,14 @@ module _ (b : Beginning) (realm : List ℕ) (address : SocketAddr) (ip : IpAddr)
       phase = h.phase;
       allocation = permitted ip (number_at reply) now a;
       only = permitted_is;
-      transport = (own b realm address (APermission ip) request now p h).transport;
+      transport = (own b realm address (APermission ip) request until beyond Counts p h).transport;
       occurs = h.occurs;
       is = permits_now;
     })
 
     pub holds : (handled : Bool) (q : Protocol) → IsProcessed p reply now handled q → (handled ≡ true) × HoldsPermission b ip q
     holds handled q processed =
-        let r = answers b realm address (APermission ip) request now p h reply shows claims g handled q processed in
+        let r = answers b realm address (APermission ip) request until beyond now Counts p h reply shows claims g handled q processed in
         let done = granted_so r.client handled q (by_method r.client handled q r.answered) in
         (done.0, subst (λ (x : Protocol). HoldsPermission b ip x) (sym done.1) (holds_after r.client))
 

@@ -1,7 +1,9 @@
 -- What is found in lists that change.
 use Rattle.std.proofs.Common.{◌≡◌, ℕ, zero, suc, Bool, true, false, ◌||◌, List, [], ◌∷◌, ◌++◌, map, Some, None, refl, sym, ap, ◌∙◌, inl, inr}
-use Rattle.std.proofs.lemmas.Bool.{cases_Bool}
+use Rattle.std.specs.Prelude.{◌==◌}
+use Rattle.std.proofs.lemmas.Bool.{cases_Bool, eqb-true}
 use Rattle.std.specs.List.{filter, find, list_any, remove}
+use Rattle.turn_client_proto_messages.specs.Allocation.Awaited.{has_number}
 use Rattle.turn_client_proto_messages.specs.Allocation.Changes.{change_first}
 use Rattle.turn_client_proto_messages.specs.TurnRuns.Members.{IsIn}
 use Rattle.turn_client_proto_step_laws.proofs.Lists.{any_passes, in_changed, in_either, in_filter, in_map, inside}
@@ -17,6 +19,13 @@ second_not false b is = is
 
 pub not_both : {A : Type 0} (b : Bool) → b ≡ true → b ≡ false → A
 not_both b t f = absurd (Prim.cc (sym t ∙ f))
+
+-- A list of one transaction ID has no other.
+pub only_one : (n number : ℕ) → has_number n (number ∷ []) ≡ true → n ≡ number
+only_one n number has = elim (cases_Bool (number == n)) [
+  | inl is ↦ sym (eqb-true number n is)
+  | inr not ↦ (let here : has_number n (number ∷ []) ≡ false = rw not refl in not_both (has_number n (number ∷ [])) has here)
+]
 
 module _ {X : Type 0} (q : X → Bool) where
   -- ---- none passes

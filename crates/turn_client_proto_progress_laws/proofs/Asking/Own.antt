@@ -24,7 +24,7 @@ use Rattle.turn_client_proto_handshake_laws.specs.Core.declared.protocol.Protoco
 use Rattle.turn_client_proto_handshake_laws.specs.Choosing.{Choice, signer_by}
 use Rattle.turn_client_proto_handshake_laws.specs.Stages.{Holds}
 use Rattle.turn_client_proto_handshake_laws.specs.Sent.{Beginning}
-use Rattle.turn_client_proto_progress_laws.specs.Asking.{APermission, AChannel, HasRequested, Wanted, request_for}
+use Rattle.turn_client_proto_progress_laws.specs.Asking.{APermission, AChannel, HasMadeRequest, Wanted, request_for}
 use Rattle.turn_client_proto_progress_laws.specs.Holding.{IsOwnRequest}
 use Rattle.turn_client_proto_progress_laws.specs.Speaking.{HasAtMost, HasBeenServed, Signs, Speaks, standing_under}
 
@@ -34,6 +34,8 @@ signs_so : (b : Beginning) (c : Choice) → HasShortTexts (signer_by b c) → Ha
 signs_so b c short read = record {
   account = refl;
   hides = refl;
+  algorithms = refl;
+  hardened = refl;
   challenge = record { realm = c.reported.realm; nonce = c.reported.nonce; offered = list_for_choice b.config.hardened c.reported; choice = c.algorithm };
   stored = refl;
   realm_is = refl;
@@ -75,7 +77,7 @@ pub record AreRead : Type 0 where
   pub number : (client : auth.Client) (request : TurnRequest) (number : ℕ) → HasShortTexts client → IsLawfulRequest request → number < 2 ^ 96 → number_at (request_text client request number) ≡ number
   pub kind : (client : auth.Client) (request : TurnRequest) (number : ℕ) → HasShortTexts client → IsLawfulRequest request → number < 2 ^ 96 → kind_at (request_text client request number) ≡ request_type request
 
-module _ (b : Beginning) (realm : List ℕ) (address : SocketAddr) (wanted : Wanted) (request : List ℕ) (now : ℕ) (p : Protocol) (h : HasRequested b realm address wanted request now p) where
+module _ (b : Beginning) (realm : List ℕ) (address : SocketAddr) (wanted : Wanted) (request : List ℕ) (until beyond : ℕ) (Counts : ℕ → Type 0) (p : Protocol) (h : HasMadeRequest b realm address wanted request until beyond Counts p) where
   abbrev standing : auth.Standing
   standing = standing_under b h.speaks.signs.challenge
 

@@ -93,6 +93,8 @@ module _ (b : Beginning) (realm message : List ℕ) (decodes : ReportsRealm real
       record {
         account = step.account ∙ is.account;
         hides = step.anonymous_username ∙ is.hides;
+        algorithms = step.algorithms ∙ is.algorithms;
+        hardened = step.hardened ∙ is.hardened;
         challenge = k.challenge;
         stored = k.stored;
         realm_is = k.realm_is;

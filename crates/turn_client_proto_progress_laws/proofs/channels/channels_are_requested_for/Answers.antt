@@ -1,6 +1,6 @@
 use Rattle.std.proofs.Common.{subst, sym}
 use Rattle.std.specs.Prelude.{List, ℕ}
-use Rattle.turn_client_proto_progress_laws.specs.Asking.{AChannel, HasRequested}
+use Rattle.turn_client_proto_progress_laws.specs.Asking.{AChannel, AnyCount, HasRequested}
 use Rattle.turn_client_proto_progress_laws.proofs.Asking.Binds.{bind_answered, bind_made, binds, bound, own_request}
 use Rattle.turn_client_proto_progress_laws.proofs.channels.channels_are_requested_for.Goals as goal
 
@@ -16,5 +16,5 @@ returns-clause-requested c = λ b realm address old new transport peer at now re
     let m = bound b realm address old is transport peer at new requested in (
       m.channel,
       subst (λ (r : List ℕ). HasRequested b realm address (AChannel m.channel peer) r now new) (sym (own_request b realm address old is transport peer at new m request one))
-          (binds b realm address old is transport peer at new m now held early),
+          (binds b realm address old is transport peer at new m now now AnyCount held early tt),
     )

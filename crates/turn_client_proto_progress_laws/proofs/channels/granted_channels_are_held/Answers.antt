@@ -1,4 +1,4 @@
-use Rattle.turn_client_proto_progress_laws.specs.Asking.{AChannel}
+use Rattle.turn_client_proto_progress_laws.specs.Asking.{AnyCount, AChannel}
 use Rattle.turn_client_proto_progress_laws.proofs.Asking.Bound.{binds, shows_it}
 use Rattle.turn_client_proto_progress_laws.proofs.Asking.Own.{AreRead, claims_own, shows_method, shows_number}
 use Rattle.turn_client_proto_progress_laws.proofs.channels.granted_channels_are_held.Goals as goal
@@ -12,8 +12,8 @@ read c = record {
 
 pub returns-clause-holds : goal.returns-clause-holds
 returns-clause-holds c = λ b realm address channel peer request reply now old new handled is grant processed.
-    binds b realm address channel peer request now old is reply (shows_number b realm address (AChannel channel peer) request now old is (read c))
-    (claims_own b realm address (AChannel channel peer) request now old is c.signed_requests_claim.ensures) (shows_method b realm address (AChannel channel peer) request now old is (read c)) grant handled new processed
+    binds b realm address channel peer request now now now AnyCount old is reply (shows_number b realm address (AChannel channel peer) request now now AnyCount old is (read c))
+    (claims_own b realm address (AChannel channel peer) request now now AnyCount old is c.signed_requests_claim.ensures) (shows_method b realm address (AChannel channel peer) request now now AnyCount old is (read c)) grant handled new processed
 
 pub returns-clause-visible : goal.returns-clause-visible
 returns-clause-visible c = λ b channel peer p is. shows_it b channel peer p is

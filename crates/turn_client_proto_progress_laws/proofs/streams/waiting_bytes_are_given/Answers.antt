@@ -1,3 +1,4 @@
+use Rattle.turn_client_proto_progress_laws.specs.Asking.{AnyCount}
 use Rattle.std.specs.Prelude.{◌≡◌, true}
 use Rattle.turn_client_proto_messages.specs.Allocation.Permits.{permits}
 use Rattle.turn_client_proto_progress_laws.specs.Holding.{IsBoundTo}
@@ -12,7 +13,7 @@ returns-clause-speaks c = λ b realm address old new now given before message is
 pub returns-clause-requested : goal.returns-clause-requested
 returns-clause-requested c = λ b realm address wanted request now at old new given before message is come part requested.
     let t = taken_from old at given new before (either_stored before message part) come requested in
-    (taken_asks b realm address wanted request now old new is t, taken_come old new before come t)
+    (taken_asks b realm address wanted request now now AnyCount old new is t, taken_come old new before come t)
 
 pub returns-clause-permission : goal.returns-clause-permission
 returns-clause-permission c = λ b ip old new now given before message is come part requested.

@@ -24,7 +24,7 @@ use Rattle.turn_desk_progress_laws.proofs.Clients.{draws, nothing_transmitted, s
 use Rattle.turn_desk_progress_laws.proofs.Indexes.{same_sent}
 use Rattle.turn_desk_progress_laws.proofs.Times.{order}
 use Rattle.turn_desk_laws.specs.ConnectionLoops.{Answered, Bind, Bound, Challenged, Clear, Connect, Held, IsQuiet, IsQuietFor, Known, MayDraw, Method, Off, Permission}
-use Rattle.turn_desk_laws.specs.ConnectionLoops.{Permitted, Queued, Reached, Target, Timing, Transmitted, Unpermitted, Waiting, after_draw, by_draw, transmitted_next}
+use Rattle.turn_desk_laws.specs.ConnectionLoops.{Permitted, Queued, Reached, Target, Timing, Transmitted, Unpermitted, Waiting, after_draw, timing_after_draw, transmitted_next}
 use Rattle.turn_desk_laws.specs.ConnectionPromises.{IsDrawAt, IsGivenInTime, from_of}
 use Rattle.turn_desk_laws.specs.ConnectionStages.{IsRequestMade, IsHeldFor, IsQueued, IsStage, IsTransmitted, earlier_of, holder_at, own_head, pending_for, permitted_at, queued_at, request_at, socket_head}
 use Rattle.turn_desk_laws.proofs.ConnectionTools.{counts_on, moves, never}
@@ -35,7 +35,7 @@ module _ (c : goal.After-transmitted_requests_are_signed) (plan : Plan) (old w v
   Stage reached u x = IsStage plan old target address lifetime since reached u x
 
   abbrev After : Reached → Type 0
-  After reached = Stage (after_draw reached ret) (by_draw now ret t) v × IsDrawAt plan old target reached t now ret
+  After reached = Stage (after_draw reached ret) (timing_after_draw now ret t) v × IsDrawAt plan old target reached t now ret
 
   -- ---- where a request is queued
 
@@ -55,7 +55,7 @@ module _ (c : goal.After-transmitted_requests_are_signed) (plan : Plan) (old w v
       early soon transmitted =
           let k = nothing_transmitted s.client.core core now ret
           (λ sent q is. c.holders_rest.ensures.rests h _ (earlier_of method request_made.older) _ _ t.sent s.events s.client.core q now sent request_made.is refl soon is) transmitted in
-          subst (λ (r : Answer). Stage (transmitted_next method r) (by_draw now r t) v × IsGivenInTime plan old target method t now r) (sym k.0) (
+          subst (λ (r : Answer). Stage (transmitted_next method r) (timing_after_draw now r t) v × IsGivenInTime plan old target method t now r) (sym k.0) (
             moves plan old w v target address lifetime since [] [] (λ h events p. IsQueued plan target method t h events p) (λ h events p. IsQueued plan target method t h events p) s same core there s.events
                 (subst (λ (p : Protocol). IsQueued plan target method t h s.events p) (sym k.1) s.client.is),
             record { due = λ late. never now (time_after t.sent cadence) soon late; early = λ _. refl },
@@ -88,7 +88,7 @@ module _ (c : goal.After-transmitted_requests_are_signed) (plan : Plan) (old w v
               request_is = same_sent (sent_of message) (sent_from h (from_of plan target method) (request_at target method h t n)) a.0;
             })
 
-        by_ret : (r : Answer) → IsTransmittedAs r s.client.core now core → Stage (transmitted_next method r) (by_draw now r t) v × IsGivenInTime plan old target method t now r
+        by_ret : (r : Answer) → IsTransmittedAs r s.client.core now core → Stage (transmitted_next method r) (timing_after_draw now r t) v × IsGivenInTime plan old target method t now r
         unfolding IsTransmittedAs
         by_ret (answer.Transmit message) is =
             let stage = transmits message is in
@@ -120,8 +120,8 @@ module _ (c : goal.After-transmitted_requests_are_signed) (plan : Plan) (old w v
       let k = nothing_transmitted p d.core now ret none d.transmitted in
       (k.0, same_world w v step.1 (d.there ∙ ap (λ (x : Protocol). Some (over (control_at plan.client.transport head) x)) k.1 ∙ sym at))
 
-  stays : (reached : Reached) → Stage reached t w → (r : Stays) → Stage reached (by_draw now ret t) v
-  stays reached s r = subst (λ (x : World). Stage reached (by_draw now ret t) x) (sym r.1) (subst (λ (a : Answer). Stage reached (by_draw now a t) w) (sym r.0) s)
+  stays : (reached : Reached) → Stage reached t w → (r : Stays) → Stage reached (timing_after_draw now ret t) v
+  stays reached s r = subst (λ (x : World). Stage reached (timing_after_draw now ret t) x) (sym r.1) (subst (λ (a : Answer). Stage reached (timing_after_draw now a t) w) (sym r.0) s)
 
   bare : (h : Holder) → h.lifetime ≡ lifetime → h.since ≡ since → now < refresh_due lifetime since → IsResting h [] now
   bare h long from quiet = record { before = (rw (long, from) quiet); standing = tt }

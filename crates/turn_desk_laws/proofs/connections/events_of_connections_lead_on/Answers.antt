@@ -16,7 +16,7 @@ use Rattle.turn_desk_progress_laws.specs.Scripts.{IsLook, Plan}
 use Rattle.turn_desk_progress_laws.proofs.Looping.{passes}
 use Rattle.turn_desk_laws.specs.ConnectionLoops.{Answered, AsksConnect, AsksPermission, Bind, Bound, Challenged, Challenges, Clear, Connect, Draws, GivesBind, GivesConnect, GivesPart, GivesPermission, Grants, Held, IsNext}
 use Rattle.turn_desk_laws.specs.ConnectionLoops.{Known, Leads, Looks, Method, Off, Opens, Permission, Permitted, Polls, Position, Queued, Reached, Receives, Target, Timing, Transmitted, TurnsAll, TurnsPart, Unpermitted, Waiting}
-use Rattle.turn_desk_laws.specs.ConnectionLoops.{after_draw, after_look, after_poll, called, challenged, by_draw, emptied, polled}
+use Rattle.turn_desk_laws.specs.ConnectionLoops.{after_draw, after_look, after_poll, called, challenged, timing_after_draw, emptied, polled}
 use Rattle.turn_desk_laws.specs.ConnectionPromises.{HasReached, IsGivenBy}
 use Rattle.turn_desk_laws.specs.ConnectionStages.{IsAtPosition, IsOfFamily, IsStage}
 use Rattle.turn_desk_laws.proofs.ConnectionTools.{itself}
@@ -96,7 +96,7 @@ module _ (target : Target) (address : SocketAddr) where
 
 -- ---- one event
 
-sooner_drawn : (t : Timing) (now : ℕ) (r : Answer) → t.oldest ≤ now → (by_draw now r t).oldest ≤ now
+sooner_drawn : (t : Timing) (now : ℕ) (r : Answer) → t.oldest ≤ now → (timing_after_draw now r t).oldest ≤ now
 sooner_drawn t now (answer.Transmit message) sooner = sooner
 sooner_drawn t now _ sooner = sooner
 

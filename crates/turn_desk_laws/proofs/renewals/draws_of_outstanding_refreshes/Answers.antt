@@ -80,31 +80,31 @@ module _ (c : goal.After-challenged_refreshes_wait) (plan : Plan) (choice : Choi
   abbrev Early : Type 0
   Early = (now < time_after sent cadence) ⊎ (time_after sent cadence ≤ now)
 
-  by_draw_of : (queued : Bool) → At queued many sent p → (ret : Answer) → IsTransmittedAs ret p now core → Due queued ⊎ None_due queued → Early → Drawn queued ret
+  position_after_draw : (queued : Bool) → At queued many sent p → (ret : Answer) → IsTransmittedAs ret p now core → Due queued ⊎ None_due queued → Early → Drawn queued ret
   unfolding IsTransmittedAs
-  by_draw_of queued w (answer.Transmit message) transmitted (inl due) early =
+  position_after_draw queued w (answer.Transmit message) transmitted (inl due) early =
       let s = c.challenged_refreshes_wait.ensures.again plan.client choice address t earlier number made (count_by queued many) sent (queue_by queued (refresh_queued plan.client choice number)) events p core now (Some (sent_of message)) w due transmitted in
       BySlot (sent_of message) (same_sent (sent_of message) request s.0) due (by_slot queued due s.1)
-  by_draw_of queued w answer.Nothing transmitted (inl due) early =
+  position_after_draw queued w answer.Nothing transmitted (inl due) early =
       absurd (Prim.cc (c.challenged_refreshes_wait.ensures.again plan.client choice address t earlier number made (count_by queued many) sent (queue_by queued (refresh_queued plan.client choice number)) events p core now None w due transmitted).0)
-  by_draw_of queued w (answer.Transmit message) transmitted (inr none) (inl early) =
+  position_after_draw queued w (answer.Transmit message) transmitted (inr none) (inl early) =
       absurd (Prim.cc (c.challenged_refreshes_wait.ensures.rests plan.client choice address t earlier number made (count_by queued many) sent (queue_by queued (refresh_queued plan.client choice number)) events p core now (Some (sent_of message)) w none
       (none_found queued plan choice number) early transmitted).0)
-  by_draw_of queued w answer.Nothing transmitted (inr none) (inl early) =
+  position_after_draw queued w answer.Nothing transmitted (inr none) (inl early) =
       let s = c.challenged_refreshes_wait.ensures.rests plan.client choice address t earlier number made (count_by queued many) sent (queue_by queued (refresh_queued plan.client choice number)) events p core now None w none
       (none_found queued plan choice number) early transmitted in
       Not refl none (inr early) (subst (λ (q : Protocol). At queued many sent q) (sym s.1) w)
-  by_draw_of true w (answer.Transmit message) transmitted (inr none) (inr late) =
+  position_after_draw true w (answer.Transmit message) transmitted (inr none) (inr late) =
       let s = c.challenged_refreshes_wait.ensures.sends plan.client choice address t earlier number made (many + 1) sent (refresh_queued plan.client choice number) [] events p core now (Some (sent_of message)) w none late transmitted in
       FromQueue (sent_of message) (same_sent (sent_of message) request s.0) refl late (by_queue none s.1)
-  by_draw_of true w answer.Nothing transmitted (inr none) (inr late) =
+  position_after_draw true w answer.Nothing transmitted (inr none) (inr late) =
       absurd (Prim.cc (c.challenged_refreshes_wait.ensures.sends plan.client choice address t earlier number made (many + 1) sent (refresh_queued plan.client choice number) [] events p core now None w none late transmitted).0)
-  by_draw_of false w (answer.Transmit message) transmitted (inr none) (inr late) =
+  position_after_draw false w (answer.Transmit message) transmitted (inr none) (inr late) =
       absurd (Prim.cc (c.challenged_refreshes_wait.ensures.still plan.client choice address t earlier number made many sent events p core now (Some (sent_of message)) w none transmitted).0)
-  by_draw_of false w answer.Nothing transmitted (inr none) (inr late) =
+  position_after_draw false w answer.Nothing transmitted (inr none) (inr late) =
       let s = c.challenged_refreshes_wait.ensures.still plan.client choice address t earlier number made many sent events p core now None w none transmitted in
       Not refl none (inl refl) (subst (λ (q : Protocol). At false many sent q) (sym s.1) w)
-  by_draw_of queued w _ transmitted due early = absurd transmitted
+  position_after_draw queued w _ transmitted due early = absurd transmitted
 
   -- ---- what it gives
 
@@ -164,7 +164,7 @@ module _ (c : goal.After-challenged_refreshes_wait) (plan : Plan) (old w v : Wor
         core = d.core;
         there = d.there;
         desk = d.desk;
-        does = by_draw_of c plan choice address t x.earlier number p.made p.many p.sent x.events x.client.core d.core now p.queued x.client.is ret d.transmitted
+        does = position_after_draw c plan choice address t x.earlier number p.made p.many p.sent x.events x.client.core d.core now p.queued x.client.is ret d.transmitted
             (c.refreshing_clients_wait.ensures.cases plan.client (refresh_requested plan.client choice number p.made) (count_by p.queued p.many) now) (order now (time_after p.sent cadence));
       }
 

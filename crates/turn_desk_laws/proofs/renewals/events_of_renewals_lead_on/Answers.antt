@@ -10,7 +10,7 @@ use Rattle.turn_desk_world_laws.specs.World.Model.{World}
 use Rattle.turn_desk_world_laws.specs.World.Runs.{IsStep}
 use Rattle.turn_desk_progress_laws.specs.Loops.{MayBegin}
 use Rattle.turn_desk_progress_laws.specs.Scripts.{Plan}
-use Rattle.turn_desk_laws.specs.RenewalLoops.{Challenged, Challenges, Draws, GivesChallenge, GivesSuccess, Grants, Holding, IsDrawAt, IsDrawBy, IsInTime, Looks, Polls, Receives, Refreshing, Renewal, RenewalPosition, Renewing, Renews, Turned, counted_draw, by_draw_of, turned_next}
+use Rattle.turn_desk_laws.specs.RenewalLoops.{Challenged, Challenges, Draws, GivesChallenge, GivesSuccess, Grants, Holding, IsDrawAt, IsDrawBy, IsInTime, Looks, Polls, Receives, Refreshing, Renewal, RenewalPosition, Renewing, Renews, Turned, counted_draw, position_after_draw, turned_next}
 use Rattle.turn_desk_laws.specs.RenewalStages.{IsAtRenewal, IsStageAt}
 use Rattle.turn_desk_laws.proofs.RenewalWorlds.{stage_on}
 use Rattle.turn_desk_laws.proofs.renewals.events_of_renewals_lead_on.Goals as goal
@@ -41,7 +41,7 @@ module _ (c : goal.After-late_challenges_are_taken) (plan : Plan) (old : World) 
     q = counted_draw plan now ret p
 
     abbrev Drawn : Renewal → Type 0
-    Drawn progress = IsStageAt plan old address secondly (by_draw_of plan now ret progress p).progress (by_draw_of plan now ret progress p) v × IsDrawAt plan old secondly progress p now ret
+    Drawn progress = IsStageAt plan old address secondly (position_after_draw plan now ret progress p).progress (position_after_draw plan now ret progress p) v × IsDrawAt plan old secondly progress p now ret
 
     -- A request stays outstanding.
     outstanding : (progress : Renewal) → p.progress ≡ progress → IsStageAt plan old address secondly progress q v → IsStageAt plan old address secondly q.progress q v
@@ -62,10 +62,10 @@ module _ (c : goal.After-late_challenges_are_taken) (plan : Plan) (old : World) 
         let s = c.draws_of_outstanding_refreshes.ensures.turned plan old w v address secondly p request reply now ret may (stage_at (Turned request reply) at) in_time.in_range step in
         (turned ret s.0, s.1)
       where
-        turned : (a : Answer) → IsStageAt plan old address secondly (turned_next request reply a) (counted_draw plan now a p) v → IsStageAt plan old address secondly (turned_next request reply a) (by_draw_of plan now a (Turned request reply) p) v
+        turned : (a : Answer) → IsStageAt plan old address secondly (turned_next request reply a) (counted_draw plan now a p) v → IsStageAt plan old address secondly (turned_next request reply a) (position_after_draw plan now a (Turned request reply) p) v
         turned a s = stage_on plan old address secondly (counted_draw plan now a p) (turned_next request reply a) (counted_draw plan now a p).last v (turned_next request reply a) s
 
-    drawn_on : After (by_draw_of plan now ret p.progress p) (Draw now)
+    drawn_on : After (position_after_draw plan now ret p.progress p) (Draw now)
     drawn_on = by_draw p.progress refl
 
   one : Renews plan p event ret next → IsStep event w ret v → After next event

@@ -21,14 +21,14 @@ use Rattle.turn_desk_progress_laws.specs.Scripts.{Plan}
 use Rattle.turn_desk_progress_laws.proofs.Clients.{draw_rests, draws, nothing_transmitted}
 use Rattle.turn_desk_progress_laws.proofs.Indexes.{same_sent, untold}
 use Rattle.turn_desk_progress_laws.proofs.Looping.{clash, itself}
-use Rattle.turn_desk_laws.specs.Unanswered.{HasSent, HasTimedOut, IsDrawAt, MayDraw, RequestState, Unmade, Outstanding, TimedOut, by_draw, sending_of}
+use Rattle.turn_desk_laws.specs.Unanswered.{HasSent, HasTimedOut, IsDrawAt, MayDraw, RequestState, Unmade, Outstanding, TimedOut, after_draw, sending_of}
 use Rattle.turn_desk_laws.specs.UnansweredStages.{IsAskingSo, IsNewSo, IsStageOf}
 use Rattle.turn_desk_laws.proofs.UnansweredStaying.{rests_so, sent_more, sent_same}
 use Rattle.turn_desk_laws.proofs.unanswered.unanswered_clients_ask_again.Goals as goal
 
 module _ (c : goal.After-ended_clients_rest) (plan : Plan) (w v : World) (reported : List TurnEvent) (t : Timing) (head : List ℕ) (now : ℕ) (early : now ≤ client_end) where
   abbrev After : RequestState → Answer → Type 0
-  After request ret = IsStageOf plan (reported ++ event_in ret) (by_draw request) (counted now ret t) head v × IsDrawAt plan request t now ret
+  After request ret = IsStageOf plan (reported ++ event_in ret) (after_draw request) (counted now ret t) head v × IsDrawAt plan request t now ret
 
   -- The first draw.
   module _ (room : HasRoom plan.client.config) (is : IsNewSo plan reported t head w) (first : now ≡ plan.client.made) where

@@ -7,16 +7,16 @@ use Rattle.std.specs.List.{flat_map, list_any}
 use Rattle.std.specs.Ordering.{is_eq, nat_cmp}
 use Rattle.std.specs.declared.net.socket_addr.SocketAddr.{SocketAddr}
 use Rattle.std.proofs.lemmas.Bool.{cases_Bool, eq-eqb, le-leb, lt-ltb}
-use Rattle.stun_types_base.specs.Times.{time_after}
-use Rattle.stun_types_base.specs.declared.transport.TransportType.{TransportType}
-use Rattle.turn_client_proto_api.specs.StunProtoAgent.State as agents
-use Rattle.turn_client_proto_api.specs.StunProtoAgent.declared.agent.StunAgentPollRet.{StunAgentPollRet}
-use Rattle.turn_client_proto_api.specs.StunProtoAgent.declared.agent.StunAgentPollRet.TheVariants.{TransactionCancelled, TransactionTimedOut, WaitUntil}
-use Rattle.turn_client_proto_api.specs.declared.answer.TurnPollRet.{TurnPollRet}
-use Rattle.turn_client_proto_api.specs.declared.answer.TurnPollRet.TheVariants as answer
-use Rattle.turn_client_proto_api.specs.declared.event.TurnEvent.{TurnEvent}
-use Rattle.turn_client_proto_api.specs.declared.event.TurnEvent.TheVariants.{AllocationCreateFailed, ChannelCreateFailed, PermissionCreateFailed, TcpConnectFailed}
-use Rattle.turn_client_proto_api.proofs.StunProtoTransaction.Leasts.{same_number}
+use Rattle.turn_client_proto_messages.specs.StunTypesBase.Times.{time_after}
+use Rattle.turn_client_proto_messages.specs.StunTypesBase.declared.transport.TransportType.{TransportType}
+use Rattle.turn_client_proto_messages.specs.StunProtoAgent.State as agents
+use Rattle.turn_client_proto_messages.specs.StunProtoAgent.declared.agent.StunAgentPollRet.{StunAgentPollRet}
+use Rattle.turn_client_proto_messages.specs.StunProtoAgent.declared.agent.StunAgentPollRet.TheVariants.{TransactionCancelled, TransactionTimedOut, WaitUntil}
+use Rattle.turn_client_proto_messages.specs.Api.declared.answer.TurnPollRet.{TurnPollRet}
+use Rattle.turn_client_proto_messages.specs.Api.declared.answer.TurnPollRet.TheVariants as answer
+use Rattle.turn_client_proto_messages.specs.Api.declared.event.TurnEvent.{TurnEvent}
+use Rattle.turn_client_proto_messages.specs.Api.declared.event.TurnEvent.TheVariants.{AllocationCreateFailed, ChannelCreateFailed, PermissionCreateFailed, TcpConnectFailed}
+use Rattle.turn_client_proto_messages.proofs.StunProtoTransaction.Leasts.{same_number}
 use Rattle.turn_client_proto_core.specs.Ending.{ended}
 use Rattle.turn_client_proto_core.specs.declared.protocol.Phase.{Phase}
 use Rattle.turn_client_proto_core.specs.declared.protocol.Phase.TheVariants.{Authenticated, Authenticating, Ended, InitialSent}
@@ -33,17 +33,17 @@ use Rattle.turn_client_proto_messages.specs.Waiting.{Queued, is_answer}
 use Rattle.turn_client_proto_step_laws.proofs.Lists.{any_passes}
 use Rattle.turn_client_proto_step_laws.specs.Held.{Allocation, Binding, Connecting, Connection, PendingChannel, PendingPermission, PendingRefresh}
 use Rattle.turn_client_proto_messages.specs.Allocation.declared.connection.Waiting.{Waiting}
-use Rattle.turn_client_proto_timers.specs.Connection.Attempts as attempts
-use Rattle.turn_client_proto_timers.specs.Connection.Expiring as joined
-use Rattle.turn_client_proto_timers.specs.Connection.Reported as connections
-use Rattle.turn_client_proto_timers.specs.Connection.Waiting.{unasked}
-use Rattle.turn_client_proto_timers.specs.Peers.Channel.Expiring as bindings
-use Rattle.turn_client_proto_timers.specs.Peers.Permission.Reporting as grants
-use Rattle.turn_client_proto_timers.specs.Polling.{Answers, AreAllocationsPolled, IsAgentPolled, IsClosing, IsPolled, IsPolledBy, IsPolledIn, IsPolledSent, after_asking, after_time, answer_of, ended_of, left, longest_pause, socket_for, wait_of, wait_to_send, waits_until}
-use Rattle.turn_client_proto_timers.specs.Reporting as reporting
-use Rattle.turn_desk_laws.specs.ScheduleEnds.{EndsAt, HasClosed, IsAttended, IsRefreshedAnew}
-use Rattle.turn_desk_laws.specs.Schedules.{Request, transaction_of}
-use Rattle.turn_desk_laws.proofs.SchedulePolls.{polled_parts}
+use Rattle.turn_client_proto_step_laws.specs.Connection.Attempts as attempts
+use Rattle.turn_client_proto_step_laws.specs.Connection.Expiring as joined
+use Rattle.turn_client_proto_step_laws.specs.Connection.Reported as connections
+use Rattle.turn_client_proto_step_laws.specs.Connection.Waiting.{unasked}
+use Rattle.turn_client_proto_step_laws.specs.Peers.Channel.Expiring as bindings
+use Rattle.turn_client_proto_step_laws.specs.Peers.Permission.Reporting as grants
+use Rattle.turn_client_proto_step_laws.specs.Timers.Polling.{Answers, AreAllocationsPolled, IsAgentPolled, IsClosing, IsPolled, IsPolledBy, IsPolledIn, IsPolledSent, after_asking, after_time, answer_of, ended_of, left, longest_pause, socket_for, wait_of, wait_to_send, waits_until}
+use Rattle.turn_client_proto_step_laws.specs.Timers.Reporting as reporting
+use Rattle.turn_client_proto_progress_laws.specs.ScheduleEnds.{EndsAt, HasClosed, IsAttended, IsRefreshedAnew}
+use Rattle.turn_client_proto_progress_laws.specs.Schedules.{Request, transaction_of}
+use Rattle.turn_client_proto_progress_laws.proofs.SchedulePolls.{polled_parts}
 
 -- ---- members of lists
 

@@ -1,16 +1,16 @@
 -- What becomes of what a request asked for, once the request was given up (RFC 8489, section 6.2.1; RFC 8656,
 -- sections 7.4, 8.2, 10.3 and 12.3; RFC 6062, section 4.3).
 use Rattle.std.specs.Prelude.{◌≡◌, ◌≢◌, ◌≤◌, ℕ, true, false, List, [], ◌++◌, map, None}
-use Rattle.turn_client_proto_api.specs.declared.answer.TurnPollRet.{TurnPollRet}
-use Rattle.turn_client_proto_api.specs.declared.answer.TurnPollRet.TheVariants as poll
-use Rattle.turn_client_proto_api.specs.declared.event.TurnEvent.TheVariants.{AllocationCreateFailed}
+use Rattle.turn_client_proto_messages.specs.Api.declared.answer.TurnPollRet.{TurnPollRet}
+use Rattle.turn_client_proto_messages.specs.Api.declared.answer.TurnPollRet.TheVariants as poll
+use Rattle.turn_client_proto_messages.specs.Api.declared.event.TurnEvent.TheVariants.{AllocationCreateFailed}
 use Rattle.turn_client_proto_core.specs.declared.protocol.Phase.TheVariants.{Authenticated, Ended}
 use Rattle.turn_client_proto_core.specs.declared.protocol.Protocol.{Protocol}
 use Rattle.turn_client_proto_messages.specs.Allocation.Refreshing.{renewal, wants_refresh}
 use Rattle.turn_client_proto_messages.specs.Allocation.declared.allocation.Allocation.{Allocation}
-use Rattle.turn_client_proto_timers.specs.Connection.Waiting.{unasked}
-use Rattle.turn_client_proto_timers.specs.Polling.{IsPolled}
-use Rattle.turn_desk_laws.specs.Schedules.{IsGone, IsOutstanding, Request}
+use Rattle.turn_client_proto_step_laws.specs.Connection.Waiting.{unasked}
+use Rattle.turn_client_proto_step_laws.specs.Timers.Polling.{IsPolled}
+use Rattle.turn_client_proto_progress_laws.specs.Schedules.{IsGone, IsOutstanding, Request}
 
 -- The request was outstanding, and this poll gave it up.
 pub record EndsAt (r : Request) (many now : ℕ) (old : Protocol) (ret : TurnPollRet) (new : Protocol) : Type 0 where

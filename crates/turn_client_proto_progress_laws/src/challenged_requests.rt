@@ -16,40 +16,37 @@ ghost use Rattle.turn_client_proto_messages.specs.StunProtoTransaction.Schedule.
 ghost use Rattle.turn_client_proto_handshake_laws.specs.Core.Receiving.{IsProcessed};
 ghost use Rattle.turn_client_proto_handshake_laws.specs.Core.declared.protocol.Protocol.{Protocol};
 ghost use Rattle.turn_client_proto_handshake_laws.specs.Sent.{Beginning};
-ghost use Rattle.turn_client_proto_progress_laws.specs.Asking.{AChannel, APermission, HasRequested, Wanted};
+ghost use Rattle.turn_client_proto_progress_laws.specs.Asking.{AChannel, APermission, AnyCount, HasMadeRequest, Wanted};
 ghost use Rattle.turn_client_proto_progress_laws.specs.Holding.{HoldsChannel, HoldsPermission, IsGrantOf};
 ghost use Rattle.turn_client_proto_progress_laws.specs.Holding.{IsOwnRequest};
-ghost use Rattle.turn_desk_laws.specs.RequestChallenges.{HasMadeRequest, IsChallengeTo, IsMadeAgain, MayAnswer};
+ghost use Rattle.turn_client_proto_progress_laws.specs.RequestChallenges.{IsChallengeTo, IsMadeAgain, MayAnswer};
 
 use turn_client_proto_messages::laws::{proof_requests_are_read, signed_requests_claim};
 
-/// A client that awaits the response to its request is challenged, and makes the request again.
+/// A client that awaits the response to its request (`HasMadeRequest`; so does one with a pending
+/// request, `HasRequested`) is challenged, and makes the request again.
 ///
-/// - `first`: A pending request (`HasRequested`) is one that may be challenged.
 /// - `again`: Let a challenge of the server's realm answer the request, which the client can answer
 ///   by some algorithm; and let it have answered at most eight in a row before it, or fewer by as
 ///   many as are to come (`MayAnswer`). Then the client makes another request for the same, with
-///   another transaction ID. It signs it under the challenge, queues it last, and awaits its
-///   response until `later`, by the schedule that begins now. So it may be challenged once more.
+///   another transaction ID. It signs it under the challenge and its nonce, queues it last, and
+///   awaits its response until `later`, by the schedule that begins now. So it may be challenged
+///   once more.
 /// - `own`: Each such request claims the client's own credentials, under a challenge of its server's
 ///   realm.
 pub fn challenged_requests_are_made_again()
-    ensures first { (b : Beginning) (realm : List ℕ) (address : SocketAddr) (wanted : Wanted)
-        (request : List ℕ) (until : ℕ) (p : Protocol)
-        → HasRequested b realm address wanted request until p
-        → HasMadeRequest b realm address wanted request until until p }
     ensures again { (b : Beginning) (realm : List ℕ) (address : SocketAddr) (wanted : Wanted)
         (request : List ℕ) (until beyond now later times : ℕ) (old new : Protocol)
         (message : List ℕ) (reported : ChallengeFields) (handled : Bool)
-        → HasMadeRequest b realm address wanted request until beyond old
+        → HasMadeRequest b realm address wanted request until beyond AnyCount old
         → IsChallengeTo realm request reported message
         → MayAnswer reported (times + 1) old
         → later < end_at now b.config.waits
         → IsProcessed old message now handled new
-        → IsMadeAgain b realm address wanted request later beyond old new }
+        → IsMadeAgain b realm address wanted request reported later beyond old new }
     ensures own { (b : Beginning) (realm : List ℕ) (address : SocketAddr) (wanted : Wanted)
         (request : List ℕ) (until beyond : ℕ) (p : Protocol)
-        → HasMadeRequest b realm address wanted request until beyond p
+        → HasMadeRequest b realm address wanted request until beyond AnyCount p
         → IsOwnRequest b realm wanted request }
 {
     proof_requests_are_read();
@@ -62,14 +59,14 @@ pub fn challenged_requests_are_made_again()
 pub fn requests_made_again_are_held()
     ensures permission { (b : Beginning) (realm : List ℕ) (address : SocketAddr) (ip : IpAddr)
         (request reply : List ℕ) (until beyond now : ℕ) (old new : Protocol) (handled : Bool)
-        → HasMadeRequest b realm address (APermission ip) request until beyond old
+        → HasMadeRequest b realm address (APermission ip) request until beyond AnyCount old
         → IsGrantOf b realm request reply
         → IsProcessed old reply now handled new
         → (handled ≡ true) × HoldsPermission b ip new }
     ensures channel { (b : Beginning) (realm : List ℕ) (address : SocketAddr) (channel : ℕ)
         (peer : SocketAddr) (request reply : List ℕ) (until beyond now : ℕ) (old new : Protocol)
         (handled : Bool)
-        → HasMadeRequest b realm address (AChannel channel peer) request until beyond old
+        → HasMadeRequest b realm address (AChannel channel peer) request until beyond AnyCount old
         → IsGrantOf b realm request reply
         → IsProcessed old reply now handled new
         → (handled ≡ true) × HoldsChannel b channel peer new }

@@ -5,15 +5,15 @@ use Rattle.std.specs.Prelude.{Option, None, Some}
 use Rattle.std.specs.FinMap as map
 use Rattle.std.specs.List.{list_any}
 use Rattle.std.specs.declared.net.socket_addr.SocketAddr.{SocketAddr}
-use Rattle.turn_client_proto_api.specs.Sent.{Sent}
-use Rattle.turn_client_proto_api.specs.StunProtoAgent.Numbers.{ShowsNumbers}
-use Rattle.turn_client_proto_api.specs.StunProtoAgent.State.{is_tcp}
-use Rattle.turn_client_proto_api.specs.StunProtoTransaction.Agents.{Transaction, is_ended}
-use Rattle.turn_client_proto_api.specs.StunProtoTransaction.Schedule.{Waits, end_at, slot_at, transmissions}
-use Rattle.turn_client_proto_api.specs.StunProtoTransaction.declared.transaction.Cancelled.TheVariants.{Nothing}
-use Rattle.turn_client_proto_api.specs.StunTypesWire.Grammar.{number_at}
-use Rattle.turn_client_proto_api.specs.declared.answer.TurnPollRet.{TurnPollRet}
-use Rattle.turn_client_proto_api.specs.declared.answer.TurnPollRet.TheVariants as poll
+use Rattle.turn_client_proto_messages.specs.Api.Sent.{Sent}
+use Rattle.turn_client_proto_messages.specs.StunProtoAgent.Numbers.{ShowsNumbers}
+use Rattle.turn_client_proto_messages.specs.StunProtoAgent.State.{is_tcp}
+use Rattle.turn_client_proto_messages.specs.StunProtoTransaction.Agents.{Transaction, is_ended}
+use Rattle.turn_client_proto_messages.specs.StunProtoTransaction.Schedule.{Waits, end_at, slot_at, transmissions}
+use Rattle.turn_client_proto_messages.specs.StunProtoTransaction.declared.transaction.Cancelled.TheVariants.{Nothing}
+use Rattle.turn_client_proto_messages.specs.StunTypesWire.Grammar.{number_at}
+use Rattle.turn_client_proto_messages.specs.Api.declared.answer.TurnPollRet.{TurnPollRet}
+use Rattle.turn_client_proto_messages.specs.Api.declared.answer.TurnPollRet.TheVariants as poll
 use Rattle.turn_client_proto_core.specs.declared.protocol.Protocol.{Protocol}
 use Rattle.turn_client_proto_handshake_laws.specs.Driving.{Call, Draws, DrawFails, Polls, Takes, Looks, IsCalled}
 use Rattle.turn_client_proto_messages.specs.ShortTexts.{HasShortTexts}

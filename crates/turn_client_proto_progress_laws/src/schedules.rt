@@ -3,26 +3,26 @@
 //! alone. The functions do nothing; each contract is a theorem.
 
 ghost use Rattle.std.specs.Prelude.{◌≡◌, ◌≢◌, ◌⊎◌, ◌≤◌, ◌<◌, ◌++◌, ℕ, List, [], Option, None, Some};
-ghost use Rattle.turn_client_proto_api.specs.Sent.{Sent};
-ghost use Rattle.turn_client_proto_api.specs.declared.answer.TurnPollRet.{TurnPollRet};
-ghost use Rattle.turn_client_proto_api.specs.declared.answer.TurnPollRet.TheVariants.{NoMemory};
+ghost use Rattle.turn_client_proto_messages.specs.Api.Sent.{Sent};
+ghost use Rattle.turn_client_proto_messages.specs.Api.declared.answer.TurnPollRet.{TurnPollRet};
+ghost use Rattle.turn_client_proto_messages.specs.Api.declared.answer.TurnPollRet.TheVariants.{NoMemory};
 ghost use Rattle.turn_client_proto_core.specs.declared.protocol.Protocol.{Protocol};
 ghost use Rattle.turn_client_proto_handshake_laws.specs.Driving.{Call};
-ghost use Rattle.turn_client_proto_api.specs.declared.event.TurnEvent.TheVariants.{ChannelCreateFailed};
-ghost use Rattle.turn_client_proto_api.specs.declared.event.TurnEvent.TheVariants.{PermissionCreateFailed};
-ghost use Rattle.turn_client_proto_api.specs.declared.event.TurnEvent.TheVariants.{TcpConnectFailed};
+ghost use Rattle.turn_client_proto_messages.specs.Api.declared.event.TurnEvent.TheVariants.{ChannelCreateFailed};
+ghost use Rattle.turn_client_proto_messages.specs.Api.declared.event.TurnEvent.TheVariants.{PermissionCreateFailed};
+ghost use Rattle.turn_client_proto_messages.specs.Api.declared.event.TurnEvent.TheVariants.{TcpConnectFailed};
 ghost use Rattle.turn_client_proto_core.specs.declared.protocol.Phase.TheVariants.{Authenticating};
 ghost use Rattle.turn_client_proto_core.specs.declared.protocol.Phase.TheVariants.{InitialSent};
 ghost use Rattle.turn_client_proto_messages.specs.TurnRuns.Members.{IsIn};
 ghost use Rattle.turn_client_proto_step_laws.specs.Held.{Allocation, Binding, Connecting, Connection};
 ghost use Rattle.turn_client_proto_step_laws.specs.Held.{PendingChannel, PendingPermission};
 ghost use Rattle.turn_client_proto_step_laws.specs.Held.{PendingRefresh};
-ghost use Rattle.turn_client_proto_timers.specs.Drawing.{IsTransmitted};
-ghost use Rattle.turn_client_proto_timers.specs.Polling.{IsPolled};
-ghost use Rattle.turn_desk_laws.specs.ScheduleEnds.{EndsAt, HasClosed, IsAttended, IsRefreshedAnew};
-ghost use Rattle.turn_desk_laws.specs.Schedules.{AreCalled, IsDrawOf, IsGivenUp, IsInOrder};
-ghost use Rattle.turn_desk_laws.specs.Schedules.{IsLeft, IsNoneDue, IsOutstanding, IsStillAwaited};
-ghost use Rattle.turn_desk_laws.specs.Schedules.{IsTraced, Request};
+ghost use Rattle.turn_client_proto_step_laws.specs.Timers.Drawing.{IsTransmitted};
+ghost use Rattle.turn_client_proto_step_laws.specs.Timers.Polling.{IsPolled};
+ghost use Rattle.turn_client_proto_progress_laws.specs.ScheduleEnds.{EndsAt, HasClosed, IsAttended, IsRefreshedAnew};
+ghost use Rattle.turn_client_proto_progress_laws.specs.Schedules.{AreCalled, IsDrawOf, IsGivenUp, IsInOrder};
+ghost use Rattle.turn_client_proto_progress_laws.specs.Schedules.{IsLeft, IsNoneDue, IsOutstanding, IsStillAwaited};
+ghost use Rattle.turn_client_proto_progress_laws.specs.Schedules.{IsTraced, Request};
 
 use turn_client_proto_messages::laws::proof_requests_are_read;
 

@@ -16,10 +16,11 @@ use Rattle.turn_client_proto_messages.specs.StunTypesWire.Types.{class_of, is_re
 use Rattle.turn_client_proto_messages.specs.StunTypesWire.declared.algorithm.IntegrityAlgorithm.{IntegrityAlgorithm}
 use Rattle.turn_client_proto_messages.specs.StunTypesWire.declared.class.MessageClass.{MessageClass}
 use Rattle.turn_client_proto_messages.specs.StunTypesWire.declared.class.MessageClass.TheVariants as class
+use Rattle.turn_client_proto_messages.specs.StunProtoAuth.Claims.{Claimed, claimed}
 use Rattle.turn_client_proto_messages.specs.StunProtoClient.Challenges.{ChallengeFields, challenge_visible, is_anonymous_enough, is_listed_enough, list_for_choice}
 use Rattle.turn_client_proto_messages.specs.StunProtoClient.Choice.{is_common}
 use Rattle.turn_client_proto_messages.specs.StunProtoClient.Client as auth
-use Rattle.turn_client_proto_messages.specs.StunProtoClient.ClientValidation.{IsAnswerable, IsUnanswerable}
+use Rattle.turn_client_proto_messages.specs.StunProtoClient.ClientValidation.{IsAnswerable, IsTaken, IsUnanswerable, keeping}
 use Rattle.turn_client_proto_messages.specs.StunProtoClient.declared.error.LongTermClientAuthError.{LongTermClientAuthError}
 use Rattle.turn_client_proto_messages.specs.StunProtoClient.declared.error.LongTermClientAuthError.TheVariants.{Unauthorized, IntegrityFailed, UnsupportedFeature, NoMemory}
 use Rattle.turn_client_proto_messages.specs.StunProtoClient.declared.validation.LongTermClientValidation.{LongTermClientValidation}
@@ -60,14 +61,15 @@ use Rattle.turn_client_proto_handshake_laws.specs.Core.declared.protocol.Phase.{
 use Rattle.turn_client_proto_handshake_laws.specs.Core.declared.protocol.Phase.TheVariants.{Authenticated}
 use Rattle.turn_client_proto_handshake_laws.specs.Core.declared.protocol.Protocol.{Protocol}
 use Rattle.turn_client_proto_handshake_laws.specs.Sent.{Beginning}
-use Rattle.turn_client_proto_progress_laws.specs.Asking.{APermission, AChannel, NonePasses, Wanted, request_for}
+use Rattle.turn_client_proto_progress_laws.specs.Asking.{APermission, AChannel, Awaits, AwaitsChannel, HasMadeRequest, IsMade, NonePasses, Wanted, request_for}
 use Rattle.turn_client_proto_progress_laws.specs.Speaking.{ReportsRealm, Signs, Speaks}
 use Rattle.turn_client_proto_progress_laws.proofs.Asking.Lists.{first_not, second_not, none_found, none_of_any, not_both, one_changed, one_found}
 use Rattle.turn_client_proto_progress_laws.proofs.Asking.Moving.{beside_put}
+use Rattle.turn_client_proto_progress_laws.proofs.Asking.Own.{DoClaim, claims_own}
 use Rattle.turn_client_proto_progress_laws.proofs.Asking.Processing.{judged_signs, processed_speaks}
 use Rattle.turn_client_proto_progress_laws.proofs.Asking.Tools.{Table, put_there, stays_there, where_false, where_true}
 use Rattle.turn_client_proto_progress_laws.proofs.TcpBinding.Tools.{challenges_respond, clash}
-use Rattle.turn_desk_laws.specs.RequestChallenges.{AwaitsBy, AwaitsChannelBy, AwaitsPermissionBy, HasMadeRequest, HasNoneBut, IsChallengeTo, IsMadeAgain, MayAnswer}
+use Rattle.turn_client_proto_progress_laws.specs.RequestChallenges.{Counted, IsChallengeTo, IsMadeAgain, MayAnswer}
 
 -- ---- tools
 
@@ -124,7 +126,7 @@ had_before n last (x ∷ numbers) other has = elim (cases_Bool (x == n)) [
 ]
 
 -- A response is no indication.
-no_indication : (c : MessageClass) → is_response_class c ≡ true → is_indication c ≡ false
+pub no_indication : (c : MessageClass) → is_response_class c ≡ true → is_indication c ≡ false
 no_indication class.Request responds = absurd (Prim.cc responds)
 no_indication class.Indication responds = absurd (Prim.cc responds)
 no_indication class.Success responds = refl
@@ -146,7 +148,7 @@ same_request : (wanted : Wanted) (transport : TransportType) → request_again (
 same_request (APermission ip) transport = refl
 same_request (AChannel channel peer) transport = refl
 
-asks_of : (wanted : Wanted) (numbers : List ℕ) (number : ℕ) (a : Allocation) → AwaitsBy numbers number wanted a → requested_of number a ≡ Some (what_of wanted a.transport)
+asks_of : (wanted : Wanted) (numbers : List ℕ) (number : ℕ) (a : Allocation) → Awaits numbers number wanted a → requested_of number a ≡ Some (what_of wanted a.transport)
 unfolding requested_of
 asks_of (APermission ip) numbers number a is =
     let one = none_found (is_refresh number) a.pending_refreshes is.no_refresh in
@@ -186,16 +188,16 @@ module _ (old number : ℕ) (a : Allocation) (unawaited : awaits_number number a
   record IsReissued (numbers : List ℕ) (wanted : Wanted) (after : Allocation) : Type 0 where
     occurs : after.is_expired ≡ a.is_expired
     expiry : after.expiry ≡ a.expiry
-    awaits : AwaitsBy numbers number wanted after
+    awaits : Awaits numbers number wanted after
 
-  too_awaits : (numbers : List ℕ) (channel : ℕ) (peer : SocketAddr) (x : Allocation) → x.is_expired ≡ a.is_expired → x.expiry ≡ a.expiry → AwaitsChannelBy numbers number channel peer x → IsReissued numbers (AChannel channel peer) (permission_too old number x)
+  too_awaits : (numbers : List ℕ) (channel : ℕ) (peer : SocketAddr) (x : Allocation) → x.is_expired ≡ a.is_expired → x.expiry ≡ a.expiry → AwaitsChannel numbers number channel peer x → IsReissued numbers (AChannel channel peer) (permission_too old number x)
   unfolding permission_too
   too_awaits numbers channel peer x occurs expiry is = elim (cases_Bool (list_any (asks_for_permission old) x.pending_permissions)) [
     | inl asks ↦ rw asks (record { occurs = occurs; expiry = expiry; awaits = record { no_refresh = is.no_refresh; requested = is.requested; free = is.free } })
     | inr none ↦ rw none (record { occurs = occurs; expiry = expiry; awaits = record { no_refresh = is.no_refresh; requested = is.requested; free = is.free } })
   ]
 
-  reissued : (wanted : Wanted) (numbers : List ℕ) → AwaitsBy numbers old wanted a → IsReissued (numbers ++ number ∷ []) wanted (reissued_under (what_of wanted a.transport) old number a)
+  reissued : (wanted : Wanted) (numbers : List ℕ) → Awaits numbers old wanted a → IsReissued (numbers ++ number ∷ []) wanted (reissued_under (what_of wanted a.transport) old number a)
   reissued (APermission ip) numbers is =
       let f = are_free in
       record {
@@ -218,7 +220,7 @@ module _ (old number : ℕ) (a : Allocation) (unawaited : awaits_number number a
 
 -- ---- the challenge is answered
 
-module _ (b : Beginning) (realm : List ℕ) (address : SocketAddr) (wanted : Wanted) (request : List ℕ) (until beyond : ℕ) (p : Protocol) (h : HasMadeRequest b realm address wanted request until beyond p) (message : List ℕ) (reported : ChallengeFields) (is : IsChallengeTo realm request reported message)
+module _ (b : Beginning) (realm : List ℕ) (address : SocketAddr) (wanted : Wanted) (request : List ℕ) (until beyond : ℕ) (Counts : ℕ → Type 0) (p : Protocol) (h : HasMadeRequest b realm address wanted request until beyond Counts p) (claim : DoClaim) (message : List ℕ) (reported : ChallengeFields) (is : IsChallengeTo realm request reported message)
     (times : ℕ) (may : MayAnswer reported (times + 1) p) (now later : ℕ) (early : later < end_at now b.config.waits) where
   abbrev a : Allocation
   a = h.allocation
@@ -238,8 +240,8 @@ module _ (b : Beginning) (realm : List ℕ) (address : SocketAddr) (wanted : Wan
   responds : is_response message ≡ true
   responds = challenges_respond message reported is.visible
 
-  own_awaits : AwaitsBy h.numbers (number_at message) wanted a
-  own_awaits = subst (λ (n : ℕ). AwaitsBy h.numbers n wanted a) (sym old_number) h.awaits
+  own_awaits : Awaits h.numbers (number_at message) wanted a
+  own_awaits = subst (λ (n : ℕ). Awaits h.numbers n wanted a) (sym old_number) h.awaits
 
   asks_it : requested_of (number_at message) a ≡ Some what
   asks_it = asks_of wanted h.numbers (number_at message) a own_awaits
@@ -254,7 +256,7 @@ module _ (b : Beginning) (realm : List ℕ) (address : SocketAddr) (wanted : Wan
 
   -- ---- the client then
 
-  module _ (client : auth.Client) (signs : Signs b realm client) (number : ℕ) (next : IsNextNumber (judged client p) number) (lawful : IsLawfulRequest (request_again what)) where
+  module _ (client : auth.Client) (signs : Signs b realm client) (nonce_so : (x : auth.Challenge) → client.challenge ≡ Some x → x.nonce ≡ reported.nonce) (number : ℕ) (next : IsNextNumber (judged client p) number) (lawful : IsLawfulRequest (request_again what)) where
     abbrev k : Protocol
     k = judged client p
 
@@ -358,7 +360,7 @@ module _ (b : Beginning) (realm : List ℕ) (address : SocketAddr) (wanted : Wan
     unfolding challenged asks_again requested
     after_resends = refl
 
-    asks_after : Speaks b realm address after → HasMadeRequest b realm address wanted text later beyond after
+    asks_after : Speaks b realm address after → HasMadeRequest b realm address wanted text later beyond (Counted (p.resends + 1)) after
     asks_after speaks =
         let r = reissued (number_at message) number a unawaited wanted h.numbers own_awaits in
         let ends_then : end_at now p.agent.waits ≡ end_at now b.config.waits = ap (λ w. end_at now w) h.speaks.settings.waits in
@@ -379,16 +381,40 @@ module _ (b : Beginning) (realm : List ℕ) (address : SocketAddr) (wanted : Wan
           transaction = transaction;
           outstanding = ap (λ (x : agents.Agent). finite.get x.outstanding number) after_agent ∙ there;
           continues = lt-leb (end_at now p.agent.waits) later (omega (arith, ends_then, early));
+          counts = after_resends;
         }
 
-    made_again : (q : Protocol) → q ≡ after → Speaks b realm address q → IsMadeAgain b realm address wanted request later beyond p q
-    made_again q same speaks = subst (λ (x : Protocol). IsMadeAgain b realm address wanted request later beyond p x) (sym same) (record {
+    none_there : (o : Option Transaction) → finite.get p.agent.outstanding number ≡ o → o ≡ None
+    none_there None at_it = refl
+    none_there (Some t) at_it = absurd (Prim.cc (sym (ap is_some at_it) ∙ free))
+
+    is_made : IsMade p after text
+    is_made = record {
+      number = number;
+      transaction = transaction;
+      there = ap (λ (x : agents.Agent). finite.get x.outstanding number) after_agent ∙ there;
+      none = none_there (finite.get p.agent.outstanding number) refl;
+      bytes = refl;
+    }
+
+    -- It is under the nonce of the challenge.
+    nonce_is : Speaks b realm address after → (claimed text).nonce ≡ Some reported.nonce
+    nonce_is speaks =
+        let asks = asks_after speaks in
+        let claims = claims_own b realm address wanted text later beyond (Counted (p.resends + 1)) after asks claim in
+        ap (λ (x : Claimed). x.nonce) claims
+        ∙ ap Some (nonce_so asks.speaks.signs.challenge (sym (ap (λ (x : auth.Client). x.challenge) after_auth) ∙ asks.speaks.signs.stored))
+
+    made_again : (q : Protocol) → q ≡ after → Speaks b realm address q → IsMadeAgain b realm address wanted request reported later beyond p q
+    made_again q same speaks = (let here = subst (λ (x : Protocol). Speaks b realm address x) same speaks in subst (λ (x : Protocol). IsMadeAgain b realm address wanted request reported later beyond p x) (sym same) (record {
       request = text;
-      asks = asks_after (subst (λ (x : Protocol). Speaks b realm address x) same speaks);
+      asks = asks_after here;
+      made = is_made;
       other = λ same_number. other_number (sym shows ∙ same_number ∙ sym is.number);
+      nonce = nonce_is here;
       queue_is = after_queue ∙ ap (λ (x : SocketAddr). p.queue ++ queued_request x text ∷ []) h.speaks.settings.here;
       resends_is = after_resends;
-    })
+    }))
 
   -- ---- by the verdict
 
@@ -397,22 +423,33 @@ module _ (b : Beginning) (realm : List ℕ) (address : SocketAddr) (wanted : Wan
 
   module _ (q : Protocol) (speaks : Speaks b realm address q) where
     abbrev Again : Type 0
-    Again = IsMadeAgain b realm address wanted request later beyond p q
+    Again = IsMadeAgain b realm address wanted request reported later beyond p q
 
-    sent_again : (client : auth.Client) → Signs b realm client → (handled : Bool) → IsSentAgain what (judged client p) message now handled q → Again
-    sent_again client signs handled s = made_again client signs s.number s.is_next s.lawful q s.outcome.1 speaks
+    abbrev ShowsNonce : auth.Client → Type 0
+    ShowsNonce client = (x : auth.Challenge) → client.challenge ≡ Some x → x.nonce ≡ reported.nonce
 
-    rechallenged : (client : auth.Client) → Signs b realm client → (handled : Bool) → IsRechallenged (judged client p) message now handled q → Again
-    rechallenged client signs handled r =
+    sent_again : (client : auth.Client) → Signs b realm client → ShowsNonce client → (handled : Bool) → IsSentAgain what (judged client p) message now handled q → Again
+    sent_again client signs nonce_so handled s = made_again client signs nonce_so s.number s.is_next s.lawful q s.outcome.1 speaks
+
+    rechallenged : (client : auth.Client) → Signs b realm client → ShowsNonce client → (handled : Bool) → IsRechallenged (judged client p) message now handled q → Again
+    rechallenged client signs nonce_so handled r =
         let on = where_false _ _ (is_tired (judged client p)) (not_tired client) r in
         let own = where_true _ _ (is_awaited p.agent message) awaited on in
-        sent_again client signs handled (subst (λ (o : Option PendingRequest). IsRequestedAgain o (judged client p) message now handled q) requested_here own)
+        sent_again client signs nonce_so handled (subst (λ (o : Option PendingRequest). IsRequestedAgain o (judged client p) message now handled q) requested_here own)
+
+    -- The challenge is the one that it stores.
+    stores : (choice : IntegrityAlgorithm) (client : auth.Client) → IsTaken p.auth message (ResendRequest choice) client → ShowsNonce client
+    stores choice client j x there =
+        let own : j.reported ≡ reported = Prim.cc (sym j.visible ∙ is.visible) in
+        let kept : client.challenge ≡ (keeping p.auth j.reported choice).challenge = ap (λ (y : auth.Client). y.challenge) j.stored in
+        let same : x ≡ record { realm = j.reported.realm; nonce = j.reported.nonce; offered = list_for_choice p.auth.hardened j.reported; choice = choice } = Prim.cc (sym there ∙ kept) in
+        ap (λ (y : auth.Challenge). y.nonce) same ∙ ap (λ (t : ChallengeFields). t.nonce) own
 
     none_decoded : {A : Type 0} → challenge_visible message ≡ None → A
     none_decoded none = absurd (Prim.cc (sym is.visible ∙ none))
 
     by_verdict : (verdict : Result LongTermClientValidation LongTermClientAuthError) (client : auth.Client) (handled : Bool) → IsJudged p.auth message verdict client → IsJudgedStanding verdict (judged client p) message now handled q → Again
-    by_verdict (Ok (ResendRequest choice)) client handled j out = rechallenged client (judged_signs b realm message decodes p.auth client h.speaks.signs (Ok (ResendRequest choice)) j) handled out
+    by_verdict (Ok (ResendRequest choice)) client handled j out = rechallenged client (judged_signs b realm message decodes p.auth client h.speaks.signs (Ok (ResendRequest choice)) j) (stores choice client j) handled out
     by_verdict (Ok (Validated algorithm)) client handled j out = none_decoded j.no_challenge
     by_verdict (Err Unauthorized) client handled j out = none_decoded j.no_challenge
     by_verdict (Err (IntegrityFailed algorithm)) client handled j out = none_decoded j.no_challenge
@@ -420,7 +457,7 @@ module _ (b : Beginning) (realm : List ℕ) (address : SocketAddr) (wanted : Wan
         none_barred p.auth reported may.choice may.can (subst (λ (t : ChallengeFields). IsUnanswerable p.auth t) (let same : j.reported ≡ reported = Prim.cc (sym j.visible ∙ is.visible) in same) j.unanswerable)
     by_verdict (Err NoMemory) client handled j out = absurd out
 
-  pub challenge_answered : (handled : Bool) (q : Protocol) → IsProcessed p message now handled q → IsMadeAgain b realm address wanted request later beyond p q
+  pub challenge_answered : (handled : Bool) (q : Protocol) → IsProcessed p message now handled q → IsMadeAgain b realm address wanted request reported later beyond p q
   challenge_answered handled q processed =
       let in_phase : IsProcessedIn Authenticated p message now handled q = subst (λ (f : Phase). IsProcessedIn f p message now handled q) h.phase (processed_awaited p message now handled q awaited processed) in
       let none : is_indication (class_of (kind_at message)) ≡ false = no_indication (class_of (kind_at message)) responds in

@@ -1,21 +1,21 @@
 use Rattle.std.proofs.Common.{◌≡◌, ◌≢◌, ◌⊎◌, ◌<◌, ◌≤◌, ℕ, List, [], ◌∷◌, Option, None, Some, refl, sym, ap, ◌∙◌, subst, inl, inr}
 use Rattle.std.specs.FinMap as map
-use Rattle.turn_client_proto_api.specs.Sent.{Sent}
-use Rattle.turn_client_proto_api.specs.StunProtoAgent.State as agents
-use Rattle.turn_client_proto_api.specs.StunProtoTransaction.Schedule.{transmissions}
-use Rattle.turn_client_proto_api.specs.declared.answer.TurnPollRet.{TurnPollRet}
-use Rattle.turn_desk_core.specs.StunTypesBase.declared.transport.TransportType.{TransportType}
-use Rattle.turn_client_proto_api.specs.declared.answer.TurnPollRet.TheVariants as poll
+use Rattle.turn_client_proto_messages.specs.Api.Sent.{Sent}
+use Rattle.turn_client_proto_messages.specs.StunProtoAgent.State as agents
+use Rattle.turn_client_proto_messages.specs.StunProtoTransaction.Schedule.{transmissions}
+use Rattle.turn_client_proto_messages.specs.Api.declared.answer.TurnPollRet.{TurnPollRet}
+use Rattle.turn_client_proto_messages.specs.StunTypesBase.declared.transport.TransportType.{TransportType}
+use Rattle.turn_client_proto_messages.specs.Api.declared.answer.TurnPollRet.TheVariants as poll
 use Rattle.turn_client_proto_core.specs.declared.protocol.Protocol.{Protocol}
 use Rattle.turn_client_proto_handshake_laws.specs.Driving.{Call, Draws, DrawFails, IsEventTaken, Looks, Polls, Takes}
 use Rattle.turn_client_proto_messages.specs.TurnRuns.Members.{IsIn}
 use Rattle.turn_client_proto_messages.specs.Waiting.{Queued}
-use Rattle.turn_client_proto_timers.specs.Drawing.{IsTransmitted}
-use Rattle.turn_client_proto_timers.specs.Polling.{IsPolled}
-use Rattle.turn_desk_laws.specs.Schedules.{Again, AreCalled, IsDrawOf, IsDue, IsGivenUp, IsInOrder, IsLeft, IsNoneDue, IsOther, IsOutstanding, IsStillAwaited, IsTraced, Other, Request, Still, count_of, end_of, sent_of, slot_of}
-use Rattle.turn_desk_laws.proofs.ScheduleDraws.{AreNumbered, IsDrawTo, draws_by}
-use Rattle.turn_desk_laws.proofs.SchedulePolls.{IsPolledTo, polls_by}
-use Rattle.turn_desk_laws.proofs.schedules.requests_go_by_their_schedule.Goals as goal
+use Rattle.turn_client_proto_step_laws.specs.Timers.Drawing.{IsTransmitted}
+use Rattle.turn_client_proto_step_laws.specs.Timers.Polling.{IsPolled}
+use Rattle.turn_client_proto_progress_laws.specs.Schedules.{Again, AreCalled, IsDrawOf, IsDue, IsGivenUp, IsInOrder, IsLeft, IsNoneDue, IsOther, IsOutstanding, IsStillAwaited, IsTraced, Other, Request, Still, count_of, end_of, sent_of, slot_of}
+use Rattle.turn_client_proto_progress_laws.proofs.ScheduleDraws.{AreNumbered, IsDrawTo, draws_by}
+use Rattle.turn_client_proto_progress_laws.proofs.SchedulePolls.{IsPolledTo, polls_by}
+use Rattle.turn_client_proto_progress_laws.proofs.schedules.requests_go_by_their_schedule.Goals as goal
 
 -- ---- a draw that gives nothing
 

@@ -1,5 +1,5 @@
-use Rattle.turn_desk_laws.proofs.ScheduleEnds.{allocate_ends, binding_ends, channel_ends, connect_ends, permission_ends, refresh_ends}
-use Rattle.turn_desk_laws.proofs.schedules.requests_that_end_are_reported.Goals as goal
+use Rattle.turn_client_proto_progress_laws.proofs.ScheduleEnds.{allocate_ends, binding_ends, channel_ends, connect_ends, permission_ends, refresh_ends}
+use Rattle.turn_client_proto_progress_laws.proofs.schedules.requests_that_end_are_reported.Goals as goal
 
 pub returns-clause-allocate : goal.returns-clause-allocate
 returns-clause-allocate c = λ r many now old new ret numbers ends phase in_it. allocate_ends r many now old ret new ends numbers in_it phase

@@ -8,17 +8,17 @@ use Rattle.std.specs.List.{list_any}
 use Rattle.std.specs.Ordering.{is_eq, nat_cmp}
 use Rattle.std.specs.declared.net.socket_addr.SocketAddr.{SocketAddr}
 use Rattle.std.proofs.lemmas.Bool.{cases_Bool, le-leb, leb-false, leb-true, lt-ltb}
-use Rattle.stun_types_base.specs.Times.{time_after}
-use Rattle.turn_client_proto_api.specs.StunProtoAgent.Numbers.{ShowsNumbers}
-use Rattle.turn_client_proto_api.specs.StunProtoAgent.State as agents
-use Rattle.turn_client_proto_api.specs.StunProtoAgent.declared.agent.StunAgentPollRet.{StunAgentPollRet}
-use Rattle.turn_client_proto_api.specs.StunProtoAgent.declared.agent.StunAgentPollRet.TheVariants.{TransactionCancelled, TransactionTimedOut, WaitUntil}
-use Rattle.turn_client_proto_api.specs.StunProtoTransaction.Agents.{Transaction, is_ended, is_over, next_time}
-use Rattle.turn_client_proto_api.specs.declared.answer.TurnPollRet.{TurnPollRet}
-use Rattle.turn_client_proto_api.specs.declared.answer.TurnPollRet.TheVariants as answer
-use Rattle.turn_client_proto_api.specs.declared.event.TurnEvent.{TurnEvent}
-use Rattle.turn_client_proto_api.proofs.StunProtoAgent.Quiet.{slot_before_end}
-use Rattle.turn_client_proto_api.proofs.StunProtoTransaction.Leasts.{same_number}
+use Rattle.turn_client_proto_messages.specs.StunTypesBase.Times.{time_after}
+use Rattle.turn_client_proto_messages.specs.StunProtoAgent.Numbers.{ShowsNumbers}
+use Rattle.turn_client_proto_messages.specs.StunProtoAgent.State as agents
+use Rattle.turn_client_proto_messages.specs.StunProtoAgent.declared.agent.StunAgentPollRet.{StunAgentPollRet}
+use Rattle.turn_client_proto_messages.specs.StunProtoAgent.declared.agent.StunAgentPollRet.TheVariants.{TransactionCancelled, TransactionTimedOut, WaitUntil}
+use Rattle.turn_client_proto_messages.specs.StunProtoTransaction.Agents.{Transaction, is_ended, is_over, next_time}
+use Rattle.turn_client_proto_messages.specs.Api.declared.answer.TurnPollRet.{TurnPollRet}
+use Rattle.turn_client_proto_messages.specs.Api.declared.answer.TurnPollRet.TheVariants as answer
+use Rattle.turn_client_proto_messages.specs.Api.declared.event.TurnEvent.{TurnEvent}
+use Rattle.turn_client_proto_messages.proofs.StunProtoAgent.Quiet.{slot_before_end}
+use Rattle.turn_client_proto_messages.proofs.StunProtoTransaction.Leasts.{same_number}
 use Rattle.turn_client_proto_core.specs.Ending.{ended}
 use Rattle.turn_client_proto_core.specs.declared.protocol.Phase.{Phase}
 use Rattle.turn_client_proto_core.specs.declared.protocol.Phase.TheVariants.{Initial, InitialSent, Authenticating, Authenticated, Ended}
@@ -32,11 +32,11 @@ use Rattle.turn_client_proto_messages.specs.ShortTexts.{HasShortTexts}
 use Rattle.turn_client_proto_messages.specs.StunProtoClient.Client as auth
 use Rattle.turn_client_proto_messages.specs.TurnRuns.Members.{IsIn}
 use Rattle.turn_client_proto_messages.specs.Waiting.{Queued, is_answer}
-use Rattle.turn_client_proto_timers.specs.Connection.Expiring as joined
-use Rattle.turn_client_proto_timers.specs.Connection.Waiting.{unasked}
-use Rattle.turn_client_proto_timers.specs.Polling.{Answers, AreAllocationsPolled, IsAgentPolled, IsClosing, IsPolled, IsPolledBy, IsPolledIn, IsPolledSent, IsPolledStanding, after_asking, after_time, answer_of, ended_of, left, longest_pause, socket_for, wait_of, wait_to_send, waits_until}
-use Rattle.turn_desk_laws.specs.Schedules.{ComesFirst, IsGivenUp, IsGone, IsInOrder, IsOutstanding, IsStillAwaited, Request, count_of, end_of, slot_of, transaction_of}
-use Rattle.turn_desk_laws.proofs.ScheduleDraws.{less_of, same_key}
+use Rattle.turn_client_proto_step_laws.specs.Connection.Expiring as joined
+use Rattle.turn_client_proto_step_laws.specs.Connection.Waiting.{unasked}
+use Rattle.turn_client_proto_step_laws.specs.Timers.Polling.{Answers, AreAllocationsPolled, IsAgentPolled, IsClosing, IsPolled, IsPolledBy, IsPolledIn, IsPolledSent, IsPolledStanding, after_asking, after_time, answer_of, ended_of, left, longest_pause, socket_for, wait_of, wait_to_send, waits_until}
+use Rattle.turn_client_proto_progress_laws.specs.Schedules.{ComesFirst, IsGivenUp, IsGone, IsInOrder, IsOutstanding, IsStillAwaited, Request, count_of, end_of, slot_of, transaction_of}
+use Rattle.turn_client_proto_progress_laws.proofs.ScheduleDraws.{less_of, same_key}
 
 -- ---- what a poll leaves as it is
 

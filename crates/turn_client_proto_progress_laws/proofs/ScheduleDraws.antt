@@ -8,13 +8,13 @@ use Rattle.std.specs.Ordering.{is_eq, nat_cmp}
 use Rattle.std.specs.declared.net.ip_addr.IpAddr.{IpAddr}
 use Rattle.std.specs.declared.net.socket_addr.SocketAddr.{SocketAddr}
 use Rattle.std.proofs.lemmas.Bool.{cases_Bool, leb-false, leb-true, lt-ltb, ltb-false, ltb-true}
-use Rattle.turn_client_proto_api.specs.Sent.{Sent}
-use Rattle.turn_client_proto_api.specs.StunProtoAgent.Numbers.{ShowsNumbers}
-use Rattle.turn_client_proto_api.specs.StunProtoAgent.Sending.{is_due_of, started, stored_under, with_request}
-use Rattle.turn_client_proto_api.specs.StunProtoAgent.State as agents
-use Rattle.turn_client_proto_api.specs.StunProtoTransaction.Agents.{Transaction, has_left, is_due, transmitted}
-use Rattle.turn_client_proto_api.proofs.StunProtoTransaction.Leasts.{same_number}
-use Rattle.turn_client_proto_api.specs.StunTypesWire.Grammar.{number_at}
+use Rattle.turn_client_proto_messages.specs.Api.Sent.{Sent}
+use Rattle.turn_client_proto_messages.specs.StunProtoAgent.Numbers.{ShowsNumbers}
+use Rattle.turn_client_proto_messages.specs.StunProtoAgent.Sending.{is_due_of, started, stored_under, with_request}
+use Rattle.turn_client_proto_messages.specs.StunProtoAgent.State as agents
+use Rattle.turn_client_proto_messages.specs.StunProtoTransaction.Agents.{Transaction, has_left, is_due, transmitted}
+use Rattle.turn_client_proto_messages.proofs.StunProtoTransaction.Leasts.{same_number}
+use Rattle.turn_client_proto_messages.specs.StunTypesWire.Grammar.{number_at}
 use Rattle.turn_client_proto_core.specs.Numbering.{IsNextNumber, after_number, awaits, following, is_taken}
 use Rattle.turn_client_proto_core.specs.declared.protocol.Phase.{Phase}
 use Rattle.turn_client_proto_core.specs.declared.protocol.Phase.TheVariants.{Initial, InitialSent, Authenticating, Authenticated, Ended}
@@ -30,12 +30,12 @@ use Rattle.turn_client_proto_messages.specs.Waiting.{Queued, is_answer}
 use Rattle.turn_client_proto_messages.specs.declared.request.TurnRequest.{TurnRequest}
 use Rattle.turn_client_proto_messages.specs.declared.request.TurnRequest.TheVariants.{ChannelBind, CreatePermission, FirstAllocate, Refresh as RefreshRequest}
 use Rattle.turn_client_proto_step_laws.proofs.Lists.{found_in, in_others}
-use Rattle.turn_client_proto_timers.specs.Answering.{without_answer}
-use Rattle.turn_client_proto_timers.specs.Drawing.{Again, Fresh, IsAnswerSent, IsChannelRenewalSent, IsFirstSent, IsFreshSent, IsMade, IsNextSent, IsQueuedSent, IsRefreshSent, IsRenewalSent, IsRenewed, IsRepeated, IsStarted, IsStill, IsTransmitted, Sends, after_sending, first_allocated, first_bound, first_permitted, first_refreshed, is_resting, sent_at_once}
-use Rattle.turn_client_proto_timers.specs.Wanting.{wanted}
-use Rattle.turn_client_proto_timers.specs.declared.wanting.Want.{Want}
-use Rattle.turn_client_proto_timers.specs.declared.wanting.Want.TheVariants.{Refresh, Channel, Permission}
-use Rattle.turn_desk_laws.specs.Schedules.{Again as OwnAgain, IsDrawOf, IsDue, IsInOrder, IsNoneDue, IsOther, IsOutstanding, Other, Request, Still, count_of, sent_of, slot_of, transaction_of}
+use Rattle.turn_client_proto_step_laws.specs.Timers.Answering.{without_answer}
+use Rattle.turn_client_proto_step_laws.specs.Timers.Drawing.{Again, Fresh, IsAnswerSent, IsChannelRenewalSent, IsFirstSent, IsFreshSent, IsMade, IsNextSent, IsQueuedSent, IsRefreshSent, IsRenewalSent, IsRenewed, IsRepeated, IsStarted, IsStill, IsTransmitted, Sends, after_sending, first_allocated, first_bound, first_permitted, first_refreshed, is_resting, sent_at_once}
+use Rattle.turn_client_proto_step_laws.specs.Timers.Wanting.{wanted}
+use Rattle.turn_client_proto_step_laws.specs.Timers.declared.wanting.Want.{Want}
+use Rattle.turn_client_proto_step_laws.specs.Timers.declared.wanting.Want.TheVariants.{Refresh, Channel, Permission}
+use Rattle.turn_client_proto_progress_laws.specs.Schedules.{Again as OwnAgain, IsDrawOf, IsDue, IsInOrder, IsNoneDue, IsOther, IsOutstanding, Other, Request, Still, count_of, sent_of, slot_of, transaction_of}
 
 -- ---- tools
 
