@@ -1,5 +1,5 @@
 -- What becomes of a request whose response the client of a simulation awaits.
-use Rattle.std.proofs.Common.{◌≡◌, ℕ, ◌<◌, ◌≤◌, ◌+◌, arith, Bool, true, length, List, [], ◌∷◌, ◌++◌, Some, refl, sym, ap, ◌∙◌, subst, inl, inr}
+use Rattle.std.proofs.Common.{◌≡◌, ℕ, ◌<◌, ◌≤◌, ◌+◌, arith, Bool, true, length, List, [], ◌∷◌, ◌++◌, Option, Some, refl, sym, ap, ◌∙◌, subst, inl, inr}
 use Rattle.std.specs.Prelude.{Ok, Vec}
 use Rattle.std.specs.declared.alloc.Global.{Global}
 use Rattle.std.specs.Net.Socket.{socket_ip}
@@ -7,8 +7,10 @@ use Rattle.std.specs.declared.net.ip_addr.IpAddr.{IpAddr}
 use Rattle.std.specs.declared.net.socket_addr.SocketAddr.{SocketAddr}
 use Rattle.turn_desk_core.specs.StunTypesBase.Times.{time_after}
 use Rattle.turn_desk_core.specs.StunTypesBase.declared.transport.TransportType.{TransportType}
-use Rattle.turn_desk_core.specs.StunTypesBase.declared.transport.TransportType.TheVariants.{Udp}
+use Rattle.turn_desk_core.specs.StunTypesBase.declared.transport.TransportType.TheVariants.{Tcp, Udp}
+use Rattle.turn_client_proto_api.specs.Payloads.{PeerPayload}
 use Rattle.turn_client_proto_api.specs.Sent.{Sent}
+use Rattle.turn_client_proto_api.specs.TurnTypesFrame.Streams.{alive}
 use Rattle.turn_client_proto_messages.specs.Allocation.declared.allocation.Allocation.{Allocation}
 use Rattle.turn_client_proto_messages.specs.Allocation.Permits.{permits}
 use Rattle.turn_client_proto_messages.specs.StunProtoTransaction.Schedule.{end_at}
@@ -20,12 +22,14 @@ use Rattle.turn_client_proto_progress_laws.specs.Holding.{HoldsChannel, HoldsPer
 use Rattle.turn_client_proto_progress_laws.specs.Speaking.{AreHeldBeyond, Speaks}
 use Rattle.turn_client_proto_progress_laws.proofs.Asking.Asks.{asks, made as made_so, own_request as own_permission}
 use Rattle.turn_client_proto_progress_laws.proofs.Asking.Binds.{binds as asks_channel, bound, own_request as own_channel}
-use Rattle.turn_client_proto_progress_laws.proofs.Asking.Bound.{binds, shows_it}
+use Rattle.turn_client_proto_progress_laws.proofs.Asking.Bound.{binds, none_counted as none_after_channel, shows_it}
+use Rattle.turn_client_proto_progress_laws.proofs.Asking.Chunks.{IsTakenFrom, Nothing as TakenNothing, Raw, nothing_stored, taken_from}
 use Rattle.turn_client_proto_progress_laws.proofs.Asking.Given.{data_has, data_of_peer, gives_data}
-use Rattle.turn_client_proto_progress_laws.proofs.Asking.Granted.{holds, says_so}
+use Rattle.turn_client_proto_progress_laws.proofs.Asking.Granted.{holds, none_counted as none_after_permission, says_so}
 use Rattle.turn_client_proto_progress_laws.proofs.Asking.Own.{AreRead, DoClaim, claims_own, is_own, shows_method, shows_number}
-use Rattle.turn_client_proto_step_laws.specs.Recv.ClientState.{Protocol}
-use Rattle.turn_client_proto_step_laws.specs.Recv.Control.{Datagrams}
+use Rattle.turn_client_proto_step_laws.specs.Recv.ClientState.{ClientState, Protocol}
+use Rattle.turn_client_proto_step_laws.specs.Recv.Control.{Datagrams, Open}
+use Rattle.turn_client_proto_step_laws.specs.Recv.Receipts.{IsWaitingGiven}
 use Rattle.turn_client_proto_step_laws.specs.Timers.Polling.{cadence}
 use Rattle.turn_desk_world_laws.specs.TurnClientProtoConnection.Streams.{emptied_in}
 use Rattle.turn_desk_world_laws.specs.World.Calls.{IsBindReported, IsPermissionReported}
@@ -118,6 +122,15 @@ few_goes request most sent at p q ret not_given is d = by (drawn_behind request 
 last_goes : (sent at : ℕ) (p q : Protocol) (ret : Answer) → sent ≤ at → p.phase ≡ Authenticated → HasLastSent sent p → IsDrawnAs p at ret q → HasLastSent (sent_after at ret sent) q
 last_goes sent at p q ret early on h d = subst (λ (n : ℕ). HasLastSent n q) (sym (d.sent_is sent)) (last_on sent at p q d.given early h (drawn_last p at d.given q on d.transmitted))
 
+-- What waits doesn't change how many challenges the client answered.
+tcp_counts : (p : Protocol) (q : ClientState) → IsTakenFrom (over (Open (alive [])) p) q → q.core.resends ≡ p.resends
+tcp_counts p q (TakenNothing same) = ap (λ (x : ClientState). x.core.resends) same
+tcp_counts p q (Raw after control) = ap (λ (x : Protocol). x.resends) after
+
+wait_counts : (transport : TransportType) (p : Protocol) (at : ℕ) (given : Option PeerPayload) (q : ClientState) → IsWaitingGiven (over (control_at transport []) p) at given q → q.core.resends ≡ p.resends
+wait_counts Udp p at given q r = ap (λ (x : Protocol). x.resends) r.1
+wait_counts Tcp p at given q r = tcp_counts p q (taken_from (over (Open (alive [])) p) at given q [] nothing_stored refl r)
+
 -- ---- what becomes of the request
 
 module _ (read : AreRead) (claim : DoClaim) (plan : Plan) (old : World) (may : MayBegin plan old) (address : SocketAddr) (request : List ℕ) (until beyond : ℕ) (Counts : ℕ → Type 0) (sooner : until ≤ beyond) (range : until ≤ client_end) where
@@ -127,11 +140,15 @@ module _ (read : AreRead) (claim : DoClaim) (plan : Plan) (old : World) (may : M
   abbrev Asks : Wanted → Protocol → Type 0
   Asks wanted p = HasMadeRequest plan.client realm address wanted request until beyond Counts p
 
-  abbrev pub Held : Wanted → Protocol → Type 0
-  Held (APermission ip) p = HoldsPermission plan.client ip p
-  Held (AChannel channel peer) p = HoldsChannel plan.client channel peer p
+  abbrev pub Holds : Wanted → Protocol → Type 0
+  Holds (APermission ip) p = HoldsPermission plan.client ip p
+  Holds (AChannel channel peer) p = HoldsChannel plan.client channel peer p
 
-  holds_so : (wanted : Wanted) (reply : List ℕ) (p q : Protocol) (handled : Bool) (now : ℕ) → Asks wanted p → IsGrantOf plan.client realm request reply → IsProcessed p reply now handled q → Held wanted q
+  -- It holds that, and has answered no challenge since.
+  abbrev pub Held : Wanted → Protocol → Type 0
+  Held wanted p = Holds wanted p × (p.resends ≡ 0)
+
+  holds_so : (wanted : Wanted) (reply : List ℕ) (p q : Protocol) (handled : Bool) (now : ℕ) → Asks wanted p → IsGrantOf plan.client realm request reply → IsProcessed p reply now handled q → Holds wanted q
   holds_so (APermission ip) reply p q handled now h g processed =
       (holds plan.client realm address ip request until beyond now Counts p h reply (shows_number plan.client realm address (APermission ip) request until beyond Counts p h read) (claims_own plan.client realm address (APermission ip) request until beyond Counts p h claim)
       (shows_method plan.client realm address (APermission ip) request until beyond Counts p h read) g handled q processed).1
@@ -139,9 +156,22 @@ module _ (read : AreRead) (claim : DoClaim) (plan : Plan) (old : World) (may : M
       (binds plan.client realm address channel peer request until beyond now Counts p h reply (shows_number plan.client realm address (AChannel channel peer) request until beyond Counts p h read)
       (claims_own plan.client realm address (AChannel channel peer) request until beyond Counts p h claim) (shows_method plan.client realm address (AChannel channel peer) request until beyond Counts p h read) g handled q processed).1
 
-  rests_so : (wanted : Wanted) (p : Protocol) → Held wanted p → DoesWait (control_at plan.client.transport []) p (Held wanted)
+  counts_so : (wanted : Wanted) (reply : List ℕ) (p q : Protocol) (handled : Bool) (now : ℕ) → Asks wanted p → IsGrantOf plan.client realm request reply → IsProcessed p reply now handled q → q.resends ≡ 0
+  counts_so (APermission ip) reply p q handled now h g processed =
+      none_after_permission plan.client realm address ip request until beyond now Counts p h reply (shows_number plan.client realm address (APermission ip) request until beyond Counts p h read) (claims_own plan.client realm address (APermission ip) request until beyond Counts p h claim)
+      (shows_method plan.client realm address (APermission ip) request until beyond Counts p h read) g handled q processed
+  counts_so (AChannel channel peer) reply p q handled now h g processed =
+      none_after_channel plan.client realm address channel peer request until beyond now Counts p h reply (shows_number plan.client realm address (AChannel channel peer) request until beyond Counts p h read)
+      (claims_own plan.client realm address (AChannel channel peer) request until beyond Counts p h claim) (shows_method plan.client realm address (AChannel channel peer) request until beyond Counts p h read) g handled q processed
+
+  rests_so : (wanted : Wanted) (p : Protocol) → Holds wanted p → DoesWait (control_at plan.client.transport []) p (Holds wanted)
   rests_so (APermission ip) p h = holder_waits plan.client (λ a. permits ip a ≡ true) (λ a is. is) plan.client.transport [] p h (nothing_of plan.client.transport)
   rests_so (AChannel channel peer) p h = holder_waits plan.client (λ a. IsBoundTo channel peer a) (λ a is. bound_still a channel peer is) plan.client.transport [] p h (nothing_of plan.client.transport)
+
+  both_rest : (wanted : Wanted) (p : Protocol) → Held wanted p → DoesWait (control_at plan.client.transport []) p (Held wanted)
+  both_rest wanted p h = λ at given q r.
+      let one = rests_so wanted p h.0 at given q r in
+      ((one.0, wait_counts plan.client.transport p at given q r ∙ h.1), one.1)
 
   pub do_ask : (wanted : Wanted) → DoAsk plan realm request wanted until (Asks wanted) (Held wanted)
   do_ask wanted = record {
@@ -150,8 +180,8 @@ module _ (read : AreRead) (claim : DoClaim) (plan : Plan) (old : World) (may : M
     own = λ p h. is_own plan.client realm address wanted request until beyond Counts p h read claim;
     acts = λ p q at early h acted. acted_asks plan.client realm address wanted request until beyond Counts p q at early (passes at until beyond early sooner) h acted;
     waits = λ head p h stored. asker_waits plan.client realm address wanted request until beyond Counts plan.client.transport head p h stored;
-    holds = λ reply p q handled now early h g processed. holds_so wanted reply p q handled now h g processed;
-    rests = λ p h. rests_so wanted p h;
+    holds = λ reply p q handled now early h g processed. (holds_so wanted reply p q handled now h g processed, counts_so wanted reply p q handled now h g processed);
+    rests = λ p h. both_rest wanted p h;
   }
 
   module _ (three : World) (wanted : Wanted) (client : HasClient plan [] three (Asks wanted)) (keeps : KeepsSettings plan old three.desk) where

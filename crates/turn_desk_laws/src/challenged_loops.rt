@@ -116,7 +116,8 @@ pub fn loops_make_requests_again()
 /// client made at the time `made`:
 ///
 /// - `permission`, `channel`: Once all of the success response has come, the client has the
-///   permission, or the channel.
+///   permission, or the channel. It counts no challenge any more (`challenges` is 0), so it may be
+///   challenged nine times in a row again.
 /// - `queued`: Until a draw gives the request, it is queued, behind no more messages than at first.
 /// - `sendings`: What a draw gives until then: so that a draw gives the request is no premise. That
 ///   the last message before came no later than `sent` is a premise of this conclusion alone.
@@ -132,7 +133,7 @@ pub fn challenged_loops_hold_what_is_requested()
         → IsAskingLoop plan request until (requested made sent) third position
         → position.stage ≡ Got grant
         → IsNext until position now
-        → IsPermissionHeld plan ip now four }
+        → IsPermissionHeld plan ip now four × HasClient plan [] four (λ p. p.resends ≡ 0) }
     ensures channel { (plan : Plan) (old three four : World) (address : SocketAddr)
         (transport : TransportType) (peer : SocketAddr) (request grant : List ℕ)
         (third : List (Event × Answer)) (made sent until beyond challenges now : ℕ)
@@ -144,7 +145,7 @@ pub fn challenged_loops_hold_what_is_requested()
         → IsAskingLoop plan request until (requested made sent) third position
         → position.stage ≡ Got grant
         → IsNext until position now
-        → IsChannelHeld plan peer now four }
+        → IsChannelHeld plan peer now four × HasClient plan [] four (λ p. p.resends ≡ 0) }
     ensures queued { (plan : Plan) (old three w : World) (address : SocketAddr)
         (what : ClientCall) (request : List ℕ) (third : List (Event × Answer))
         (made sent until beyond challenges most : ℕ) (position : RequestPosition)

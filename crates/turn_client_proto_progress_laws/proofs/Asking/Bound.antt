@@ -170,6 +170,17 @@ module _ (b : Beginning) (realm : List ℕ) (address : SocketAddr) (channel : �
         let done = bound_so r.client handled q (by_method r.client handled q r.answered) in
         (done.0, subst (λ (x : Protocol). HoldsChannel b channel peer x) (sym done.1) (holds_after r.client))
 
+    -- Then it has answered no challenge in a row.
+    none_after : (client : auth.Client) → (bound a.transport channel peer (ip client) number now (k client)).resends ≡ 0
+    unfolding bound accepted
+    none_after client = refl
+
+    pub none_counted : (handled : Bool) (q : Protocol) → IsProcessed p reply now handled q → q.resends ≡ 0
+    none_counted handled q processed =
+        let r = answers b realm address (AChannel channel peer) request until beyond now Counts p h reply shows claims g handled q processed in
+        let done = bound_so r.client handled q (by_method r.client handled q r.answered) in
+        ap (λ (x : Protocol). x.resends) done.1 ∙ none_after r.client
+
 -- ---- what it says of it
 
 paired : (channel : ℕ) (peer : SocketAddr) (c : Channel) (l : List Channel) → IsIn c l → c.number ≡ channel → c.peer ≡ peer → IsIn (channel, peer) (pairs_of l)

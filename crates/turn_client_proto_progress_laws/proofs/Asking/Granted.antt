@@ -228,6 +228,17 @@ module _ (b : Beginning) (realm : List ℕ) (address : SocketAddr) (ip : IpAddr)
         let done = granted_so r.client handled q (by_method r.client handled q r.answered) in
         (done.0, subst (λ (x : Protocol). HoldsPermission b ip x) (sym done.1) (holds_after r.client))
 
+    -- Then it has answered no challenge in a row.
+    none_after : (client : auth.Client) → (granted a.transport ip (number_at reply) now (k client)).resends ≡ 0
+    unfolding granted accepted
+    none_after client = refl
+
+    pub none_counted : (handled : Bool) (q : Protocol) → IsProcessed p reply now handled q → q.resends ≡ 0
+    none_counted handled q processed =
+        let r = answers b realm address (APermission ip) request until beyond now Counts p h reply shows claims g handled q processed in
+        let done = granted_so r.client handled q (by_method r.client handled q r.answered) in
+        ap (λ (x : Protocol). x.resends) done.1 ∙ none_after r.client
+
 -- ---- what it says of it
 
 itself_transport : (t : TransportType) → is_same_transport t t ≡ true

@@ -19,7 +19,7 @@ use Rattle.turn_desk_progress_laws.specs.Scripts.{Plan}
 use Rattle.turn_desk_progress_laws.proofs.Looping.{passes}
 use Rattle.turn_desk_laws.specs.RenewalStages.{KeepsSettings}
 use Rattle.turn_desk_laws.specs.RequestLoops.{Got, HasAllocated, HasLastSent, HasMade, IsAskingLoop, IsDrawOf, IsNext, IsQueued, IsQueuedAfter, IsRequestCall, Pending, RequestPosition, requested}
-use Rattle.turn_desk_laws.proofs.RequestAwaited.{Held, IsCalledFor, called_for, channel_called, channel_held, drawn_there, here, keeps_three, last_three, of_it, permission_called, permission_held, queued_so, stage_so}
+use Rattle.turn_desk_laws.proofs.RequestAwaited.{Holds, IsCalledFor, called_for, channel_called, channel_held, drawn_there, here, keeps_three, last_three, of_it, permission_called, permission_held, queued_so, stage_so}
 use Rattle.turn_desk_laws.proofs.requests.loops_hold_what_is_requested.Goals as goal
 
 read : (c : goal.After-signed_requests_claim) → AreRead
@@ -49,8 +49,10 @@ module _ (c : goal.After-signed_requests_claim) (plan : Plan) (old two three : W
     abbrev keeps : KeepsSettings plan old three.desk
     keeps = keeps_three plan old two address has speaks three made request until AnyCount m.beyond none_counted m.is what m.step
 
-    got_so : (grant : List ℕ) → position.stage ≡ Got grant → HasClient plan [] w (Held (read c) c.signed_requests_claim.ensures plan old has.may address request until until AnyCount itself m.in_range wanted)
-    got_so grant got = stage_so (read c) c.signed_requests_claim.ensures plan old has.may address request until until AnyCount itself m.in_range three wanted client keeps w third made sent position on loop (Got grant) got
+    got_so : (grant : List ℕ) → position.stage ≡ Got grant → HasClient plan [] w (Holds (read c) c.signed_requests_claim.ensures plan old has.may address request until until AnyCount itself m.in_range wanted)
+    got_so grant got =
+        let s = stage_so (read c) c.signed_requests_claim.ensures plan old has.may address request until until AnyCount itself m.in_range three wanted client keeps w third made sent position on loop (Got grant) got in
+        record { core = s.core; there = s.there; is = s.is.0 }
 
     module _ (before : sent ≤ made) (pending : position.stage ≡ Pending) where
       still_queued : (most : ℕ) → HasClient plan [] two (λ p. length p.queue ≡ most) → (ahead : ℕ) × (ahead ≤ most) × IsQueued plan request ahead w
