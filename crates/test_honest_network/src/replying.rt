@@ -10,7 +10,6 @@ ghost use Rattle.turn_desk_event.specs.declared.event.Event.TheVariants.{Draw};
 ghost use Rattle.test_honest_network.specs.Exchanges.{Happened};
 ghost use Rattle.test_honest_network.specs.Replies.{IsBrought, IsCall, IsGiven, IsKind, IsPoll, IsReplied, IsTaken};
 
-use crate::exchange::happen;
 use std::alloc::Global;
 use stun_proto_auth::claim::{Claim, error_code_of};
 use stun_types_base::data::Data;
@@ -20,6 +19,7 @@ use stun_types_base::transmit::Transmit;
 use stun_types_message::parsed::Message;
 use stun_types_wire::class::MessageClass;
 use stun_types_wire::registry::{STALE_NONCE, UNAUTHORIZED};
+use test_tables::driving::happen;
 use turn_desk_core::decision::Decision;
 use turn_desk_event::answer::Answer;
 use turn_desk_event::event::{ClientCall, Event};
