@@ -55,7 +55,7 @@ pub(crate) fn shake_slowly(
     network: &mut Network,
     address: SocketAddr,
 ) -> Result<Outcome, NoMemory> {
-    match happen(world, Event::Draw(network.now))? {
+    match happen(world, Event::Draw(network.time))? {
         Answer::Transmit(sent) => {
             match bring(alloc, world, network, &sent, Decision::Refuse(400))? {
                 Answered::Error(_) => sign(alloc, world, network, address),

@@ -7,7 +7,7 @@ ghost use Rattle.stun_types_wire.specs.Types.{class_of};
 ghost use Rattle.turn_client_proto.specs.StunProtoClient.Challenges.{asks_again, challenge_visible};
 ghost use Rattle.turn_desk_event.specs.declared.answer.Answer.TheVariants.{Nothing};
 ghost use Rattle.turn_desk_event.specs.declared.event.Event.TheVariants.{Draw};
-ghost use Rattle.test_honest_network.specs.Exchanges.{Happened};
+ghost use Rattle.test_tables.specs.Driving.{Happened};
 ghost use Rattle.test_honest_network.specs.Replies.{IsBrought, IsCall, IsGiven, IsKind, IsPoll, IsReplied, IsTaken};
 
 use std::alloc::Global;

@@ -1,5 +1,9 @@
 //! An exchange over a network that takes time.
 
+ghost use Rattle.std.specs.Prelude.{◌≡◌, false, IfOk, IsTrue};
+ghost use Rattle.test_tables.specs.Carrying.{HasBrought, HasExchanged, HasReturned, IfReplied};
+ghost use Rattle.test_tables.specs.Carrying.{IsCutInTwo, IsGiven};
+
 use crate::driving::{MOST_TURNS, Turn, drive, happen, wait};
 use crate::network::Network;
 use std::alloc::Global;
@@ -35,7 +39,10 @@ pub fn exchange(
     network: &mut Network,
     patience: u64,
     decision: Decision,
-) -> Result<Answered, NoMemory> {
+) -> Result<Answered, NoMemory>
+    ensures { network.old.forges ≡ false → IfOk result (λ answered. IfReplied answered
+        (HasExchanged patience decision network.old world.old network.new world.new)) }
+{
     let until = network.after(patience);
     match drive(world, network, until, MOST_TURNS)? {
         Turn::Transmits(sent) => bring(alloc, world, network, &sent, decision),
@@ -51,8 +58,12 @@ pub fn bring(
     network: &mut Network,
     sent: &Transmit<Data<'_>>,
     decision: Decision,
-) -> Result<Answered, NoMemory> {
+) -> Result<Answered, NoMemory>
+    ensures { network.old.forges ≡ false → IfOk result (λ answered. IfReplied answered
+        (HasBrought decision sent.now network.old world.old network.new world.new)) }
+{
     network.record(alloc, sent)?;
+    let seed = network.seed();
     let arrival = network.after(network.latency);
     if !wait(alloc, world, network, arrival, MOST_TURNS)? {
         return Ok(Answered::Neither);
@@ -62,9 +73,8 @@ pub fn bring(
         from: sent.from,
         now: network.after(network.lead),
         decision,
-        seed: [network.count; 32],
+        seed,
     };
-    network.count = network.count.saturating_add(1);
     match happen(world, requested)? {
         Answer::Reply(bytes) => give(alloc, world, network, bytes.as_slice(), sent),
         _ => Ok(Answered::Neither),
@@ -78,28 +88,29 @@ fn give(
     network: &mut Network,
     reply: &[u8],
     sent: &Transmit<Data<'_>>,
-) -> Result<Answered, NoMemory> {
+) -> Result<Answered, NoMemory>
+    ensures { network.old.forges ≡ false → IfOk result (λ answered. IfReplied answered
+        (HasReturned reply.now sent.now network.old world.old network.new world.new)) }
+{
     let arrival = network.after(network.latency);
     if !wait(alloc, world, network, arrival, MOST_TURNS)? {
         return Ok(Answered::Neither);
     }
     forge(alloc, world, network, reply, sent)?;
-    let came = match sent.transport {
+    match sent.transport {
         TransportType::Udp => {
-            give_chunk(alloc, world, network.now, reply, sent)?;
-            true
+            give_chunk(alloc, world, network.time, reply, sent)?;
+            Ok(answered_by(reply))
         }
-        TransportType::Tcp => give_chunks(alloc, world, network, reply, sent)?,
-    };
-    if came {
-        Ok(answered_by(reply))
-    } else {
-        Ok(Answered::Neither)
+        TransportType::Tcp => {
+            if give_chunks(alloc, world, network, reply, sent)? {
+                Ok(answered_by(reply))
+            } else {
+                Ok(Answered::Neither)
+            }
+        }
     }
 }
-
-/// By how much the indexes of two cuts differ that follow each other.
-const STEP: usize = 6;
 
 /// The time between the two chunks of a reply, in nanoseconds.
 const PAUSE: u64 = 1_000_000;
@@ -112,18 +123,21 @@ fn give_chunks(
     network: &mut Network,
     reply: &[u8],
     sent: &Transmit<Data<'_>>,
-) -> Result<bool, NoMemory> {
+) -> Result<bool, NoMemory>
+    ensures { IfOk result (λ came. IsTrue came
+        → IsCutInTwo reply.now sent.now network.old world.old network.new world.new) }
+{
     if reply.len() < 2 {
         return Ok(false);
     }
     let (head, rest) = reply.split_at(network.cut.max(1).min(reply.len() - 1));
-    network.cut = network.cut.saturating_add(STEP);
-    give_chunk(alloc, world, network.now, head, sent)?;
+    network.cut_later();
+    give_chunk(alloc, world, network.time, head, sent)?;
     let later = network.after(PAUSE);
     if !wait(alloc, world, network, later, MOST_TURNS)? {
         return Ok(false);
     }
-    give_chunk(alloc, world, network.now, rest, sent)?;
+    give_chunk(alloc, world, network.time, rest, sent)?;
     Ok(true)
 }
 
@@ -134,7 +148,9 @@ fn give_chunk(
     now: Instant,
     chunk: &[u8],
     sent: &Transmit<Data<'_>>,
-) -> Result<(), NoMemory> {
+) -> Result<(), NoMemory>
+    ensures { IfOk result (λ given. IsGiven chunk.now sent.now now world.old world.new) }
+{
     let given = Event::ToClient {
         bytes: Vec::from_slice(alloc, chunk)?,
         from: sent.to,
@@ -153,7 +169,9 @@ fn forge(
     network: &Network,
     reply: &[u8],
     sent: &Transmit<Data<'_>>,
-) -> Result<(), NoMemory> {
+) -> Result<(), NoMemory>
+    ensures { network.now.forges ≡ false → world.new ≡ world.old }
+{
     if !network.forges {
         return Ok(());
     }
@@ -162,7 +180,7 @@ fn forge(
         if let Some(byte) = bytes.get_mut(19) {
             *byte ^= change;
         }
-        let (to, now) = (sent.from, network.now);
+        let (to, now) = (sent.from, network.time);
         let given = Event::ToClient {
             bytes,
             from,

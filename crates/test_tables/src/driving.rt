@@ -1,6 +1,10 @@
 //! A driver's loop: it polls the client for messages until none is left, polls it, polls its events
 //! until none is left, and goes on at the next time for which the client or the network waits.
 
+ghost use Rattle.std.specs.Prelude.{IfOk};
+ghost use Rattle.test_tables.specs.Driving.{Drives, Happened, HasWaited, IsDrivenTo, IsNoMessage};
+ghost use Rattle.test_tables.specs.Driving.{IsQuiet, IsTaken};
+
 use crate::network::Network;
 use std::alloc::Global;
 use std::net::SocketAddr;
@@ -9,14 +13,15 @@ use stun_types_base::data::Data;
 use stun_types_base::instant::Instant;
 use stun_types_base::memory::NoMemory;
 use stun_types_base::transmit::Transmit;
-use turn_client_proto_api::event::TurnEvent;
 use turn_desk_event::answer::Answer;
 use turn_desk_event::event::{ClientCall, Event};
 use turn_desk_world::world::World;
 use turn_desk_world_laws::running::Runs;
 
 /// Runs one event and returns its answer.
-pub fn happen(world: &mut World, event: Event) -> Result<Answer, NoMemory> {
+pub fn happen(world: &mut World, event: Event) -> Result<Answer, NoMemory>
+    ensures { IfOk result (λ answer. Happened event world.old answer world.new) }
+{
     let mut answers = world.run(slice::from_ref(&event))?;
     match answers.pop() {
         Some(answer) => Ok(answer),
@@ -48,10 +53,13 @@ pub fn drive(
     network: &mut Network,
     until: Instant,
     turns: u32,
-) -> Result<Turn, NoMemory> {
-    match turn(world, network)? {
+) -> Result<Turn, NoMemory>
+    ensures { IfOk result (λ turn.
+        IsDrivenTo until network.old world.old turn network.new world.new) }
+{
+    match take_turn(world, network)? {
         Turn::Waits(time) => {
-            network.now = network.now.max(time.min(until));
+            network.advance(time, until);
             if until <= time {
                 Ok(Turn::Waits(until))
             } else if turns == 0 {
@@ -66,39 +74,49 @@ pub fn drive(
 
 /// Polls the client for a message; if there is none, polls it, and polls its events until none is
 /// left.
-fn turn(world: &mut World, network: &mut Network) -> Result<Turn, NoMemory> {
-    match happen(world, Event::Draw(network.now))? {
+fn take_turn(world: &mut World, network: &mut Network) -> Result<Turn, NoMemory>
+    ensures { IfOk result (λ turn. IsTaken network.old world.old turn network.new world.new) }
+{
+    match happen(world, Event::Draw(network.time))? {
         Answer::Transmit(sent) => Ok(Turn::Transmits(sent)),
         _ => poll(world, network),
     }
 }
 
 /// Polls the client, and polls its events until none is left.
-fn poll(world: &mut World, network: &mut Network) -> Result<Turn, NoMemory> {
-    let polled = happen(world, Event::Call(ClientCall::Poll, network.now))?;
+fn poll(world: &mut World, network: &mut Network) -> Result<Turn, NoMemory>
+    ensures { IfOk result (λ turn. IsTaken network.old world.old turn network.new world.new) }
+{
+    let polled = happen(world, Event::Call(ClientCall::Poll, network.time))?;
     poll_events(world, network, MOST_TURNS)?;
+    let ended = ended_by(&polled);
+    drop(polled);
+    Ok(ended)
+}
+
+/// Returns how the loop goes on after the client was polled with this answer.
+fn ended_by(polled: &Answer) -> Turn
+    ensures { IsNoMessage result }
+{
     match polled {
-        Answer::Wait(time) => Ok(Turn::Waits(time)),
-        Answer::Socket { id, peer, .. } => Ok(Turn::Connects(id, peer)),
-        _ => Ok(Turn::Ends),
+        Answer::Wait(time) => Turn::Waits(*time),
+        Answer::Socket { id, peer, .. } => Turn::Connects(*id, *peer),
+        _ => Turn::Ends,
     }
 }
 
 /// Polls the client's events until none is left, and records when an allocation is reported.
-fn poll_events(world: &mut World, network: &mut Network, most: u32) -> Result<(), NoMemory> {
-    match happen(world, Event::Call(ClientCall::PollEvent, network.now))? {
-        Answer::Event(event) => {
-            if let TurnEvent::AllocationCreated(_, _) = event {
-                network.reported = Some(network.now.as_nanos());
-            }
-            if most == 0 {
-                Ok(())
-            } else {
-                poll_events(world, network, most - 1)
-            }
-        }
-        _ => Ok(()),
+fn poll_events(world: &mut World, network: &mut Network, most: u32) -> Result<(), NoMemory>
+    ensures { IfOk result (λ polled.
+        Drives IsQuiet network.old.time network.old world.old network.new world.new) }
+{
+    let polled = happen(world, Event::Call(ClientCall::PollEvent, network.time))?;
+    let more = network.reports(&polled);
+    drop(polled);
+    if !more || most == 0 {
+        return Ok(());
     }
+    poll_events(world, network, most - 1)
 }
 
 /// Runs the driver's loop until the given time has come. What the client transmits is lost. Returns
@@ -109,7 +127,10 @@ pub fn wait(
     network: &mut Network,
     until: Instant,
     turns: u32,
-) -> Result<bool, NoMemory> {
+) -> Result<bool, NoMemory>
+    ensures { IfOk result (λ came.
+        HasWaited until network.old world.old came network.new world.new) }
+{
     match drive(world, network, until, MOST_TURNS)? {
         Turn::Transmits(sent) => {
             network.record(alloc, &sent)?;

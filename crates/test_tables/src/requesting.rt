@@ -92,36 +92,20 @@ fn prepares(
     network: &mut Network,
     wanted: Wanted,
 ) -> Result<bool, NoMemory> {
-    let (udp, tcp) = (TransportType::Udp, TransportType::Tcp);
-    let (peer, ip) = (wanted.peer, wanted.peer.ip());
+    let (udp, peer) = (TransportType::Udp, wanted.peer);
     match wanted.kind {
         Kind::Refresh => Ok(true),
         Kind::CreatePermission => {
-            let call = ClientCall::CreatePermission(udp, ip);
+            let call = ClientCall::CreatePermission(udp, peer.ip());
             calls_later(alloc, world, network, call)
         }
         Kind::ChannelBind => {
             let call = ClientCall::BindChannel(udp, peer);
             calls_later(alloc, world, network, call)
         }
-        Kind::Connect => {
-            let call = ClientCall::CreatePermission(tcp, ip);
-            if !calls_later(alloc, world, network, call)? {
-                return Ok(false);
-            }
-            match exchange(alloc, world, network, PATIENCE, Decision::Grant)? {
-                Answered::Success => {
-                    calls_later(alloc, world, network, ClientCall::TcpConnect(peer))
-                }
-                _ => Ok(false),
-            }
-        }
+        Kind::Connect => permits_and_connects(alloc, world, network, peer),
         Kind::ConnectionBind => {
-            let first = Wanted {
-                kind: Kind::Connect,
-                ..wanted
-            };
-            if !prepares(alloc, world, network, first)? {
+            if !permits_and_connects(alloc, world, network, peer)? {
                 return Ok(false);
             }
             let decision = Decision::Connect { number: NUMBER };
@@ -133,9 +117,27 @@ fn prepares(
     }
 }
 
+/// Has the application request a permission for the peer, and once that is granted a connection to
+/// it. Returns whether both calls and the first request succeeded.
+fn permits_and_connects(
+    alloc: Global,
+    world: &mut World,
+    network: &mut Network,
+    peer: SocketAddr,
+) -> Result<bool, NoMemory> {
+    let call = ClientCall::CreatePermission(TransportType::Tcp, peer.ip());
+    if !calls_later(alloc, world, network, call)? {
+        return Ok(false);
+    }
+    match exchange(alloc, world, network, PATIENCE, Decision::Grant)? {
+        Answered::Success => calls_later(alloc, world, network, ClientCall::TcpConnect(peer)),
+        _ => Ok(false),
+    }
+}
+
 /// Makes a call of the client. Returns whether it succeeded.
 fn calls(world: &mut World, network: &Network, call: ClientCall) -> Result<bool, NoMemory> {
-    match happen(world, Event::Call(call, network.now))? {
+    match happen(world, Event::Call(call, network.time))? {
         Answer::Done => Ok(true),
         _ => Ok(false),
     }
@@ -219,7 +221,7 @@ fn holds(
         Kind::Connect => return opens(world, network, wanted),
         Kind::ConnectionBind => ClientCall::Connections,
     };
-    match happen(world, Event::Call(call, network.now))? {
+    match happen(world, Event::Call(call, network.time))? {
         Answer::Relayed(listed) => Ok(listed.iter().any(|one| one.1 == wanted.address)),
         Answer::Have(has) => Ok(has),
         Answer::Channels(listed) => Ok(listed.iter().any(|one| one.1 == wanted.peer)),
