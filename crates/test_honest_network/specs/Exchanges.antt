@@ -1,6 +1,6 @@
 -- One exchange over an honest network: the client is polled for a message, the message reaches the server
 -- core, and its reply reaches the client, all at one time.
-use Rattle.std.specs.Prelude.{◌≡◌, ℕ, List, [], ◌∷◌, Vec}
+use Rattle.std.specs.Prelude.{◌≡◌, ℕ, List, Vec}
 use Rattle.std.specs.declared.alloc.Global.{Global}
 use Rattle.stun_types_base.specs.Data.{data_bytes}
 use Rattle.stun_types_base.specs.declared.data.Data.{Data}
@@ -8,16 +8,11 @@ use Rattle.stun_types_base.specs.declared.transmit.Transmit.{Transmit}
 use Rattle.turn_desk_event.specs.declared.answer.Answer.{Answer}
 use Rattle.turn_desk_event.specs.declared.answer.Answer.TheVariants as answer
 use Rattle.turn_desk_core.specs.declared.decision.Decision.{Decision}
-use Rattle.turn_desk_event.specs.declared.event.Event.{Event}
 use Rattle.turn_desk_event.specs.declared.event.Event.TheVariants.{Draw, ToClient, ToDesk}
 use Rattle.turn_desk_world.specs.Model.{World}
-use Rattle.turn_desk_world.specs.Runs.{IsRun}
+use Rattle.test_tables.specs.Driving.{Happened}
 use Rattle.test_honest_network.specs.declared.exchange.Carried.{Carried}
 use Rattle.test_honest_network.specs.declared.exchange.Carried.TheVariants.{Unsent, Unanswered, Replied}
-
--- The event happened and had this answer.
-abbrev pub Happened : Event → World → Answer → World → Type 0
-Happened event old ret new = IsRun old ((event, ret) ∷ []) new
 
 -- An answer that transmits nothing; and, for `IsNoReply`, an answer that is not a reply.
 abbrev pub SendsNothing : Answer → Type 0

@@ -14,7 +14,6 @@ ghost use Rattle.test_honest_network.specs.Simulations.{plan_of};
 ghost use Rattle.test_honest_network.specs.Payloads.{IsProcessed, IsReceived, indication, peer};
 ghost use Rattle.test_honest_network.specs.Wishes.{IsBound, IsBrought, IsGiven, IsSimulated, IsPermitted, IsSent};
 
-use crate::exchange::happen;
 use crate::replying::{calls, draws_nothing, is_success};
 use crate::setting::Setting;
 use crate::simulation::{Outcome, SECOND, shake, world_of};
@@ -25,6 +24,7 @@ use stun_types_base::instant::Instant;
 use stun_types_base::memory::NoMemory;
 use stun_types_base::transmit::Transmit;
 use stun_types_base::transport::TransportType;
+use test_tables::driving::happen;
 use turn_desk_core::decision::Decision;
 use turn_desk_event::answer::Answer;
 use turn_desk_event::event::{ClientCall, Event};

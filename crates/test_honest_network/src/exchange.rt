@@ -2,19 +2,18 @@
 //! and unaltered, at the time at which the client transmitted.
 
 ghost use Rattle.std.specs.Prelude.{IfOk};
-ghost use Rattle.test_honest_network.specs.Exchanges.{Happened, IsCarried, IsDelivered};
+ghost use Rattle.test_honest_network.specs.Exchanges.{IsCarried, IsDelivered};
 
 use std::alloc::Global;
-use std::slice;
 use stun_types_base::data::Data;
 use stun_types_base::instant::Instant;
 use stun_types_base::memory::NoMemory;
 use stun_types_base::transmit::Transmit;
+use test_tables::driving::happen;
 use turn_desk_core::decision::Decision;
 use turn_desk_event::answer::Answer;
 use turn_desk_event::event::Event;
 use turn_desk_world::world::World;
-use turn_desk_world_laws::running::Runs;
 
 /// How far an exchange went.
 #[derive(Clone, Copy)]
@@ -75,17 +74,5 @@ fn deliver(
             Ok(Carried::Replied)
         }
         _ => Ok(Carried::Unanswered),
-    }
-}
-
-/// Runs one event and returns its answer.
-pub(crate) fn happen(world: &mut World, event: Event) -> Result<Answer, NoMemory>
-    ensures { IfOk result (λ answer. Happened event world.old answer world.new) }
-{
-    let mut answers = world.run(slice::from_ref(&event))?;
-    match answers.pop() {
-        Some(answer) => Ok(answer),
-        // One event has one answer.
-        None => unreachable!(),
     }
 }

@@ -5,10 +5,13 @@
 
 mod asking;
 mod exchange;
+mod latency;
 mod renewing;
 mod replying;
+mod reporting;
 mod setting;
 mod simulation;
+mod stale;
 mod tcp_binding;
 
 ghost use Rattle.std.specs.Prelude.{◌≡◌, ◌≤◌, length};
@@ -19,6 +22,7 @@ ghost use Rattle.turn_desk_world_laws.specs.TurnClientProtoStepLaws.Sound.{IsWho
 
 use crate::asking::{bind, permit, receive};
 use crate::renewing::keep;
+use crate::reporting::{request_by, shake_all};
 use crate::setting::{Setting, Supported};
 use crate::simulation::simulate;
 use crate::tcp_binding::link;
@@ -27,6 +31,7 @@ use std::net::{IpAddr, Ipv4Addr, Ipv6Addr, SocketAddr};
 use stun_proto_auth::feature::Feature;
 use stun_types_base::family::AddressFamily;
 use stun_types_base::transport::TransportType;
+use test_tables::requesting::{Kind, Wanted};
 
 fn main(rt: HostRuntime) -> anyhow::Result<()> {
     for transport in [TransportType::Udp, TransportType::Tcp] {
@@ -39,7 +44,37 @@ fn main(rt: HostRuntime) -> anyhow::Result<()> {
     ask_all(&rt, rt.alloc())?;
     link_by(&rt, rt.alloc())?;
     keep_by(&rt, rt.alloc(), TransportType::Udp)?;
-    keep_by(&rt, rt.alloc(), TransportType::Tcp)
+    keep_by(&rt, rt.alloc(), TransportType::Tcp)?;
+    wait_all(&rt, rt.alloc())
+}
+
+/// Prints what comes of handshakes over networks that take time, and of requests whose nonces have
+/// expired.
+fn wait_all(rt: &impl Print, alloc: Global) -> anyhow::Result<()> {
+    let address = decided(AddressFamily::IPV4);
+    let udp = over(TransportType::Udp, client_address(), Feature::Auto);
+    let tcp = over(TransportType::Tcp, client_address(), Feature::Auto);
+    shake_all(rt, alloc, &udp, address, false)?;
+    shake_all(rt, alloc, &tcp, address, false)?;
+    shake_all(rt, alloc, &udp, address, true)?;
+    for kind in [Kind::Refresh, Kind::CreatePermission, Kind::ChannelBind] {
+        request_by(rt, alloc, &udp, wanted(kind, address))?;
+        request_by(rt, alloc, &tcp, wanted(kind, address))?;
+    }
+    request_by(rt, alloc, &tcp, wanted(Kind::Connect, address))?;
+    request_by(rt, alloc, &tcp, wanted(Kind::ConnectionBind, address))
+}
+
+/// Returns a request of this kind.
+fn wanted(kind: Kind, address: SocketAddr) -> Wanted {
+    let here = IpAddr::V4(Ipv4Addr::new(192, 168, 0, 1));
+    Wanted {
+        kind,
+        expiries: 1,
+        address,
+        peer: SocketAddr::new(IpAddr::V4(Ipv4Addr::new(198, 51, 100, 7)), 3000),
+        local: SocketAddr::new(here, 1001),
+    }
 }
 
 /// Prints whether a client gets a permission and a channel that it requests, and over UDP whether
@@ -125,19 +160,11 @@ fn simulate_by(
         for others in every {
             for hides in features {
                 for takes in features {
-                    let setting = Setting {
-                        name: "user",
-                        password: "pass",
-                        realm: "realm",
-                        here: SocketAddr::new(IpAddr::V4(Ipv4Addr::new(192, 168, 0, 1)), 1000),
-                        server: SocketAddr::new(IpAddr::V4(Ipv4Addr::new(10, 0, 0, 2)), 2000),
-                        transport,
-                        family,
-                        own,
-                        others,
-                        hides,
-                        takes,
-                    };
+                    let mut setting = over(transport, client_address(), hides);
+                    setting.family = family;
+                    setting.own = own;
+                    setting.others = others;
+                    setting.takes = takes;
                     show(rt, alloc, &setting)?;
                 }
             }

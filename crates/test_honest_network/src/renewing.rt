@@ -12,7 +12,6 @@ ghost use Rattle.test_honest_network.specs.Courses.{HasGoneBy, HasStored, IsGive
 ghost use Rattle.test_honest_network.specs.Courses.{IsRest, IsListed, IsStill, IsWait, Where};
 ghost use Rattle.test_honest_network.specs.Simulations.{plan_of};
 
-use crate::exchange::happen;
 use crate::replying::{draws_nothing, is_success, takes};
 use crate::setting::Setting;
 use crate::simulation::{LIFETIME, Outcome, SECOND, shake, world_of};
@@ -22,6 +21,7 @@ use stun_types_base::data::Data;
 use stun_types_base::instant::Instant;
 use stun_types_base::memory::NoMemory;
 use stun_types_base::transmit::Transmit;
+use test_tables::driving::happen;
 use turn_desk_core::decision::Decision;
 use turn_desk_event::answer::Answer;
 use turn_desk_event::event::{ClientCall, Event};

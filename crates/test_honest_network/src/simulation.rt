@@ -121,7 +121,7 @@ fn go_on(
 }
 
 /// Returns the decision to allocate the address.
-fn decision_for(alloc: Global, address: SocketAddr) -> Result<Decision, NoMemory>
+pub(crate) fn decision_for(alloc: Global, address: SocketAddr) -> Result<Decision, NoMemory>
     ensures { IfOk result (λ decision. decision ≡ Allocate (address ∷ []) LIFETIME) }
 {
     let mut addresses = ListOf::new(alloc);

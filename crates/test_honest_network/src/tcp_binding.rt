@@ -196,7 +196,7 @@ fn bind_again(alloc: Global, world: &mut World) -> Result<bool, NoMemory>
 
 /// Returns a simulation with a new client over TCP that requests an allocation over TCP, and a new
 /// server core with these settings.
-fn world_of(alloc: Global, setting: &Setting<'_>) -> Result<World, NoMemory>
+pub(crate) fn world_of(alloc: Global, setting: &Setting<'_>) -> Result<World, NoMemory>
     requires name { length setting.now.name.now ≤ longest_username }
     requires realm { length setting.now.realm.now ≤ longest_text }
     ensures { IfOk result (λ world. IsFresh (stream_plan_of setting.now) world

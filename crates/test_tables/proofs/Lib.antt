@@ -1,0 +1,2 @@
+pub mod Deliveries
+pub mod Parts
