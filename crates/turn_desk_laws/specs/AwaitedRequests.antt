@@ -51,7 +51,7 @@ pub record IsRequestAwaited (plan : Plan) (old : World) (address : SocketAddr) (
   pub client : HasClient plan [] w
       (λ p. HasMadeRequest plan.client old.desk.auth.realm address wanted request until beyond (Counted challenges) p)
 
--- A call made this request. The allocation doesn't end by `beyond`. Until then the client had answered this many
+-- A call made this request. The allocation doesn't end by `beyond`. At the call, the client had answered this many
 -- challenges in a row, with no success response between them.
 pub record HasCalled (plan : Plan) (what : ClientCall) (made beyond challenges : ℕ) (request : List ℕ) (old new : World)
     : Type 0 where

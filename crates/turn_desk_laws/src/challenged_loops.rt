@@ -42,17 +42,17 @@ use turn_desk_progress_laws::loops::honest_loops_allocate;
 ///
 /// 1. A loop has ended with an allocation, and a clean run has followed (`HasAllocated`).
 /// 2. `create_permission` or `bind_channel` then succeeds at the time `made`, and makes a request.
-///    The allocation doesn't end by `beyond`. Until then the client has answered `challenges`
+///    The allocation doesn't end by `beyond`. At the call, the client has answered `challenges`
 ///    challenges in a row, with no success response between them (`HasCalled`). Who sees the
-///    network's log knows that.
+///    network's log knows how many.
 /// 3. Until a time `until`, by which the client neither gives the request up, by its schedule, nor
 ///    loses its allocation (`IsWithin`), calls are as in `loops_hold_what_is_requested`, and the
 ///    server core is reached by anything (`IsAskingLoop`). Then the server core challenges the
 ///    request: its nonce for the client has expired, say. All of the challenge reaches the client
 ///    from the server's address, unaltered, at any time no later than `until`: over UDP as one
 ///    datagram, over TCP in chunks, each at its own time. Its last chunk is `bytes`.
-/// 4. The client has answered at most eight challenges in a row before (`most_resends`): it ends at
-///    the tenth. Its operator knows how often a server core challenges.
+/// 4. Before this challenge, the client has answered at most eight in a row (`most_resends`): the
+///    tenth would end it. The operator of the server core knows how often it challenges.
 ///
 /// # Conclusions
 ///
