@@ -7,6 +7,7 @@ pub mod Processing
 pub mod Indicating
 pub mod Joined
 pub mod Leading
+pub mod Looped
 pub mod Passing
 pub mod Replied
 pub mod Shaking

@@ -1,6 +1,7 @@
 pub mod Connections
 pub mod Courses
 pub mod Exchanges
+pub mod Latencies
 pub mod Simulations
 pub mod Payloads
 pub mod Replies

@@ -1,10 +1,18 @@
 //! The handshake of a client and a server core over a network that takes time.
 
-ghost use Rattle.std.specs.Prelude.{◌≡◌, ◌≤◌, length};
+ghost use Rattle.std.specs.Prelude.{◌≡◌, ◌≤◌, [], ◌∷◌, false, length, IfOk};
+ghost use Rattle.stun_types_base.specs.Family.{family_of_socket};
 ghost use Rattle.stun_types_wire.specs.Registry.{longest_text, longest_username};
+ghost use Rattle.turn_desk_world_laws.specs.TurnClientProtoStepLaws.Sound.{IsWhole};
+ghost use Rattle.turn_desk_core.specs.declared.decision.Decision.TheVariants.{Allocate};
+ghost use Rattle.turn_desk_world.specs.Model.{World as WorldModel};
+ghost use Rattle.test_tables.specs.Carrying.{HasExchanged};
+ghost use Rattle.test_tables.specs.declared.network.Network.{Network as NetworkModel};
+ghost use Rattle.test_honest_network.specs.Latencies.{HasLooped, HasShaken, IfAllocated, IsTimely};
+ghost use Rattle.test_honest_network.specs.Simulations.{plan_of};
 
 use crate::setting::Setting;
-use crate::simulation::{Outcome, decision_for, world_of};
+use crate::simulation::{LIFETIME, Outcome, decision_for, world_of};
 use std::alloc::Global;
 use std::net::SocketAddr;
 use stun_types_base::memory::NoMemory;
@@ -14,12 +22,16 @@ use test_tables::network::Network;
 use turn_desk_core::decision::Decision;
 use turn_desk_event::answer::Answer;
 use turn_desk_event::event::Event;
+use turn_desk_progress_laws::loops::honest_loops_allocate;
 use turn_desk_world::world::World;
 
 /// How long a driver waits for the second request, in nanoseconds.
 const PATIENCE: u64 = 1_000_000_000;
 
 /// Simulates a client and a server core with these settings, over this network.
+///
+/// If the client holds the address, and the network is timely (`IsTimely`), the run satisfies the
+/// premises of the theorem on a client that a driver's loop calls (`HasLooped`).
 pub(crate) fn shake_over(
     alloc: Global,
     setting: &Setting<'_>,
@@ -28,7 +40,13 @@ pub(crate) fn shake_over(
 ) -> Result<Outcome, NoMemory>
     requires name { length setting.now.name.now ≤ longest_username }
     requires realm { length setting.now.realm.now ≤ longest_text }
+    requires family { family_of_socket address ≡ setting.now.family }
+    requires whole { IsWhole address }
+    ensures { IsTimely network.old → IfOk result (λ outcome. IfAllocated outcome
+        ((old : WorldModel) × (new : WorldModel)
+        × HasLooped (plan_of setting.now) address old new)) }
 {
+    honest_loops_allocate();
     let mut world = world_of(alloc, setting)?;
     let outcome = shake_and_wait(alloc, &mut world, network, address);
     drop(world);
@@ -41,7 +59,11 @@ fn shake_and_wait(
     world: &mut World,
     network: &mut Network,
     address: SocketAddr,
-) -> Result<Outcome, NoMemory> {
+) -> Result<Outcome, NoMemory>
+    ensures { network.old.forges ≡ false → IfOk result (λ outcome. IfAllocated outcome
+        ((after : NetworkModel) × (new : WorldModel)
+        × HasShaken address network.old world.old after new)) }
+{
     let outcome = shake_slowly(alloc, world, network, address)?;
     let later = network.after(PATIENCE);
     wait(alloc, world, network, later, MOST_TURNS)?;
@@ -54,7 +76,10 @@ pub(crate) fn shake_slowly(
     world: &mut World,
     network: &mut Network,
     address: SocketAddr,
-) -> Result<Outcome, NoMemory> {
+) -> Result<Outcome, NoMemory>
+    ensures { network.old.forges ≡ false → IfOk result (λ outcome. IfAllocated outcome
+        (HasShaken address network.old world.old network.new world.new)) }
+{
     match happen(world, Event::Draw(network.time))? {
         Answer::Transmit(sent) => {
             match bring(alloc, world, network, &sent, Decision::Refuse(400))? {
@@ -72,7 +97,11 @@ fn sign(
     world: &mut World,
     network: &mut Network,
     address: SocketAddr,
-) -> Result<Outcome, NoMemory> {
+) -> Result<Outcome, NoMemory>
+    ensures { network.old.forges ≡ false → IfOk result (λ outcome. IfAllocated outcome
+        (HasExchanged PATIENCE (Allocate (address ∷ []) LIFETIME)
+        network.old world.old network.new world.new)) }
+{
     let decision = decision_for(alloc, address)?;
     match exchange(alloc, world, network, PATIENCE, decision)? {
         Answered::Success => Ok(Outcome::Allocated),

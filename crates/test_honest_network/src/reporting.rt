@@ -1,5 +1,10 @@
 //! Prints what a client transmitted over a network that takes time.
 
+ghost use Rattle.std.specs.Prelude.{◌≡◌, ◌≤◌, length};
+ghost use Rattle.stun_types_base.specs.Family.{family_of_socket};
+ghost use Rattle.stun_types_wire.specs.Registry.{longest_text, longest_username};
+ghost use Rattle.turn_desk_world_laws.specs.TurnClientProtoStepLaws.Sound.{IsWhole};
+
 use crate::latency::shake_over;
 use crate::setting::Setting;
 use crate::stale::request_stale;
@@ -16,7 +21,12 @@ pub(crate) fn shake_all(
     setting: &Setting<'_>,
     address: SocketAddr,
     forges: bool,
-) -> anyhow::Result<()> {
+) -> anyhow::Result<()>
+    requires name { length setting.now.name.now ≤ longest_username }
+    requires realm { length setting.now.realm.now ≤ longest_text }
+    requires family { family_of_socket address ≡ setting.now.family }
+    requires whole { IsWhole address }
+{
     let latencies = [0, 1, 20_000_000, 499_000_000, 501_000_000, 3_000_000_000];
     for (i, latency) in latencies.into_iter().enumerate() {
         let mut network = Network::new(alloc, latency, 13 * i + 1);
@@ -46,7 +56,10 @@ pub(crate) fn request_by(
     alloc: Global,
     setting: &Setting<'_>,
     wanted: Wanted,
-) -> anyhow::Result<()> {
+) -> anyhow::Result<()>
+    requires name { length setting.now.name.now ≤ longest_username }
+    requires realm { length setting.now.realm.now ≤ longest_text }
+{
     for expiries in [1, 2] {
         let mut network = Network::new(alloc, 20_000_000, 1);
         let mut wanted = wanted;

@@ -11,6 +11,7 @@ ghost use Rattle.turn_desk_progress_laws.specs.Scripts.{Plan};
 ghost use Rattle.turn_client_proto.specs.Clients.{stored_of};
 ghost use Rattle.turn_desk_core.specs.declared.decision.Decision.TheVariants.{Allocate};
 ghost use Rattle.turn_desk_world.specs.Model.{World as WorldModel};
+ghost use Rattle.test_honest_network.specs.Settings.{server_of};
 ghost use Rattle.test_honest_network.specs.Simulations.{HasGoneOn, HasSimulated, IsStarted, plan_of};
 
 use crate::exchange::{Carried, carry};
@@ -136,7 +137,8 @@ pub(crate) fn decision_for(alloc: Global, address: SocketAddr) -> Result<Decisio
 pub(crate) fn world_of(alloc: Global, setting: &Setting<'_>) -> Result<World, NoMemory>
     requires name { length setting.now.name.now ≤ longest_username }
     requires realm { length setting.now.realm.now ≤ longest_text }
-    ensures { IfOk result (λ world. IsFresh (plan_of setting.now) world) }
+    ensures fresh { IfOk result (λ world. IsFresh (plan_of setting.now) world) }
+    ensures auth { IfOk result (λ world. world.desk.auth ≡ server_of setting.now) }
 {
     let config = config_of(alloc, setting)?;
     worlds_begin_fresh(&config);

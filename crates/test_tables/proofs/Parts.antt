@@ -222,6 +222,13 @@ advanced a u b v c time until is time_is alike =
     in_time : (l m n t o : ℕ) → m ≤ max l l → n ≡ max m (min t o) → n ≤ max l o
     in_time l m n t o le same = omega (arith, le, same)
 
+-- The loop ended within that turn.
+pub taken_to : (until : ℕ) (a : Network) (u : World) (b : Network) (v : World) (turn : Turn) → ((time : ℕ) → turn ≡ Waits time → ⊥) → IsTaken a u turn b v → IsDrivenTo until a u turn b v
+taken_to until a u b v (Transmits sent) other is = record { quiet = is.quiet; drives = longer IsQuiet a.time until a u b is.quiet (at_once a.time until) is.drives; step = is.step }
+taken_to until a u b v (Waits time) other is = absurd (other time refl)
+taken_to until a u b v (Connects id peer) other is = longer IsQuiet a.time until a u b v (at_once a.time until) is
+taken_to until a u b v Ends other is = longer IsQuiet a.time until a u b v (at_once a.time until) is
+
 pub rested : (a : Network) (u : World) (b : Network) (v : World) (c : Network) (time until : ℕ) → Drives IsQuiet a.time a u b v → c.time ≡ max b.time (min time until) → IsAlike b c → until ≤ time → HasRested until a u c v
 rested a u b v c time until is time_is alike le = record { drives = advanced a u b v c time until is time_is alike; late = so b.time c.time time until time_is le }
   where

@@ -113,7 +113,7 @@ fn give(
 }
 
 /// The time between the two chunks of a reply, in nanoseconds.
-const PAUSE: u64 = 1_000_000;
+pub const PAUSE: u64 = 1_000_000;
 
 /// Delivers a reply to the client in two chunks, neither of which is empty. Returns whether both
 /// came.

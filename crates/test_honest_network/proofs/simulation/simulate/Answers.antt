@@ -5,5 +5,5 @@ use Rattle.test_honest_network.proofs.Shaking.{known}
 use Rattle.test_honest_network.proofs.simulation.simulate.Goals as goal
 
 pub returns : goal.returns
-returns c = known (plan_of c.args.setting.now) c.args.address c.in_ok-world.world c.shake-outcome.new.world c.in_ok-world.ensures c.shake-outcome.result
-    (c.shake-outcome.ensures (plan_of c.args.setting.now) c.in_ok-world.ensures refl (sym c.from_nanos-second.ensures) (ap (λ (f : AddressFamily). f ∷ []) (sym c.requires.family)) c.requires.whole)
+returns c = known (plan_of c.args.setting.now) c.args.address c.in_ok-world.world c.shake-outcome.new.world c.in_ok-world.ensures.fresh c.shake-outcome.result
+    (c.shake-outcome.ensures (plan_of c.args.setting.now) c.in_ok-world.ensures.fresh refl (sym c.from_nanos-second.ensures) (ap (λ (f : AddressFamily). f ∷ []) (sym c.requires.family)) c.requires.whole)

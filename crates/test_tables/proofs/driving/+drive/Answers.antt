@@ -1,6 +1,6 @@
 use Rattle.std.proofs.Common.{◌≤◌, arith}
 use Rattle.std.proofs.lemmas.Grind.{common_steps}
-use Rattle.test_tables.proofs.Parts.{advanced, driven_to_on, on_ok, rested}
+use Rattle.test_tables.proofs.Parts.{advanced, driven_to_on, on_ok, rested, taken_to}
 use Rattle.test_tables.specs.Driving.{IsDrivenTo}
 use Rattle.test_tables.proofs.driving.+drive.Goals as goal
 
@@ -17,3 +17,6 @@ returns-else-turns-eq0 t c =
     let first = advanced c.args.network.now c.args.world.now c.take_turn.new.network c.take_turn.new.world c.advance.new.self c.in-Waits.time c.args.until (rw c.in-Waits.is at c.in_ok-other.ensures) c.advance.ensures.time c.advance.ensures.alike in
     on_ok (λ turn. IsDrivenTo c.args.until c.advance.new.self c.take_turn.new.world turn c.drive.new.network c.drive.new.world) _
     (λ turn is. driven_to_on c.args.until c.args.network.now c.args.world.now c.advance.new.self c.take_turn.new.world first turn c.drive.new.network c.drive.new.world is) c.drive.result c.drive.ensures
+
+pub returns-in_default : goal.returns-in_default
+returns-in_default t c = taken_to c.args.until c.args.network.now c.args.world.now c.take_turn.new.network c.take_turn.new.world c.in_ok-other.other c.in_default.not-Waits c.in_ok-other.ensures
