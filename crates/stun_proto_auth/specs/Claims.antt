@@ -10,13 +10,43 @@ use Rattle.stun_types_write.specs.ValueReading.{text_read_refusal, value_refusal
 use Rattle.stun_types_auth_attributes.specs.Entries.{algorithm_read_refusal, algorithms_read_refusal, number_decoded}
 use Rattle.stun_types_attributes.specs.ErrorCodeReading.{error_read_refusal, error_decoded}
 use Rattle.stun_types_wire.specs.Registry.{error_code_kind, longest_text, longest_username, nonce_kind, password_algorithm_kind, password_algorithms_kind, realm_kind, userhash_kind, userhash_length, username_kind}
+use Rattle.stun_types_integrity.specs.Integrity.{algorithm_of}
 use Rattle.stun_types_message.specs.MessageValidation.{last_algorithm}
 use Rattle.stun_proto_auth.specs.Lists.{list_read_refusal}
+use Rattle.stun_proto_auth.specs.declared.last.Lasts.{Lasts}
 
 -- The last attribute of a type.
 unfoldable pub last_of_kind : ℕ → List Attr → Option Attr
 last_of_kind kind [] = None
 last_of_kind kind (a ∷ rest) = option_or (last_of_kind kind rest) (if a.kind == kind then Some a else None)
+
+-- Of each type of authentication attribute the last one in a list, and the algorithm of the last integrity attribute.
+abbrev pub lasts : List Attr → Lasts
+lasts all = record {
+  integrity = last_algorithm all;
+  username = last_of_kind username_kind all;
+  user_hash = last_of_kind userhash_kind all;
+  realm = last_of_kind realm_kind all;
+  nonce = last_of_kind nonce_kind all;
+  algorithms = last_of_kind password_algorithms_kind all;
+  algorithm = last_of_kind password_algorithm_kind all;
+}
+
+-- An attribute, if it is of this type.
+abbrev pub of_kind : ℕ → Attr → Option Attr
+of_kind kind a = if a.kind == kind then Some a else None
+
+-- The last ones of a list that ends with this attribute, from those of what is before it.
+abbrev pub with_later : Attr → Lasts → Lasts
+with_later a l = record {
+  integrity = option_or (algorithm_of a.kind) l.integrity;
+  username = option_or (of_kind username_kind a) l.username;
+  user_hash = option_or (of_kind userhash_kind a) l.user_hash;
+  realm = option_or (of_kind realm_kind a) l.realm;
+  nonce = option_or (of_kind nonce_kind a) l.nonce;
+  algorithms = option_or (of_kind password_algorithms_kind a) l.algorithms;
+  algorithm = option_or (of_kind password_algorithm_kind a) l.algorithm;
+}
 
 -- The value read, unless reading was refused.
 abbrev pub unless_refused : {A : Type 0} → Option StunParseError → A → Option A

@@ -5,7 +5,7 @@ ghost use Rattle.std.specs.Option.{option_copied, option_map};
 ghost use Rattle.stun_types_auth_attributes.specs.PasswordAlgorithmNumbers.{number_of};
 ghost use Rattle.stun_proto_auth.specs.Claims.{algorithm_decoded, algorithms_decoded, claimed, code_visible, code_decoded, hash_decoded, list_decoded, text_decoded};
 
-use crate::last::last_attribute;
+use crate::last::{Lasts, last_attribute};
 use crate::list::is_list;
 use std::convert::TryFrom;
 use std::marker::Model;
@@ -29,13 +29,7 @@ use stun_types_write::reading::{text_of, value_of};
 /// of `specs/Claims.antt`.
 #[derive(Debug, Drop)]
 pub struct Claim<'a> {
-    integrity: Option<IntegrityAlgorithm>,
-    username: Option<RawAttribute<'a>>,
-    user_hash: Option<RawAttribute<'a>>,
-    realm: Option<RawAttribute<'a>>,
-    nonce: Option<RawAttribute<'a>>,
-    algorithms: Option<RawAttribute<'a>>,
-    algorithm: Option<RawAttribute<'a>>,
+    lasts: Lasts<'a>,
 }
 
 impl<'a> Model for Claim<'a> {
@@ -46,30 +40,24 @@ impl<'a> Model for Claim<'a> {
     ghost Value = { Claimed };
 
     ghost view = { λ c. record {
-      integrity = c.integrity;
-      username = text_decoded username_kind longest_username c.username;
-      user_hash = hash_decoded c.user_hash;
-      realm = text_decoded realm_kind longest_text c.realm;
-      nonce = text_decoded nonce_kind longest_text c.nonce;
-      algorithms = algorithms_decoded c.algorithms;
-      listed = list_decoded c.algorithms;
-      algorithm = algorithm_decoded c.algorithm;
+      integrity = c.lasts.integrity;
+      username = text_decoded username_kind longest_username c.lasts.username;
+      user_hash = hash_decoded c.lasts.user_hash;
+      realm = text_decoded realm_kind longest_text c.lasts.realm;
+      nonce = text_decoded nonce_kind longest_text c.lasts.nonce;
+      algorithms = algorithms_decoded c.lasts.algorithms;
+      listed = list_decoded c.lasts.algorithms;
+      algorithm = algorithm_decoded c.lasts.algorithm;
     } };
 }
 
 impl<'a> Claim<'a> {
-    /// Reads the claim of a message. It scans the message once for each type of attribute.
+    /// Reads the claim of a message. It goes over the message once.
     pub fn of(message: &Message<'a>) -> Claim<'a>
         ensures { result ≡ claimed message.now }
     {
         Claim {
-            integrity: message.last_integrity(),
-            username: last_attribute(message, Username::TYPE),
-            user_hash: last_attribute(message, registry::USERHASH),
-            realm: last_attribute(message, Realm::TYPE),
-            nonce: last_attribute(message, Nonce::TYPE),
-            algorithms: last_attribute(message, registry::PASSWORD_ALGORITHMS),
-            algorithm: last_attribute(message, registry::PASSWORD_ALGORITHM),
+            lasts: Lasts::of(message),
         }
     }
 
@@ -77,35 +65,35 @@ impl<'a> Claim<'a> {
     pub fn integrity(&self) -> Option<IntegrityAlgorithm>
         ensures { result ≡ self.now.integrity }
     {
-        self.integrity
+        self.lasts.integrity
     }
 
     /// Returns the user's name (RFC 8489, section 14.3).
     pub fn username(&self) -> Option<&str>
         ensures { option_copied result ≡ self.now.username }
     {
-        text_decoded(&self.username, Username::TYPE, Username::MAX_LEN)
+        text_decoded(&self.lasts.username, Username::TYPE, Username::MAX_LEN)
     }
 
     /// Returns the hash of the user's name and the realm (RFC 8489, section 14.4).
     pub fn user_hash(&self) -> Option<&[u8]>
         ensures { option_copied result ≡ self.now.user_hash }
     {
-        hash_decoded(&self.user_hash)
+        hash_decoded(&self.lasts.user_hash)
     }
 
     /// Returns the realm (RFC 8489, section 14.9).
     pub fn realm(&self) -> Option<&str>
         ensures { option_copied result ≡ self.now.realm }
     {
-        text_decoded(&self.realm, Realm::TYPE, Realm::MAX_LEN)
+        text_decoded(&self.lasts.realm, Realm::TYPE, Realm::MAX_LEN)
     }
 
     /// Returns the nonce (RFC 8489, section 14.10).
     pub fn nonce(&self) -> Option<&str>
         ensures { option_copied result ≡ self.now.nonce }
     {
-        text_decoded(&self.nonce, Nonce::TYPE, Nonce::MAX_LEN)
+        text_decoded(&self.lasts.nonce, Nonce::TYPE, Nonce::MAX_LEN)
     }
 
     /// Returns the value of the PASSWORD-ALGORITHMS (RFC 8489, section 14.11), each of whose
@@ -113,7 +101,7 @@ impl<'a> Claim<'a> {
     pub fn algorithms(&self) -> Option<&[u8]>
         ensures { option_copied result ≡ self.now.algorithms }
     {
-        algorithms_decoded(&self.algorithms)
+        algorithms_decoded(&self.lasts.algorithms)
     }
 
     /// Returns the value of the PASSWORD-ALGORITHMS, whose algorithms may be unknown: complete
@@ -121,14 +109,14 @@ impl<'a> Claim<'a> {
     pub fn listed(&self) -> Option<&[u8]>
         ensures { option_copied result ≡ self.now.listed }
     {
-        list_decoded(&self.algorithms)
+        list_decoded(&self.lasts.algorithms)
     }
 
     /// Returns the chosen password algorithm (RFC 8489, section 14.12). Contracts see its number.
     pub fn algorithm(&self) -> Option<PasswordAlgorithmValue>
         ensures { option_map number_of result ≡ self.now.algorithm }
     {
-        algorithm_decoded(&self.algorithm)
+        algorithm_decoded(&self.lasts.algorithm)
     }
 }
 
