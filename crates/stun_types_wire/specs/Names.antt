@@ -4,7 +4,7 @@ use Rattle.std.specs.Coded.{Coded, code_by, coded×, coded_ℕ, coded_list}
 use Rattle.std.specs.FinMap as map
 use Rattle.std.specs.Option.{unwrap_or}
 use Rattle.std.specs.Ordering.{nat_cmp}
-use Rattle.stun_types_wire.specs.Registry.{alternate_domain_kind, alternate_server_kind, error_code_kind, fingerprint_kind, integrity_kind, nonce_kind, password_algorithm_kind, password_algorithms_kind, realm_kind, sha256_kind, sha512_kind, software_kind, unknown_attributes_kind, userhash_kind, username_kind, xor_mapped_address_kind, binding_method}
+use Rattle.stun_types_wire.specs.Registry.{alternate_domain_kind, alternate_server_kind, error_code_kind, fingerprint_kind, integrity_kind, mapped_address_kind, nonce_kind, password_algorithm_kind, password_algorithms_kind, realm_kind, sha256_kind, sha512_kind, software_kind, unknown_attributes_kind, userhash_kind, username_kind, xor_mapped_address_kind, binding_method}
 
 -- Names that were added, by the number of the method or type.
 abbrev pub NamesByNumber : Type 0
@@ -33,7 +33,8 @@ known_method n = if n == binding_method then codes "BINDING" else codes "unknown
 -- reads, and that of this project's extension.
 abbrev pub known_attribute : ℕ → List ℕ
 known_attribute n =
-    if n == username_kind then codes "USERNAME"
+    if n == mapped_address_kind then codes "MAPPED-ADDRESS"
+    else if n == username_kind then codes "USERNAME"
     else if n == integrity_kind then codes "MESSAGE-INTEGRITY"
     else if n == error_code_kind then codes "ERROR-CODE"
     else if n == unknown_attributes_kind then codes "UNKNOWN-ATTRIBUTES"

@@ -30,11 +30,15 @@ greatest_size = header_size + greatest_data
 abbrev pub binding_method : ℕ
 binding_method = 0x001
 
--- ---- types of attributes (section 18.3)
+-- ---- types of attributes (section 18.3; RFC 8445, section 16.1)
 
 -- The first comprehension-optional type: a receiver need not understand it (section 14).
 abbrev pub first_optional_kind : ℕ
 first_optional_kind = 0x8000
+
+-- MAPPED-ADDRESS (section 14.1)
+abbrev pub mapped_address_kind : ℕ
+mapped_address_kind = 0x0001
 
 -- USERNAME (section 14.3)
 abbrev pub username_kind : ℕ
@@ -80,6 +84,14 @@ userhash_kind = 0x001E
 abbrev pub xor_mapped_address_kind : ℕ
 xor_mapped_address_kind = 0x0020
 
+-- PRIORITY (RFC 8445, section 16.1)
+abbrev pub priority_kind : ℕ
+priority_kind = 0x0024
+
+-- USE-CANDIDATE (RFC 8445, section 16.1)
+abbrev pub use_candidate_kind : ℕ
+use_candidate_kind = 0x0025
+
 -- PASSWORD-ALGORITHMS (section 14.11)
 abbrev pub password_algorithms_kind : ℕ
 password_algorithms_kind = 0x8002
@@ -99,6 +111,14 @@ alternate_server_kind = 0x8023
 -- FINGERPRINT (section 14.7)
 abbrev pub fingerprint_kind : ℕ
 fingerprint_kind = 0x8028
+
+-- ICE-CONTROLLED (RFC 8445, section 16.1)
+abbrev pub ice_controlled_kind : ℕ
+ice_controlled_kind = 0x8029
+
+-- ICE-CONTROLLING (RFC 8445, section 16.1)
+abbrev pub ice_controlling_kind : ℕ
+ice_controlling_kind = 0x802A
 
 -- ---- codes of errors (section 18.4; RFC 8656, section 19; RFC 6062, section 6.3; RFC 8445, section 16.2)
 

@@ -119,6 +119,7 @@ fn known_attribute_name(atype: AttributeType) -> &'static str
     ensures { result.now ≡ known_attribute atype.0 }
 {
     match atype {
+        registry::MAPPED_ADDRESS => "MAPPED-ADDRESS",
         registry::USERNAME => "USERNAME",
         registry::MESSAGE_INTEGRITY => "MESSAGE-INTEGRITY",
         registry::ERROR_CODE => "ERROR-CODE",

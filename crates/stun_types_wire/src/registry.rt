@@ -26,10 +26,13 @@ pub const MAX_MESSAGE_LENGTH: usize = HEADER_LENGTH + MAX_DATA_LENGTH;
 /// BINDING.
 pub const BINDING: Method = Method(0x001);
 
-// ---- types of attributes (section 18.3)
+// ---- types of attributes (section 18.3; RFC 8445, section 16.1)
 
 /// The first comprehension-optional type: a receiver need not understand it (section 14).
 pub const FIRST_OPTIONAL_TYPE: u16 = 0x8000;
+
+/// The type of MAPPED-ADDRESS (section 14.1).
+pub const MAPPED_ADDRESS: AttributeType = AttributeType(0x0001);
 
 /// The type of USERNAME (section 14.3).
 pub const USERNAME: AttributeType = AttributeType(0x0006);
@@ -65,6 +68,12 @@ pub const USERHASH: AttributeType = AttributeType(0x001E);
 /// The type of XOR-MAPPED-ADDRESS (section 14.2).
 pub const XOR_MAPPED_ADDRESS: AttributeType = AttributeType(0x0020);
 
+/// The type of PRIORITY (RFC 8445, section 16.1).
+pub const PRIORITY: AttributeType = AttributeType(0x0024);
+
+/// The type of USE-CANDIDATE (RFC 8445, section 16.1).
+pub const USE_CANDIDATE: AttributeType = AttributeType(0x0025);
+
 /// The type of PASSWORD-ALGORITHMS (section 14.11).
 pub const PASSWORD_ALGORITHMS: AttributeType = AttributeType(0x8002);
 
@@ -79,6 +88,12 @@ pub const ALTERNATE_SERVER: AttributeType = AttributeType(0x8023);
 
 /// The type of FINGERPRINT (section 14.7).
 pub const FINGERPRINT: AttributeType = AttributeType(0x8028);
+
+/// The type of ICE-CONTROLLED (RFC 8445, section 16.1).
+pub const ICE_CONTROLLED: AttributeType = AttributeType(0x8029);
+
+/// The type of ICE-CONTROLLING (RFC 8445, section 16.1).
+pub const ICE_CONTROLLING: AttributeType = AttributeType(0x802A);
 
 // ---- codes of errors (section 18.4, and the RFCs that each names)
 
