@@ -5,3 +5,4 @@ pub mod Adds
 pub mod Started
 pub mod Chunks
 pub mod Taken
+pub mod Numbers
