@@ -7,7 +7,7 @@ use Rattle.stun_types_write.proofs.Values.{value_is_accepted}
 use Rattle.turn_types_attributes.specs.FamilyValues.{family_number, family_value, family_refusal, family_read_refusal}
 
 -- Two families with the same number are equal.
-same_number : (a b : AddressFamily) → family_number a ≡ family_number b → a ≡ b
+pub same_number : (a b : AddressFamily) → family_number a ≡ family_number b → a ≡ b
 same_number IPV4 IPV4 h = refl
 same_number IPV4 IPV6 h = absurd (omega (arith, h))
 same_number IPV6 IPV4 h = absurd (omega (arith, h))
@@ -29,6 +29,12 @@ pub family_is_accepted : (kind : ℕ) (a : AddressFamily) → family_read_refusa
 unfolding family_read_refusal family_refusal
 family_is_accepted kind IPV4 = rw (value_is_accepted kind 4 4 (family_value IPV4) (omega arith) (omega arith)) refl
 family_is_accepted kind IPV6 = rw (value_is_accepted kind 4 4 (family_value IPV6) (omega arith) (omega arith)) refl
+
+-- The number of a family is not rejected.
+pub number_is_known : (a : AddressFamily) → family_refusal (family_number a) ≡ None
+unfolding family_refusal
+number_is_known IPV4 = refl
+number_is_known IPV6 = refl
 
 -- A written family is accepted and is read back.
 pub ruleset families = (family_is_accepted, same_family)

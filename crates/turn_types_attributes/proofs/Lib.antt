@@ -1,2 +1,4 @@
+pub mod AddressErrors
+pub mod EvenPorts
 pub mod Families
 pub mod Numbers

@@ -1,3 +1,5 @@
+pub mod AddressErrors
+pub mod EvenPorts
 pub mod FamilyValues
 pub mod Transports
 pub mod TurnRegistry

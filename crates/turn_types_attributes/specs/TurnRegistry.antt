@@ -66,6 +66,10 @@ xor_relayed_address_kind = 0x0016
 abbrev pub requested_address_family_kind : ℕ
 requested_address_family_kind = 0x0017
 
+-- EVEN-PORT (section 18.7)
+abbrev pub even_port_kind : ℕ
+even_port_kind = 0x0018
+
 -- REQUESTED-TRANSPORT (section 18.8)
 abbrev pub requested_transport_kind : ℕ
 requested_transport_kind = 0x0019
@@ -74,6 +78,10 @@ requested_transport_kind = 0x0019
 abbrev pub dont_fragment_kind : ℕ
 dont_fragment_kind = 0x001A
 
+-- RESERVATION-TOKEN (section 18.10)
+abbrev pub reservation_token_kind : ℕ
+reservation_token_kind = 0x0022
+
 -- CONNECTION-ID (RFC 6062, section 6.2.1)
 abbrev pub connection_id_kind : ℕ
 connection_id_kind = 0x002A
@@ -81,6 +89,10 @@ connection_id_kind = 0x002A
 -- ADDITIONAL-ADDRESS-FAMILY (section 18.11)
 abbrev pub additional_address_family_kind : ℕ
 additional_address_family_kind = 0x8000
+
+-- ADDRESS-ERROR-CODE (section 18.12)
+abbrev pub address_error_code_kind : ℕ
+address_error_code_kind = 0x8001
 
 -- ICMP (section 18.13)
 abbrev pub icmp_kind : ℕ
@@ -95,6 +107,16 @@ tcp_protocol = 6
 -- UDP
 abbrev pub udp_protocol : ℕ
 udp_protocol = 17
+
+-- ---- ports (sections 18.7 and 18.10)
+
+-- The bit R, the top bit of an EVEN-PORT.
+abbrev pub reserve_bit : ℕ
+reserve_bit = 0x80
+
+-- The length of a RESERVATION-TOKEN in bytes.
+abbrev pub reservation_token_length : ℕ
+reservation_token_length = 8
 
 -- ---- channels and payloads (sections 12 and 12.4)
 

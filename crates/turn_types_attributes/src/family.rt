@@ -14,9 +14,16 @@ use stun_types_write::reading::value_of;
 pub(crate) fn value_of_family(family: AddressFamily) -> [u8; 4]
     ensures { result ≡ family_value family }
 {
+    [number_of(family), 0, 0, 0]
+}
+
+/// Returns the number of a family.
+pub(crate) fn number_of(family: AddressFamily) -> u8
+    ensures { result ≡ family_number family }
+{
     match family {
-        AddressFamily::IPV4 => [IPV4_FAMILY, 0, 0, 0],
-        AddressFamily::IPV6 => [IPV6_FAMILY, 0, 0, 0],
+        AddressFamily::IPV4 => IPV4_FAMILY,
+        AddressFamily::IPV6 => IPV6_FAMILY,
     }
 }
 
@@ -43,7 +50,7 @@ pub(crate) fn read_family(
 
 /// Returns the family with a number, or fails with `InvalidAttributeData` if there is none.
 #[tactic(auto, unfolding(crate::specs::FamilyValues::family_refusal))]
-fn family_of(number: u8) -> Result<AddressFamily, StunParseError>
+pub(crate) fn family_of(number: u8) -> Result<AddressFamily, StunParseError>
     ensures { MatchResult result (λ family. (family_refusal number ≡ None)
         × (family_number family ≡ number)) (IsNamed (family_refusal number)) }
 {

@@ -3,12 +3,15 @@
 #![tactic(auto)]
 
 pub mod additional_address_family;
+pub mod address_error_code;
 pub mod credentials;
 pub mod dont_fragment;
+pub mod even_port;
 mod family;
 pub mod lifetime;
 pub mod number;
 pub mod registry;
 pub mod requested_address_family;
 pub mod requested_transport;
+pub mod reservation_token;
 pub mod xor_relayed_address;

@@ -55,17 +55,26 @@ pub const XOR_RELAYED_ADDRESS: AttributeType = AttributeType(0x0016);
 /// The type of REQUESTED-ADDRESS-FAMILY (RFC 8656, section 18.6).
 pub const REQUESTED_ADDRESS_FAMILY: AttributeType = AttributeType(0x0017);
 
+/// The type of EVEN-PORT (RFC 8656, section 18.7).
+pub const EVEN_PORT: AttributeType = AttributeType(0x0018);
+
 /// The type of REQUESTED-TRANSPORT (RFC 8656, section 18.8).
 pub const REQUESTED_TRANSPORT: AttributeType = AttributeType(0x0019);
 
 /// The type of DONT-FRAGMENT (RFC 8656, section 18.9).
 pub const DONT_FRAGMENT: AttributeType = AttributeType(0x001A);
 
+/// The type of RESERVATION-TOKEN (RFC 8656, section 18.10).
+pub const RESERVATION_TOKEN: AttributeType = AttributeType(0x0022);
+
 /// The type of CONNECTION-ID (RFC 6062, section 6.2.1).
 pub const CONNECTION_ID: AttributeType = AttributeType(0x002A);
 
 /// The type of ADDITIONAL-ADDRESS-FAMILY (RFC 8656, section 18.11).
 pub const ADDITIONAL_ADDRESS_FAMILY: AttributeType = AttributeType(0x8000);
+
+/// The type of ADDRESS-ERROR-CODE (RFC 8656, section 18.12).
+pub const ADDRESS_ERROR_CODE: AttributeType = AttributeType(0x8001);
 
 /// The type of ICMP (RFC 8656, section 18.13).
 pub const ICMP: AttributeType = AttributeType(0x8004);
@@ -77,6 +86,14 @@ pub const TCP: u8 = 6;
 
 /// UDP.
 pub const UDP: u8 = 17;
+
+// ---- ports (RFC 8656, sections 18.7 and 18.10)
+
+/// The bit R, the top bit of an EVEN-PORT: the next port is requested to be reserved.
+pub const RESERVE_BIT: u8 = 0x80;
+
+/// The length of a RESERVATION-TOKEN in bytes.
+pub const RESERVATION_TOKEN_LENGTH: usize = 8;
 
 // ---- channels and payloads (RFC 8656, sections 12 and 12.4)
 
