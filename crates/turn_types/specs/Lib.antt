@@ -2,6 +2,8 @@
 pub mod FrameHeads
 pub mod IncomingFrames
 pub mod StoredFrames
+pub use Rattle.turn_types_attributes.specs.AddressErrors
+pub use Rattle.turn_types_attributes.specs.EvenPorts
 pub use Rattle.turn_types_attributes.specs.FamilyValues
 pub use Rattle.turn_types_attributes.specs.Transports
 pub use Rattle.turn_types_attributes.specs.TurnRegistry
