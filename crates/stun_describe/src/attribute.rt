@@ -190,7 +190,7 @@ fn push_algorithms(
 }
 
 /// Appends the code and the reason of an ERROR-CODE.
-pub(crate) fn push_error(
+fn push_error(
     alloc: Global,
     text: &mut String,
     raw: &RawAttribute<'_>,

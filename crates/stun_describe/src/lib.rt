@@ -6,5 +6,4 @@ pub mod attribute;
 pub mod lines;
 pub mod names;
 pub mod refusal;
-pub(crate) mod registry;
 pub(crate) mod turn;

@@ -1,6 +1,5 @@
 //! The names of the parts of a message.
 
-use crate::registry::{ADDRESS_ERROR_CODE, EVEN_PORT, RESERVATION_TOKEN};
 use std::alloc::Global;
 use stun_types_base::memory::NoMemory;
 use stun_types_wire::algorithm::IntegrityAlgorithm;
@@ -9,10 +8,13 @@ use stun_types_wire::names::Names;
 use stun_types_write::attribute::AttributeStaticType;
 use turn_types::message as method;
 use turn_types_attributes::additional_address_family::AdditionalAddressFamily;
+use turn_types_attributes::address_error_code::AddressErrorCode;
 use turn_types_attributes::dont_fragment::DontFragment;
+use turn_types_attributes::even_port::EvenPort;
 use turn_types_attributes::lifetime::Lifetime;
 use turn_types_attributes::requested_address_family::RequestedAddressFamily;
 use turn_types_attributes::requested_transport::RequestedTransport;
+use turn_types_attributes::reservation_token::ReservationToken;
 use turn_types_attributes::xor_relayed_address::XorRelayedAddress;
 use turn_types_peer::channel_number::ChannelNumber;
 use turn_types_peer::connection_id::ConnectionId;
@@ -56,13 +58,13 @@ fn add_attributes(names: &mut Names) -> Result<(), NoMemory> {
         (Data::TYPE, "DATA"),
         (XorRelayedAddress::TYPE, "XOR-RELAYED-ADDRESS"),
         (RequestedAddressFamily::TYPE, "REQUESTED-ADDRESS-FAMILY"),
-        (EVEN_PORT, "EVEN-PORT"),
+        (EvenPort::TYPE, "EVEN-PORT"),
         (RequestedTransport::TYPE, "REQUESTED-TRANSPORT"),
         (DontFragment::TYPE, "DONT-FRAGMENT"),
-        (RESERVATION_TOKEN, "RESERVATION-TOKEN"),
+        (ReservationToken::TYPE, "RESERVATION-TOKEN"),
         (ConnectionId::TYPE, "CONNECTION-ID"),
         (AdditionalAddressFamily::TYPE, "ADDITIONAL-ADDRESS-FAMILY"),
-        (ADDRESS_ERROR_CODE, "ADDRESS-ERROR-CODE"),
+        (AddressErrorCode::TYPE, "ADDRESS-ERROR-CODE"),
         (Icmp::TYPE, "ICMP"),
     ] {
         names.add_attribute(atype, name)?;

@@ -1,22 +1,21 @@
 //! The values of TURN's attributes as text (RFC 8656, section 18; RFC 6062, section 6.2).
 
-use crate::attribute::{push_addr, push_error, push_hex};
-use crate::registry::{ADDRESS_ERROR_CODE, EVEN_PORT, RESERVATION_TOKEN};
+use crate::attribute::{push_addr, push_hex};
 use std::alloc::Global;
 use std::convert::TryFrom;
-use stun_types_attributes::error_code::ErrorCode;
 use stun_types_base::family::AddressFamily;
 use stun_types_wire::attribute::RawAttribute;
 use stun_types_wire::error::StunParseError;
-use stun_types_wire::registry::{IPV4_FAMILY, IPV6_FAMILY};
 use stun_types_wire::transaction::TransactionId;
-use stun_types_write::attribute::AttributeStaticType;
-use stun_types_write::reading::value_of;
+use stun_types_write::attribute::{AttributeFromRaw, AttributeStaticType};
 use turn_types_attributes::additional_address_family::AdditionalAddressFamily;
+use turn_types_attributes::address_error_code::AddressErrorCode;
 use turn_types_attributes::dont_fragment::DontFragment;
+use turn_types_attributes::even_port::EvenPort;
 use turn_types_attributes::lifetime::Lifetime;
 use turn_types_attributes::requested_address_family::RequestedAddressFamily;
 use turn_types_attributes::requested_transport::RequestedTransport;
+use turn_types_attributes::reservation_token::ReservationToken;
 use turn_types_attributes::xor_relayed_address::XorRelayedAddress;
 use turn_types_peer::channel_number::ChannelNumber;
 use turn_types_peer::connection_id::ConnectionId;
@@ -29,7 +28,7 @@ use turn_types_peer::xor_peer_address::XorPeerAddress;
 ///
 /// # Errors
 ///
-/// - The errors of the attribute's own `try_from`, or those of `push_wish`.
+/// - The errors of the attribute's own `try_from` or `from_raw_ref`.
 pub(crate) fn push_turn(
     alloc: Global,
     text: &mut String,
@@ -64,10 +63,7 @@ pub(crate) fn push_turn(
 ///
 /// # Errors
 ///
-/// - EVEN-PORT: the errors of `reserved_in_words`.
-/// - ADDRESS-ERROR-CODE: the errors of `push_family_error`.
-/// - RESERVATION-TOKEN: `Truncated` or `TooLarge` if its length is not eight bytes.
-/// - Others: the errors of the attribute's own `try_from`.
+/// - The errors of the attribute's own `try_from` or `from_raw_ref`.
 fn push_wish(
     alloc: Global,
     text: &mut String,
@@ -86,9 +82,15 @@ fn push_wish(
             let _ = DontFragment::try_from(raw)?;
             text.push_str("-")?;
         }
-        EVEN_PORT => text.push_str(reserved_in_words(raw)?)?,
-        RESERVATION_TOKEN => push_hex(alloc, text, value_of(raw, RESERVATION_TOKEN, 8, 8)?)?,
-        ADDRESS_ERROR_CODE => push_family_error(alloc, text, raw)?,
+        EvenPort::TYPE => {
+            let port = EvenPort::try_from(raw)?;
+            text.push_str(reserved_in_words(port.reserves_next()))?;
+        }
+        ReservationToken::TYPE => {
+            let reservation = ReservationToken::try_from(raw)?;
+            push_hex(alloc, text, reservation.token())?;
+        }
+        AddressErrorCode::TYPE => push_family_error(alloc, text, raw)?,
         _ => return Ok(false),
     }
     Ok(true)
@@ -114,44 +116,25 @@ fn push_report(text: &mut String, raw: &RawAttribute<'_>) -> Result<(), StunPars
     Ok(())
 }
 
-/// Returns the word for whether an EVEN-PORT requests the reservation of the next port: the top bit
-/// R of its only byte (RFC 8656, section 18.7). The other bits are ignored.
-///
-/// # Errors
-///
-/// - `Truncated`: the value is empty.
-/// - `TooLarge`: the value has more than one byte.
-fn reserved_in_words(raw: &RawAttribute<'_>) -> Result<&'static str, StunParseError> {
-    let value = value_of(raw, EVEN_PORT, 1, 1)?;
-    if value[0] < 0x80 {
-        Ok("no-reserve")
+/// Returns the word for whether an EVEN-PORT requests the reservation of the next port.
+fn reserved_in_words(reserves_next: bool) -> &'static str {
+    if reserves_next {
+        "reserve"
     } else {
-        Ok("reserve")
+        "no-reserve"
     }
 }
 
-/// Appends the family of an ADDRESS-ERROR-CODE, which is its first byte, and its code and reason,
-/// which have the format of an ERROR-CODE (RFC 8656, section 18.12).
-///
-/// # Errors
-///
-/// 1. The errors of reading the value as an ERROR-CODE.
-/// 2. `InvalidAttributeData`: the first byte is not the number of a family.
+/// Appends the family, the code and the reason of an ADDRESS-ERROR-CODE.
 fn push_family_error(
     alloc: Global,
     text: &mut String,
     raw: &RawAttribute<'_>,
 ) -> Result<(), StunParseError> {
-    let value = value_of(raw, ADDRESS_ERROR_CODE, 4, 4 + ErrorCode::MAX_REASON_LEN)?;
-    let alike = RawAttribute::new(ErrorCode::TYPE, value);
-    let _ = ErrorCode::code_of(&alike)?;
-    let family = match value[0] {
-        IPV4_FAMILY => family_name(AddressFamily::IPV4),
-        IPV6_FAMILY => family_name(AddressFamily::IPV6),
-        _ => return Err(StunParseError::InvalidAttributeData),
-    };
-    write!(text, "{family} ")?;
-    push_error(alloc, text, &alike)
+    let read = AddressErrorCode::from_raw_ref(alloc, raw)?;
+    let (family, code, reason) = (family_name(read.family()), read.code(), read.reason());
+    write!(text, "{family} {code} {reason:?}")?;
+    Ok(())
 }
 
 /// Returns the name of an address family.
