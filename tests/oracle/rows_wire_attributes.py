@@ -54,12 +54,13 @@ def texts_made():
         row(TEXT_WORDS[kind], f"é*{most // 2 + 1}")(too_large(most, most // 2 * 2 + 2))
 
 
-def error_made(code, reason):
+def error_made(code, reason, kind=0x0009, family=0):
+    """An ERROR-CODE, or with a family an ADDRESS-ERROR-CODE, whose value begins with it and is the same otherwise."""
     if not 300 <= code <= 699:
         return [f"The value {code} is outside the range from 300 to 699"]
     if len(reason) > 763:
         return [too_large(763, len(reason))]
-    return made(0x0009, struct.pack(">HBB", 0, code // 100, code % 100) + reason.encode())
+    return made(kind, bytes([family, 0, code // 100, code % 100]) + reason.encode())
 
 
 def errors_made():
@@ -176,6 +177,23 @@ def digests_made():
         row("fingerprint", text)(*made(0x8028, value))
     for value in (b"", b"h", b"hi", b"hij", b"\7" * 300, b"\7" * 65535):
         row("data", value)(*made(0x0013, value))
+
+
+# RFC 8656, section 18.12, has the families of RFC 8489, section 14.1
+FAMILY_NAMES = {1: "IPV4", 2: "IPV6"}
+RESERVED = (bytes(8), bytes.fromhex("0123456789abcdef"), b"\xff" * 8)
+
+
+def ports_made():
+    part("EVEN-PORT, RESERVATION-TOKEN and ADDRESS-ERROR-CODE")
+    row("even-port", "-")(*made(0x0018, b"\0"))
+    row("even-port", "reserve")(*made(0x0018, b"\x80"))
+    for token in RESERVED:
+        row("reservation-token", token)(*made(0x0022, token))
+    for family, name in FAMILY_NAMES.items():
+        for code in (299, 300, 440, 508, 599, 699, 700):
+            for word, reason in (("a*0", ""), ("é*2", "éé"), ("a*763", "a" * 763), ("a*764", "a" * 764)):
+                row("address-error-code", name, code, word)(*error_made(code, reason, 0x8001, family))
 
 
 def types(*kinds):
@@ -320,6 +338,21 @@ def family_read(value, _):
     return [value[:1] + bytes(3), "IPV4" if value[0] == 1 else "IPV6"]
 
 
+def even_port_read(value, _):
+    """The top bit counts, and the others are not looked at."""
+    sized(value, 1, 1)
+    return [bytes([value[0] & 0x80]), value[0] & 0x80 != 0]
+
+
+def address_error_read(value, _):
+    """A family, a byte that is not looked at, and what an ERROR-CODE has behind its first two bytes."""
+    sized(value, 4, 767)
+    if value[0] not in FAMILY_NAMES:
+        raise Refused(INVALID)
+    error, = error_read(value, _)
+    return [value[:1] + error[1:], FAMILY_NAMES[value[0]], 100 * error[2] + error[3], error[4:]]
+
+
 def decimal(value):
     return [int.from_bytes(value, "big")]
 
@@ -346,6 +379,9 @@ READ = {
     0x8028: ("Fingerprint", number_read(4, same, nothing)),
     0x0017: ("RequestedAddressFamily", family_read),
     0x8000: ("AdditionalAddressFamily", family_read),
+    0x0018: ("EvenPort", even_port_read),
+    0x0022: ("ReservationToken", number_read(8, same, lambda it: [it])),
+    0x8001: ("AddressErrorCode", address_error_read),
     0x000C: ("ChannelNumber", number_read(4, lambda it: it[:2] + bytes(2), lambda it: decimal(it[:2]))),
     0x002A: ("ConnectionId", number_read(4, same, decimal)),
     0x0012: ("XorPeerAddress", peer_read),
@@ -411,6 +447,22 @@ def address_values():
         yield from ((kind, bytes.fromhex(it)) for it in others)
 
 
+def port_values():
+    """Values of EVEN-PORT, of RESERVATION-TOKEN and of ADDRESS-ERROR-CODE: each bit alone that is not looked at, both
+    families and others, codes at the ends of their range and outside it, no UTF-8, and lengths that are not lawful."""
+    for bits in (0x80, 0x00, 0xFF, 0x7F, 0x40, 0x01, 0x81):
+        yield 0x0018, bytes([bits])
+    yield from ((0x0018, bytes.fromhex(it)) for it in ("", "8000", "0080", "80000000"))
+    for token in RESERVED:
+        yield from ((0x0022, it) for it in (token, token[:-1], token + b"\0"))
+    yield from ((0x0022, it) for it in (b"", b"\1", bytes(16)))
+    for value in ("", "01", "0100", "010004", "ff0004", "01000428", "02000508", "02ff0508", "00000428", "03000428",
+                  "81000428", "ff000428", "01000300", "01000663", "01000664", "01000263", "01000700", "01000c28",
+                  "02000508496e73756666696369656e74204361706163697479", "02000508e9", "03000508e9", "020002c3",
+                  "01000428c3a9", "01000400" + "61" * 763, "01000400" + "61" * 764, "00000400" + "61" * 764):
+        yield 0x8001, bytes.fromhex(value)
+
+
 def other_values():
     """Values of texts, errors, lists, digests and data."""
     for kind, most in TEXTS.items():
@@ -434,11 +486,14 @@ def other_values():
 
 
 def attributes_read():
+    part("EVEN-PORT, RESERVATION-TOKEN and ADDRESS-ERROR-CODE, and why a value is none of one")
+    for kind, value in port_values():
+        raw(attribute(kind, value), NUMBER)
     part("raw attributes, each of which is of one type at most, and why it is not")
     for kind, value in (*fixed_values(), *address_values(), *other_values()):
         raw(attribute(kind, value), NUMBER)
     part("types that nothing names; the last that has to be understood, and the first that has not")
-    for kind in (0x0000, 0x0001, 0x0018, 0x0024, 0x7FFF, 0x8029, 0xFFFF):
+    for kind in (0x0000, 0x0002, 0x0030, 0x7FFF, 0x8030, 0xFFFF):
         raw(attribute(kind, b"\1\2\3"))
     part("padding and what follows is not looked at; too few bytes")
     raw(bytes.fromhex("0013000107ffffff"))
@@ -502,6 +557,7 @@ def rows():
     numbers_made()
     algorithms_made()
     digests_made()
+    ports_made()
     unknown_made()
     attributes_read()
     checks()

@@ -134,6 +134,7 @@ def attributes_of(data):
 
 # the types that have rows of their own
 LOOKED = [
+    0x0018, 0x0022, 0x8001,
     0x0006, 0x0009, 0x000C, 0x000D, 0x0012, 0x0013, 0x0014, 0x0015, 0x0017, 0x0019, 0x001D, 0x0020, 0x8000, 0x8002,
     0x8004, 0x8028,
 ]
@@ -216,6 +217,8 @@ def endings():
 def typed_looks():
     part("each type in a message of its own, with all that is not looked at set; twice where it may be")
     for kind, value in (
+        (0x18, "ff"), (0x18, ""), (0x22, "0123456789abcdef"), (0x22, "00"), (0x8001, "02ff050846756c6c"),
+        (0x8001, "00"),
         (0x06, "75736572"), (0x09, "ffff06636f6464"), (0x0C, "1234ffff"), (0x0D, "00000258"),
         (0x12, "09e1e242ea12d547"), (0x12, "ff01e242ea12d547"), (0x12, "0002bd522112a442ade0b876903df1a0e56a5d41"),
         (0x13, "0505050505"), (0x13, ""), (0x17, "02ffffff"), (0x17, "03000000"), (0x19, "110180ff"),

@@ -22,10 +22,13 @@ use stun_types_integrity::integrity_sha512::MessageIntegritySha512;
 use stun_types_wire::error::StunWriteError;
 use stun_types_write::attribute::{AttributeFromRaw, AttributeWrite, written_and_read};
 use turn_types_attributes::additional_address_family::AdditionalAddressFamily;
+use turn_types_attributes::address_error_code::AddressErrorCode;
 use turn_types_attributes::dont_fragment::DontFragment;
+use turn_types_attributes::even_port::EvenPort;
 use turn_types_attributes::lifetime::Lifetime;
 use turn_types_attributes::requested_address_family::RequestedAddressFamily;
 use turn_types_attributes::requested_transport::RequestedTransport;
+use turn_types_attributes::reservation_token::ReservationToken;
 use turn_types_attributes::xor_relayed_address::XorRelayedAddress;
 use turn_types_peer::channel_number::ChannelNumber;
 use turn_types_peer::connection_id::ConnectionId;
@@ -88,6 +91,7 @@ pub(crate) fn ask(line: &mut Line<'_>, kind: &str) {
         "mapped" | "relayed" | "peer" | "server" => address(line, kind),
         "unknown-attributes" => unknown(line),
         "password-algorithm" | "password-algorithms" => algorithms(line, kind),
+        "even-port" | "reservation-token" | "address-error-code" => port(line, kind),
         "integrity" | "integrity-sha256" | "integrity-sha512" | "fingerprint" | "data" => {
             bytes(line, kind);
         }
@@ -124,6 +128,32 @@ fn error(line: &mut Line<'_>, has_reason: bool) {
     } else {
         made(line, ErrorCode::builder(code).build(alloc));
         line.say(&ErrorCode::default_reason_for_code(code));
+    }
+}
+
+/// Makes an attribute about a relayed port or the lack of an address: `even-port reserve` and
+/// `even-port -`, `reservation-token BYTES`, `address-error-code FAMILY CODE TEXT`.
+fn port(line: &mut Line<'_>, kind: &str) {
+    match kind {
+        "even-port" => {
+            let reserves_next = line.word() == "reserve";
+            made(line, Ok(EvenPort::new(reserves_next)));
+        }
+        "reservation-token" => {
+            let bytes = line.bytes();
+            match bytes.as_slice().first_chunk::<8>() {
+                Some(token) => made(line, Ok(ReservationToken::new(*token))),
+                None => line.is_bad = true,
+            }
+        }
+        _ => {
+            let (family, code) = (family_of(line.word()), line.value(0));
+            let (reason, alloc) = (line.text(), line.alloc);
+            made(
+                line,
+                AddressErrorCode::new(alloc, family, code, reason.as_str()),
+            );
+        }
     }
 }
 

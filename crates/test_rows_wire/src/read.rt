@@ -28,10 +28,13 @@ use stun_types_wire::registry::BINDING;
 use stun_types_wire::transaction::TransactionId;
 use stun_types_write::attribute::{AttributeFromRaw, AttributeStaticType, AttributeWrite};
 use turn_types_attributes::additional_address_family::AdditionalAddressFamily;
+use turn_types_attributes::address_error_code::AddressErrorCode;
 use turn_types_attributes::dont_fragment::DontFragment;
+use turn_types_attributes::even_port::EvenPort;
 use turn_types_attributes::lifetime::Lifetime;
 use turn_types_attributes::requested_address_family::RequestedAddressFamily;
 use turn_types_attributes::requested_transport::RequestedTransport;
+use turn_types_attributes::reservation_token::ReservationToken;
 use turn_types_attributes::xor_relayed_address::XorRelayedAddress;
 use turn_types_peer::channel_number::ChannelNumber;
 use turn_types_peer::connection_id::ConnectionId;
@@ -61,6 +64,7 @@ pub(crate) fn raw(line: &mut Line<'_>) {
             as_list(line, &raw);
             as_decoded(line, &raw);
             as_peer(line, &raw, number);
+            as_port(line, &raw);
             owned(line, raw);
         }
         Err(error) => line.say(&error),
@@ -169,6 +173,28 @@ fn as_peer(line: &mut Line<'_>, raw: &RawAttribute<'_>, transaction_id: Transact
     }
 }
 
+/// Reads a raw attribute as each type about a relayed port or the lack of an address, and prints
+/// the value.
+fn as_port(line: &mut Line<'_>, raw: &RawAttribute<'_>) {
+    line.read("EvenPort", EvenPort::try_from(raw));
+    if let Ok(port) = EvenPort::try_from(raw) {
+        line.say(&port.reserves_next());
+    }
+    line.read("ReservationToken", ReservationToken::try_from(raw));
+    if let Ok(reservation) = ReservationToken::try_from(raw) {
+        line.hex(reservation.token());
+    }
+    line.read(
+        "AddressErrorCode",
+        AddressErrorCode::from_raw_ref(line.alloc, raw),
+    );
+    if let Ok(error) = AddressErrorCode::from_raw_ref(line.alloc, raw) {
+        line.say(&error.family());
+        line.say(&error.code());
+        line.hex(error.reason().as_bytes());
+    }
+}
+
 /// `check TYPE to=N but=N BYTES`: checks a raw attribute against a type and the bounds of its
 /// length. `to` is an inclusive bound, `but` an exclusive one, and `-` means no bound.
 pub(crate) fn check(line: &mut Line<'_>) {
@@ -248,10 +274,13 @@ fn typed(line: &mut Line<'_>, message: &Message<'_>, atype: AttributeType, count
         0x0014 => nth::<Realm>(line, message, count),
         0x0015 => nth::<Nonce>(line, message, count),
         0x0017 => nth::<RequestedAddressFamily>(line, message, count),
+        0x0018 => nth::<EvenPort>(line, message, count),
         0x0019 => nth::<RequestedTransport>(line, message, count),
         0x001D => nth::<PasswordAlgorithm>(line, message, count),
+        0x0022 => nth::<ReservationToken>(line, message, count),
         0x0020 => nth::<XorMappedAddress>(line, message, count),
         0x8000 => nth::<AdditionalAddressFamily>(line, message, count),
+        0x8001 => nth::<AddressErrorCode>(line, message, count),
         0x8002 => nth::<PasswordAlgorithms>(line, message, count),
         0x8004 => nth::<Icmp>(line, message, count),
         0x8028 => nth::<Fingerprint>(line, message, count),
