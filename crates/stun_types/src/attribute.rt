@@ -1,8 +1,10 @@
-//! Attributes (RFC 8489, section 14).
+//! Attributes (RFC 8489, section 14; RFC 8445, section 16.1).
 
 pub use stun_types_add::attribute::Fingerprint;
+pub use stun_types_add::ice::{IceControlled, IceControlling, Priority, UseCandidate};
 pub use stun_types_attributes::alternate_server::AlternateServer;
 pub use stun_types_attributes::error_code::{ErrorCode, ErrorCodeBuilder};
+pub use stun_types_attributes::mapped_address::MappedAddress;
 pub use stun_types_attributes::socket_addr::{MappedSocketAddr, XorSocketAddr};
 pub use stun_types_attributes::unknown_attributes::UnknownAttributes;
 pub use stun_types_attributes::xor_mapped_address::XorMappedAddress;

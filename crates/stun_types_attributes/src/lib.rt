@@ -4,6 +4,7 @@
 
 pub mod alternate_server;
 pub mod error_code;
+pub mod mapped_address;
 mod octets;
 pub mod socket_addr;
 mod type_index;
