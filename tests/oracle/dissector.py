@@ -33,6 +33,8 @@ NAMES = {
     0x8000: "ADDITIONAL-ADDRESS-FAMILY", 0x8001: "ADDRESS-ERROR-CODE", 0x8002: "PASSWORD-ALGORITHMS",
     0x8003: "ALTERNATE-DOMAIN", 0x8004: "ICMP", 0x8022: "SOFTWARE", 0x8023: "ALTERNATE-SERVER",
     0x8028: "FINGERPRINT",
+    0x0001: "MAPPED-ADDRESS", 0x0024: "PRIORITY", 0x0025: "USE-CANDIDATE", 0x8029: "ICE-CONTROLLED",
+    0x802A: "ICE-CONTROLLING",
 }
 TEXTS = {0x0006: 513, 0x0014: 763, 0x0015: 763, 0x8003: 255, 0x8022: 763}
 ALGORITHMS = {1: "MD5", 2: "SHA256", 0xFF12: "SHA512"}
@@ -169,12 +171,23 @@ def turn_in_words(kind, value, mask):
     return in_hex(value)
 
 
+def ice_in_words(kind, value):
+    """The values of RFC 8445, section 16.1; None of another type."""
+    sizes = {0x0024: 4, 0x0025: 0, 0x8029: 8, 0x802A: 8}
+    if kind not in sizes:
+        return None
+    of_length(value, sizes[kind], sizes[kind])
+    if kind == 0x0024:
+        return str(number(value))
+    return "0x" + value.hex() if value else "-"
+
+
 def in_words(kind, value, mask):
     if kind in TEXTS:
         return text(value, TEXTS[kind])
     if kind == 0x0020:
         return address(value, mask)
-    if kind == 0x8023:
+    if kind in (0x0001, 0x8023):
         return address(value, bytes(16))
     if kind == 0x001D:
         of_length(value, 4, 4)
@@ -196,7 +209,7 @@ def in_words(kind, value, mask):
         if len(value) % 4:
             raise Refused("InvalidAttributeData")
         return in_hex(value)
-    return turn_in_words(kind, value, mask) or in_hex(value)
+    return ice_in_words(kind, value) or turn_in_words(kind, value, mask) or in_hex(value)
 
 
 def attribute(kind, value, mask):

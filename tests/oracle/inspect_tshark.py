@@ -139,8 +139,12 @@ def value(kind, field):
     """The value of an attribute; None where tshark doesn't read it. A text is in hex."""
     if kind in TEXTS:
         return "".join(values(field, TEXTS[kind]))
-    if kind in (0x0012, 0x0016, 0x0020, 0x8023):
+    if kind in (0x0001, 0x0012, 0x0016, 0x0020, 0x8023):
         return address(field)
+    if kind == 0x0024:
+        return number(field, "stun.att.priority")
+    if kind in (0x8029, 0x802A):
+        return "".join(values(field, "stun.att.tie-breaker")) or None
     if kind == 0x0009:
         return error(field)
     if kind == 0x000A:
@@ -184,6 +188,8 @@ def alike(kind, words):
         return f"{code} {unescaped(reason)}"
     if kind == 0x0019:
         return words.split(" ")[0]
+    if kind in (0x8029, 0x802A):
+        return words.removeprefix("0x")
     if kind == 0x8004:
         return " ".join(words.split(" ")[:2])
     return words

@@ -1,5 +1,6 @@
 //! One attribute as text: its type, its name and its value.
 
+use crate::ice::push_ice;
 use crate::refusal::Refusal;
 use crate::turn::push_turn;
 use line_io::lower_hex::write_hex;
@@ -9,6 +10,7 @@ use std::net::SocketAddr;
 use stun_types_add::attribute::Fingerprint;
 use stun_types_attributes::alternate_server::AlternateServer;
 use stun_types_attributes::error_code::ErrorCode;
+use stun_types_attributes::mapped_address::MappedAddress;
 use stun_types_attributes::unknown_attributes::UnknownAttributes;
 use stun_types_attributes::xor_mapped_address::XorMappedAddress;
 use stun_types_auth_attributes::algorithm::PasswordAlgorithmValue;
@@ -86,6 +88,7 @@ fn push_read(
         || push_address(text, raw, transaction_id)?
         || push_numbers(alloc, text, raw)?
         || push_digest(alloc, text, raw)?
+        || push_ice(text, raw)?
         || push_turn(alloc, text, raw, transaction_id)?;
     if !is_read {
         push_hex(alloc, text, raw.value())?;
@@ -136,6 +139,7 @@ fn push_address(
             text,
             XorMappedAddress::try_from(raw)?.addr(transaction_id),
         )?,
+        MappedAddress::TYPE => push_addr(text, MappedAddress::try_from(raw)?.addr())?,
         AlternateServer::TYPE => push_addr(text, AlternateServer::try_from(raw)?.server())?,
         _ => return Ok(false),
     }

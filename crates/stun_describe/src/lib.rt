@@ -3,6 +3,7 @@
 #![tactic(auto)]
 
 pub mod attribute;
+pub(crate) mod ice;
 pub mod lines;
 pub mod names;
 pub mod refusal;

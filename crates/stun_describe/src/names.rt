@@ -1,6 +1,7 @@
 //! The names of the parts of a message.
 
 use std::alloc::Global;
+use stun_types_add::ice::{IceControlled, IceControlling, Priority, UseCandidate};
 use stun_types_base::memory::NoMemory;
 use stun_types_wire::algorithm::IntegrityAlgorithm;
 use stun_types_wire::class::MessageClass;
@@ -22,12 +23,13 @@ use turn_types_peer::data::Data;
 use turn_types_peer::icmp::Icmp;
 use turn_types_peer::xor_peer_address::XorPeerAddress;
 
-/// Returns the names of RFC 8489, and those of TURN's methods and attributes (RFC 8656, sections 17
-/// and 18; RFC 6062, section 6).
+/// Returns the names of RFC 8489, those of TURN's methods and attributes (RFC 8656, sections 17 and
+/// 18; RFC 6062, section 6), and those of ICE's attributes (RFC 8445, section 16.1).
 pub fn names(alloc: Global) -> Result<Names, NoMemory> {
     let mut names = Names::new(alloc);
     add_methods(&mut names)?;
     add_attributes(&mut names)?;
+    add_ice_attributes(&mut names)?;
     Ok(names)
 }
 
@@ -66,6 +68,19 @@ fn add_attributes(names: &mut Names) -> Result<(), NoMemory> {
         (AdditionalAddressFamily::TYPE, "ADDITIONAL-ADDRESS-FAMILY"),
         (AddressErrorCode::TYPE, "ADDRESS-ERROR-CODE"),
         (Icmp::TYPE, "ICMP"),
+    ] {
+        names.add_attribute(atype, name)?;
+    }
+    Ok(())
+}
+
+/// Adds the names of ICE's attributes.
+fn add_ice_attributes(names: &mut Names) -> Result<(), NoMemory> {
+    for (atype, name) in [
+        (Priority::TYPE, "PRIORITY"),
+        (UseCandidate::TYPE, "USE-CANDIDATE"),
+        (IceControlled::TYPE, "ICE-CONTROLLED"),
+        (IceControlling::TYPE, "ICE-CONTROLLING"),
     ] {
         names.add_attribute(atype, name)?;
     }
