@@ -1,4 +1,4 @@
-"""Rows of attributes (RFC 8489, section 14; RFC 8656, section 18; RFC 6062, section 6.2)."""
+"""Rows of attributes (RFC 8489, section 14; RFC 8656, section 18; RFC 6062, section 6.2; RFC 8445, section 16.1)."""
 
 import hashlib
 import hmac
@@ -19,7 +19,14 @@ TEXTS = {0x0006: 513, 0x0014: 763, 0x0015: 763, 0x8022: 763, 0x8003: 255}
 TEXT_WORDS = {
     0x0006: "username", 0x0014: "realm", 0x0015: "nonce", 0x8022: "software", 0x8003: "alternate-domain",
 }
-ADDRESSES = {0x0020: "mapped", 0x0016: "relayed", 0x0012: "peer", 0x8023: "server"}
+ADDRESSES = {0x0020: "mapped", 0x0016: "relayed", 0x0012: "peer", 0x8023: "server", 0x0001: "mapped-plain"}
+# those that are not xored
+PLAIN = (0x0001, 0x8023)
+# RFC 8445, section 16.1: the words of ICE's attributes that are a number, and the sizes of the numbers
+ICE_NUMBERS = {0x0024: ("priority", 4), 0x8029: ("ice-controlled", 8), 0x802A: ("ice-controlling", 8)}
+# the PRIORITY and the ICE-CONTROLLED of the request in RFC 5769, section 2.1
+SAMPLE_PRIORITY, SAMPLE_TIE_BREAKER = bytes.fromhex("6e0001ff"), bytes.fromhex("932ff9b151263b36")
+assert int.from_bytes(SAMPLE_PRIORITY, "big") == 1845494271
 FAMILIES = {0x0017: "requested-family", 0x8000: "additional-family"}
 REASONS = {
     300: "Try Alternate", 400: "Bad Request", 401: "Unauthorized", 403: "Forbidden", 420: "Unknown Attribute",
@@ -96,13 +103,13 @@ def bare(address):
 
 
 def addresses_made():
-    part("addresses, xored under a number, and ALTERNATE-SERVER, which is not")
+    part("addresses, xored under a number, and ALTERNATE-SERVER and MAPPED-ADDRESS, which are not")
     others = [(it, SAMPLES, None) for it in ("0.0.0.0:0", "255.255.255.255:65535", "[::]:0")]
     for address, number, value in HIDDEN + others:
         hidden = xored(address, number)
         assert value is None or hidden.hex() == value
         for kind, word in ADDRESSES.items():
-            value = bare(address) if kind == 0x8023 else hidden
+            value = bare(address) if kind in PLAIN else hidden
             row(word, address, number.hex())(*made(kind, value))
 
 
@@ -122,6 +129,15 @@ def numbers_made():
     for kind, word in FAMILIES.items():
         for number, name in ((1, "IPV4"), (2, "IPV6")):
             row(word, name)(*made(kind, bytes([number, 0, 0, 0])))
+
+
+def ice_made():
+    part("ICE's attributes: numbers of 32 and of 64 bits, those of RFC 5769 among them, and one without a value")
+    for kind, (word, size) in ICE_NUMBERS.items():
+        sample = SAMPLE_PRIORITY if kind == 0x0024 else SAMPLE_TIE_BREAKER
+        for value in (bytes(size), b"\xff" * size, sample, bytes(range(1, size + 1)), b"\x80" + bytes(size - 1)):
+            row(word, int.from_bytes(value, "big"))(*made(kind, value))
+    row("use-candidate", "-")(*made(0x0025, b""))
 
 
 ALGORITHMS = {"MD5": (1, "Sha1"), "SHA256": (2, "Sha256"), "SHA512": (0xFF12, "Sha512")}
@@ -277,6 +293,10 @@ def peer_read(value, mask):
     return [*address_read(value, mask), address_of(value, mask)]
 
 
+def plain_read(value, mask):
+    return [*address_read(value, mask), address_of(value, bytes(16))]
+
+
 def error_read(value, _):
     sized(value, 4, 767)
     if not 3 <= value[2] <= 6 or value[3] > 99:
@@ -389,6 +409,11 @@ READ = {
     0x8004: ("Icmp", number_read(
         8, lambda it: b"\0\0" + it[2:], lambda it: [it[2], it[3], int.from_bytes(it[4:], "big")],
     )),
+    0x0001: ("MappedAddress", plain_read),
+    0x0024: ("Priority", number_read(4, same, decimal)),
+    0x0025: ("UseCandidate", number_read(0, same, nothing)),
+    0x8029: ("IceControlled", number_read(8, same, decimal)),
+    0x802A: ("IceControlling", number_read(8, same, decimal)),
 }
 
 
@@ -435,6 +460,15 @@ def fixed_values():
         yield kind, value + b"\0"
         if value:
             yield from ((kind, it) for it in (value[:-1], b""))
+
+
+def ice_values():
+    """Values of ICE's attributes: of the length that is laid down, shorter and longer."""
+    for kind, (_, size) in ICE_NUMBERS.items():
+        sample = SAMPLE_PRIORITY if kind == 0x0024 else SAMPLE_TIE_BREAKER
+        for value in (sample, bytes(size), b"\xff" * size, sample[:-1], sample + b"\0", sample[:1], b"", sample * 2):
+            yield kind, value
+    yield from ((0x0025, value) for value in (b"", b"\0", bytes(4)))
 
 
 def address_values():
@@ -492,6 +526,11 @@ def attributes_read():
     part("raw attributes, each of which is of one type at most, and why it is not")
     for kind, value in (*fixed_values(), *address_values(), *other_values()):
         raw(attribute(kind, value), NUMBER)
+    part("ICE's attributes, and why a value is none of one")
+    for kind, value in ice_values():
+        raw(attribute(kind, value), NUMBER)
+    # the MAPPED-ADDRESS of a BINDING response that coturn 4.6.1 was recorded to send
+    raw(bytes.fromhex("000100080001be087f000001"))
     part("types that nothing names; the last that has to be understood, and the first that has not")
     for kind in (0x0000, 0x0002, 0x0030, 0x7FFF, 0x8030, 0xFFFF):
         raw(attribute(kind, b"\1\2\3"))
@@ -555,6 +594,7 @@ def rows():
     errors_made()
     addresses_made()
     numbers_made()
+    ice_made()
     algorithms_made()
     digests_made()
     ports_made()

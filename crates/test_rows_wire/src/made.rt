@@ -2,8 +2,10 @@
 
 use crate::line::Line;
 use stun_types_add::attribute::Fingerprint;
+use stun_types_add::ice::{IceControlled, IceControlling, Priority, UseCandidate};
 use stun_types_attributes::alternate_server::AlternateServer;
 use stun_types_attributes::error_code::ErrorCode;
+use stun_types_attributes::mapped_address::MappedAddress;
 use stun_types_attributes::unknown_attributes::UnknownAttributes;
 use stun_types_attributes::xor_mapped_address::XorMappedAddress;
 use stun_types_auth_attributes::algorithm::PasswordAlgorithmValue;
@@ -82,19 +84,20 @@ fn written<A: AttributeWrite>(line: &mut Line<'_>, attribute: &A, is_header: boo
 ///
 /// - Texts: `username TEXT`, `realm TEXT`, `nonce TEXT`, `software TEXT` and `alternate-domain
 ///   TEXT`.
-/// - Addresses: `mapped`, `relayed`, `peer` and `server ADDRESS NUMBER`; only the last is not
-///   XORed.
+/// - Addresses: `mapped`, `relayed`, `peer`, `server` and `mapped-plain ADDRESS NUMBER`; the last
+///   two are not XORed.
 pub(crate) fn ask(line: &mut Line<'_>, kind: &str) {
     match kind {
         "username" | "realm" | "nonce" | "software" | "alternate-domain" => text(line, kind),
         "error-code" | "error-reason" => error(line, kind == "error-reason"),
-        "mapped" | "relayed" | "peer" | "server" => address(line, kind),
+        "mapped" | "relayed" | "peer" | "server" | "mapped-plain" => address(line, kind),
         "unknown-attributes" => unknown(line),
         "password-algorithm" | "password-algorithms" => algorithms(line, kind),
         "even-port" | "reservation-token" | "address-error-code" => port(line, kind),
         "integrity" | "integrity-sha256" | "integrity-sha512" | "fingerprint" | "data" => {
             bytes(line, kind);
         }
+        "priority" | "use-candidate" | "ice-controlled" | "ice-controlling" => ice(line, kind),
         _ => number(line, kind),
     }
 }
@@ -164,6 +167,7 @@ fn address(line: &mut Line<'_>, kind: &str) {
         "mapped" => made(line, Ok(XorMappedAddress::new(addr, number))),
         "relayed" => made(line, Ok(XorRelayedAddress::new(addr, number))),
         "peer" => made(line, Ok(XorPeerAddress::new(addr, number))),
+        "mapped-plain" => made(line, Ok(MappedAddress::new(addr))),
         _ => made(line, Ok(AlternateServer::new(addr))),
     }
 }
@@ -190,6 +194,18 @@ fn number(line: &mut Line<'_>, kind: &str) {
             made(line, Ok(Userhash::new(hash)));
         }
         _ => line.is_bad = true,
+    }
+}
+
+/// Makes an attribute of ICE: `priority N`, `use-candidate`, `ice-controlled N` and
+/// `ice-controlling N`.
+fn ice(line: &mut Line<'_>, kind: &str) {
+    let one = line.word();
+    match kind {
+        "priority" => made(line, Ok(Priority::new(one.parse().unwrap_or(0)))),
+        "ice-controlled" => made(line, Ok(IceControlled::new(one.parse().unwrap_or(0)))),
+        "ice-controlling" => made(line, Ok(IceControlling::new(one.parse().unwrap_or(0)))),
+        _ => made(line, Ok(UseCandidate::new())),
     }
 }
 

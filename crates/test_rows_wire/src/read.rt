@@ -5,8 +5,10 @@ use std::boxed::BoxedSlice;
 use std::convert::TryFrom;
 use std::ops::Bound;
 use stun_types_add::attribute::Fingerprint;
+use stun_types_add::ice::{IceControlled, IceControlling, Priority, UseCandidate};
 use stun_types_attributes::alternate_server::AlternateServer;
 use stun_types_attributes::error_code::ErrorCode;
+use stun_types_attributes::mapped_address::MappedAddress;
 use stun_types_attributes::socket_addr::{MappedSocketAddr, XorSocketAddr};
 use stun_types_attributes::unknown_attributes::UnknownAttributes;
 use stun_types_attributes::xor_mapped_address::XorMappedAddress;
@@ -46,8 +48,8 @@ use turn_types_peer::xor_peer_address::XorPeerAddress;
 ///
 /// 1. its header;
 /// 2. for each attribute type, the bytes of the attribute that was read, or the error unless it is
-///    a wrong type; for TURN's attributes with a peer, a family or an integer also the decoded
-///    value;
+///    a wrong type; for TURN's attributes with a peer, a family or an integer, for ICE's with an
+///    integer and for MAPPED-ADDRESS also the decoded value;
 /// 3. the raw attribute, and its bytes with an owned value.
 pub(crate) fn raw(line: &mut Line<'_>) {
     let (number, bytes) = (line.transaction(), line.bytes());
@@ -63,6 +65,7 @@ pub(crate) fn raw(line: &mut Line<'_>) {
             as_value(line, &raw);
             as_list(line, &raw);
             as_decoded(line, &raw);
+            as_ice(line, &raw);
             as_peer(line, &raw, number);
             as_port(line, &raw);
             owned(line, raw);
@@ -152,6 +155,27 @@ fn as_decoded(line: &mut Line<'_>, raw: &RawAttribute<'_>) {
     line.read("ConnectionId", ConnectionId::try_from(raw));
     if let Ok(connection) = ConnectionId::try_from(raw) {
         line.say(&connection.id());
+    }
+}
+
+/// Reads a raw attribute as each of ICE's types and as MAPPED-ADDRESS, and prints the value.
+fn as_ice(line: &mut Line<'_>, raw: &RawAttribute<'_>) {
+    line.read("MappedAddress", MappedAddress::try_from(raw));
+    if let Ok(mapped) = MappedAddress::try_from(raw) {
+        line.say(&mapped.addr());
+    }
+    line.read("Priority", Priority::try_from(raw));
+    if let Ok(priority) = Priority::try_from(raw) {
+        line.say(&priority.priority());
+    }
+    line.read("UseCandidate", UseCandidate::try_from(raw));
+    line.read("IceControlled", IceControlled::try_from(raw));
+    if let Ok(controlled) = IceControlled::try_from(raw) {
+        line.say(&controlled.tie_breaker());
+    }
+    line.read("IceControlling", IceControlling::try_from(raw));
+    if let Ok(controlling) = IceControlling::try_from(raw) {
+        line.say(&controlling.tie_breaker());
     }
 }
 
@@ -265,6 +289,7 @@ pub(crate) fn look(line: &mut Line<'_>) {
 /// Reads a message's visible attributes of this type.
 fn typed(line: &mut Line<'_>, message: &Message<'_>, atype: AttributeType, count: usize) {
     match atype.value() {
+        0x0001 => nth::<MappedAddress>(line, message, count),
         0x0006 => nth::<Username>(line, message, count),
         0x0009 => nth::<ErrorCode>(line, message, count),
         0x000C => nth::<ChannelNumber>(line, message, count),
@@ -279,11 +304,15 @@ fn typed(line: &mut Line<'_>, message: &Message<'_>, atype: AttributeType, count
         0x001D => nth::<PasswordAlgorithm>(line, message, count),
         0x0022 => nth::<ReservationToken>(line, message, count),
         0x0020 => nth::<XorMappedAddress>(line, message, count),
+        0x0024 => nth::<Priority>(line, message, count),
+        0x0025 => nth::<UseCandidate>(line, message, count),
         0x8000 => nth::<AdditionalAddressFamily>(line, message, count),
         0x8001 => nth::<AddressErrorCode>(line, message, count),
         0x8002 => nth::<PasswordAlgorithms>(line, message, count),
         0x8004 => nth::<Icmp>(line, message, count),
         0x8028 => nth::<Fingerprint>(line, message, count),
+        0x8029 => nth::<IceControlled>(line, message, count),
+        0x802A => nth::<IceControlling>(line, message, count),
         _ => {}
     }
 }
