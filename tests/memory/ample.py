@@ -6,9 +6,9 @@ The list of calls is made from the sources: of each type, trait and function tha
 of `NoMemory` or of an error with that variant, or an enum with it, and which have an allocator at hand: they are
 told one, change what keeps one, or take a writer. Laws do nothing, and are left out.
 
-`ample.rows` has a row for each: the call; a file in which it stands; a program or a crate of tests; a line of its
-stored input, or an event of a trace, and how the answer to that begins; of a line of a section with the section's
-first word. What reads no lines has to have both texts, in tests both in the source.
+`ample.rows` has a row for each: the call; a file in which it stands; a program; a line of its stored input, or an
+event of a trace, and how the answer to that begins; of a line of a section with the section's first word. What reads
+no lines has to have both texts.
 
 A call without a row, a row without its call, a row that a stored run no longer has, and one whose answer is a refusal
 of memory are wrong, and printed. The last line is `ample: N right, M wrong`, and the exit status 0 where M is 0. With
@@ -151,11 +151,8 @@ def rows():
 
 @cache
 def stored(program):
-    """The stored input and output of a program; of tests their sources."""
+    """The stored input and output of a program."""
     folder = CRATES / program
-    if program == "test_tables":
-        text = "".join(it.read_text(encoding="utf-8") for it in sorted((folder / "src").iterdir()))
-        return text, text
     given = folder / "stdin"
     text = given.read_text(encoding="utf-8", errors="replace") if given.exists() else ""
     return text, (folder / "stdout").read_text(encoding="utf-8", errors="replace")
@@ -188,7 +185,14 @@ def of_lines(given, printed):
     yield from zip([it for it in given.split("\n") if it and it[0] != "#"], printed.split("\n"))
 
 
+def of_last_lines(given, printed):
+    """The lines with their answers, which come behind what is printed of no line."""
+    said = [it for it in given.split("\n") if it and it[0] != "#"]
+    yield from zip(said, printed.split("\n")[:-1][-len(said) :])
+
+
 ANSWERED = {
+    "test_callers": of_last_lines,
     "test_rows_wire": of_lines, "test_rows_client": of_lines, "test_rows_proto": of_sections, "turn_replay": of_traces,
 }
 

@@ -1,5 +1,6 @@
 //! Callers of the libraries, each with a contract of its own. The program calls each of them, and
-//! prints a line or two of what it returns.
+//! prints a line or two of what it returns. Then it makes the calls that lines of standard input
+//! name: which peers are forbidden, and replays by readers and writers that fail.
 #![tactic(auto)]
 
 mod answers;
@@ -8,6 +9,8 @@ mod driven;
 mod line;
 mod message;
 mod payloads;
+mod replaying;
+mod rows;
 mod samples;
 mod served;
 mod streams;
@@ -19,6 +22,7 @@ use crate::client::{begin, process};
 use crate::driven::drive_both;
 use crate::message::{Looked, lifetime, look, sign};
 use crate::payloads::{reach, send, take};
+use crate::rows::take_rows;
 use crate::samples::{PASSWORD, SAMPLE, UNSIGNED};
 use crate::served::{allocate, serve};
 use crate::streams::ask_in_chunks;
@@ -58,7 +62,8 @@ fn main(rt: HostRuntime) -> anyhow::Result<()> {
     begin_client(&rt, rt.alloc())?;
     talk_to_peer(&rt, rt.alloc())?;
     allocate_by_stream(&rt, rt.alloc())?;
-    drive_both(&rt, rt.alloc())
+    drive_both(&rt, rt.alloc())?;
+    take_rows(&rt, rt.alloc())
 }
 
 /// Decodes the sample, and bytes that are no message.

@@ -10,7 +10,7 @@ use Rattle.turn_desk_core.specs.declared.decision.Decision.TheVariants as by
 use Rattle.turn_desk_event.specs.declared.event.ClientCall.{ClientCall}
 use Rattle.turn_desk_event.specs.declared.event.Event.TheVariants.{Call, Draw, ToDesk}
 use Rattle.turn_desk_world.specs.Model.{World}
-use Rattle.test_tables.specs.Driving.{Happened}
+use Rattle.test_driver.specs.Driving.{Happened}
 use Rattle.test_honest_network.specs.Wishes.{IsBrought, IsGiven, IsSimulated, IsSent}
 use Rattle.test_honest_network.specs.declared.asking.TheConstants.{CALLED, TRANSMITTED}
 use Rattle.test_honest_network.specs.declared.asking.Wish.{Wish}

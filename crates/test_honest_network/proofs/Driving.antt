@@ -22,7 +22,7 @@ use Rattle.turn_desk_event.specs.declared.event.Event.TheVariants.{Call, Draw, T
 use Rattle.turn_desk_world.specs.Model.{World}
 use Rattle.turn_desk_world.specs.Runs.{IsRun}
 use Rattle.test_honest_network.specs.Courses.{HasGoneBy, HasStored, IsAnew, IsCourse, IsDrivenTo, IsLed, IsRefreshed, IsRest, IsListed, IsWait}
-use Rattle.test_tables.specs.Driving.{Happened}
+use Rattle.test_driver.specs.Driving.{Happened}
 use Rattle.test_honest_network.specs.Simulations.{HasSimulated}
 use Rattle.test_honest_network.specs.Replies.{IsTaken}
 use Rattle.test_honest_network.specs.declared.simulation.Outcome.TheVariants as outcome

@@ -27,7 +27,7 @@ use Rattle.turn_desk_event.specs.declared.event.Event.TheVariants.{Call, Draw, T
 use Rattle.turn_desk_world.specs.Model.{World}
 use Rattle.turn_desk_world.specs.Runs.{IsRun}
 use Rattle.test_honest_network.specs.Connections.{HasBound, IsRequested, IsGone, IsOpened, link_of}
-use Rattle.test_tables.specs.Driving.{Happened}
+use Rattle.test_driver.specs.Driving.{Happened}
 use Rattle.test_honest_network.specs.Simulations.{HasSimulated}
 use Rattle.test_honest_network.specs.Replies.{HasReplied, IsTaken}
 use Rattle.test_honest_network.specs.declared.tcp_binding.TheConstants.{AGAIN, REQUESTED, MADE, NUMBER, TURNED}

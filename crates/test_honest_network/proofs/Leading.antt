@@ -20,7 +20,7 @@ use Rattle.turn_desk_event.specs.declared.event.Event.{Event}
 use Rattle.turn_desk_event.specs.declared.event.Event.TheVariants.{Draw, ToClient, ToDesk}
 use Rattle.turn_desk_world.specs.Model.{World}
 use Rattle.turn_desk_world.specs.Runs.{IsRun}
-use Rattle.test_tables.specs.Driving.{Happened}
+use Rattle.test_driver.specs.Driving.{Happened}
 use Rattle.test_honest_network.specs.Exchanges.{IsRequested, IsNoReply, IsSent, IsUnsent, SendsNothing}
 use Rattle.test_honest_network.specs.declared.exchange.Carried.TheVariants.{Unanswered, Replied}
 

@@ -1,5 +1,5 @@
 -- The handshake over a network that takes time is a loop of the theorem on a client that a driver calls.
-use Rattle.std.proofs.Common.{◌≡◌, ◌≢◌, ◌<◌, ◌≤◌, ◌+◌, ◌++◌, ◌^◌, ℕ, max, List, [], ◌∷◌, refl, sym, ap, ◌∙◌, subst, arith, inl, inr, Vec, Global}
+use Rattle.std.proofs.Common.{◌≡◌, ◌<◌, ◌≤◌, ◌+◌, ◌++◌, ◌^◌, ℕ, max, List, [], ◌∷◌, refl, sym, ap, ◌∙◌, subst, arith, inl, inr, Vec, Global}
 use Rattle.std.specs.Prelude.{IfOk, Result, Ok, Err}
 use Rattle.std.proofs.lemmas.List.{append-nil}
 use Rattle.std.specs.declared.net.socket_addr.SocketAddr.{SocketAddr}
@@ -9,27 +9,27 @@ use Rattle.stun_types_base.specs.declared.transmit.Transmit.{Transmit}
 use Rattle.stun_types_base.specs.declared.transport.TransportType.{TransportType}
 use Rattle.stun_types_base.specs.declared.transport.TransportType.TheVariants.{Udp, Tcp}
 use Rattle.stun_proto_server.specs.Server.{Server}
-use Rattle.turn_client_proto_api.specs.Sent.{Sent, sent_of}
+use Rattle.turn_client_proto_api.specs.Sent.{sent_of}
 use Rattle.turn_desk_world_laws.specs.TurnClientProtoStepLaws.Sound.{IsWhole}
 use Rattle.turn_desk_event.specs.StunProtoTransaction.Schedule.{end_at}
 use Rattle.turn_desk_progress_laws.specs.TurnClientProtoHandshakeLaws.Driving.{client_end}
 use Rattle.turn_desk_progress_laws.specs.TurnClientProtoHandshakeLaws.Stages.{AsksForOne}
 use Rattle.turn_desk_progress_laws.specs.Loops.{AsksFirst, AsksSecond, DrawsAgain, DrawsFirst, DrawsOn, GivesFirst, GivesSecond, IsLoop, IsNext, Leads, Looks, MayBegin, MayPoll, Polls, Position, Timing, after_draw, arrived, counted, start}
-use Rattle.turn_desk_progress_laws.specs.Promises.{HasCome, IsAllocated, IsFresh, events_in}
+use Rattle.turn_desk_progress_laws.specs.Promises.{HasCome, events_in}
 use Rattle.turn_desk_progress_laws.specs.Scripts.{BringsOn, Came, Challenged, Done, Granted, Plan, Progress, Requested, Signed}
 use Rattle.turn_desk_core.specs.declared.decision.Decision.TheVariants as by
 use Rattle.turn_desk_event.specs.declared.answer.Answer.{Answer}
 use Rattle.turn_desk_event.specs.declared.answer.Answer.TheVariants as answer
 use Rattle.turn_desk_event.specs.declared.event.ClientCall.TheVariants as call
 use Rattle.turn_desk_event.specs.declared.event.Event.{Event}
-use Rattle.turn_desk_event.specs.declared.event.Event.TheVariants.{Call, Draw, ToClient, ToDesk}
+use Rattle.turn_desk_event.specs.declared.event.Event.TheVariants.{Draw, ToClient, ToDesk}
 use Rattle.turn_desk_world.specs.Model.{World}
 use Rattle.turn_desk_world.specs.Runs.{IsRun}
-use Rattle.test_tables.specs.Carrying.{HasBrought, HasCome as HasArrived, HasExchanged, HasPassed, HasReturned, IsCutInTwo, IsGiven}
-use Rattle.test_tables.specs.Driving.{Drives, Happened, IsAlike, IsAny, IsDriven, IsQuiet, IsTurn}
-use Rattle.test_tables.specs.declared.carrying.TheConstants.{PAUSE}
-use Rattle.test_tables.specs.declared.network.Network.{Network}
-use Rattle.test_tables.proofs.Parts.{alike_on, in_order, run_on}
+use Rattle.test_driver.specs.Carrying.{HasBrought, HasCome as HasArrived, HasExchanged, HasPassed, HasReturned, IsCutInTwo, IsGiven}
+use Rattle.test_driver.specs.Driving.{Drives, Happened, IsAlike, IsAny, IsDriven, IsQuiet, IsTurn}
+use Rattle.test_driver.specs.declared.carrying.TheConstants.{PAUSE}
+use Rattle.test_driver.specs.declared.network.Network.{Network}
+use Rattle.test_driver.proofs.Parts.{alike_on, in_order, run_on}
 use Rattle.test_honest_network.specs.Latencies.{HasLooped, HasShaken, IfAllocated, IsTimely}
 use Rattle.test_honest_network.specs.Simulations.{plan_of}
 use Rattle.test_honest_network.specs.declared.latency.TheConstants.{PATIENCE}

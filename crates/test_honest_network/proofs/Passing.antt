@@ -8,7 +8,7 @@ use Rattle.turn_desk_core.specs.declared.decision.Decision.TheVariants as by
 use Rattle.turn_desk_event.specs.declared.event.Event.TheVariants.{Draw}
 use Rattle.turn_desk_world.specs.Model.{World}
 use Rattle.test_honest_network.specs.Courses.{IsCourse, IsGiven, IsGranted, IsRefreshed, IsRest, IsListed, IsStill, IsWait, Where}
-use Rattle.test_tables.specs.Driving.{Happened}
+use Rattle.test_driver.specs.Driving.{Happened}
 use Rattle.test_honest_network.specs.Exchanges.{IsRequested}
 use Rattle.test_honest_network.specs.Replies.{IsTaken}
 use Rattle.test_honest_network.specs.declared.simulation.TheConstants.{LIFETIME, SECOND}

@@ -10,7 +10,7 @@ use Rattle.turn_desk_progress_laws.specs.Scripts.{Plan}
 use Rattle.turn_desk_event.specs.declared.answer.Answer.{Answer}
 use Rattle.turn_desk_event.specs.declared.event.Event.TheVariants.{ToClient}
 use Rattle.turn_desk_world.specs.Model.{World}
-use Rattle.test_tables.specs.Driving.{Happened}
+use Rattle.test_driver.specs.Driving.{Happened}
 use Rattle.test_honest_network.specs.Payloads.{HasCome, HasProcessed, IsProcessed, IsReceived, indication, payload, peer}
 use Rattle.test_honest_network.specs.Wishes.{HasPermitted}
 use Rattle.test_honest_network.specs.declared.asking.TheConstants.{TRANSMITTED}

@@ -36,7 +36,7 @@ use Rattle.turn_desk_event.specs.declared.event.ClientCall.{ClientCall}
 use Rattle.turn_desk_event.specs.declared.event.ClientCall.TheVariants.{BindChannel, CreatePermission}
 use Rattle.turn_desk_event.specs.declared.event.Event.{Event}
 use Rattle.turn_desk_event.specs.declared.event.Event.TheVariants.{Call, Draw, ToClient, ToDesk}
-use Rattle.test_tables.specs.Driving.{Happened}
+use Rattle.test_driver.specs.Driving.{Happened}
 use Rattle.test_honest_network.specs.Simulations.{HasSimulated, plan_of}
 use Rattle.test_honest_network.specs.Wishes as wish
 use Rattle.test_honest_network.specs.Wishes.{HasRequested, HasBrought, HasGiven, HasSent, IsBound, IsSimulated, IsPermitted}

@@ -20,7 +20,7 @@ use Rattle.turn_desk_event.specs.declared.event.Event.{Event}
 use Rattle.turn_desk_event.specs.declared.event.Event.TheVariants.{Call, Draw, ToClient}
 use Rattle.turn_desk_world.specs.Model.{World}
 use Rattle.turn_desk_world.specs.Runs.{IsRun}
-use Rattle.test_tables.specs.Driving.{Happened}
+use Rattle.test_driver.specs.Driving.{Happened}
 use Rattle.test_honest_network.specs.Exchanges.{IsAnswered}
 use Rattle.test_honest_network.specs.Simulations.{HasSimulated}
 use Rattle.test_honest_network.specs.Replies.{IsTaken}

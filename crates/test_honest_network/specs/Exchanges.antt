@@ -10,7 +10,7 @@ use Rattle.turn_desk_event.specs.declared.answer.Answer.TheVariants as answer
 use Rattle.turn_desk_core.specs.declared.decision.Decision.{Decision}
 use Rattle.turn_desk_event.specs.declared.event.Event.TheVariants.{Draw, ToClient, ToDesk}
 use Rattle.turn_desk_world.specs.Model.{World}
-use Rattle.test_tables.specs.Driving.{Happened}
+use Rattle.test_driver.specs.Driving.{Happened}
 use Rattle.test_honest_network.specs.declared.exchange.Carried.{Carried}
 use Rattle.test_honest_network.specs.declared.exchange.Carried.TheVariants.{Unsent, Unanswered, Replied}
 

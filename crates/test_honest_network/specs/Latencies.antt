@@ -14,9 +14,9 @@ use Rattle.turn_desk_event.specs.declared.event.Event.{Event}
 use Rattle.turn_desk_event.specs.declared.event.Event.TheVariants.{Draw}
 use Rattle.turn_desk_world.specs.Model.{World}
 use Rattle.turn_desk_world.specs.Runs.{IsRun}
-use Rattle.test_tables.specs.Carrying.{HasBrought, HasExchanged}
-use Rattle.test_tables.specs.Driving.{Happened}
-use Rattle.test_tables.specs.declared.network.Network.{Network}
+use Rattle.test_driver.specs.Carrying.{HasBrought, HasExchanged}
+use Rattle.test_driver.specs.Driving.{Happened}
+use Rattle.test_driver.specs.declared.network.Network.{Network}
 use Rattle.test_honest_network.specs.declared.latency.TheConstants.{PATIENCE}
 use Rattle.test_honest_network.specs.declared.simulation.Outcome.{Outcome}
 use Rattle.test_honest_network.specs.declared.simulation.Outcome.TheVariants as outcome

@@ -12,7 +12,7 @@ use Rattle.turn_desk_world.specs.Runs.{IsStep}
 use Rattle.turn_desk_progress_laws.specs.TurnClientProtoProgressLaws.Holding.{IsDataOf}
 use Rattle.turn_desk_progress_laws.specs.Scripts.{Plan}
 use Rattle.turn_desk_progress_laws.specs.RequestPromises.{IsAnsweredBy}
-use Rattle.test_tables.specs.Driving.{Happened}
+use Rattle.test_driver.specs.Driving.{Happened}
 use Rattle.test_honest_network.specs.Wishes.{HasPermitted}
 use Rattle.test_honest_network.specs.declared.asking.Wish.{Wish}
 use Rattle.test_honest_network.specs.declared.asking.Wish.TheVariants.{Unheld, Held}

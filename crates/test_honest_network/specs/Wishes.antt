@@ -26,7 +26,7 @@ use Rattle.turn_desk_progress_laws.specs.Promises.{HasClient}
 use Rattle.turn_desk_progress_laws.specs.Scripts.{Done, IsScript, Plan, Start}
 use Rattle.turn_desk_progress_laws.specs.Asking.{Got, Idle, IsAskingScript, IsCleanRun, IsRequestOf, Pending, replies_in}
 use Rattle.turn_desk_progress_laws.specs.RequestPromises.{IsChannelHeld, IsPermissionHeld}
-use Rattle.test_tables.specs.Driving.{Happened}
+use Rattle.test_driver.specs.Driving.{Happened}
 use Rattle.test_honest_network.specs.declared.asking.Wish.{Wish}
 use Rattle.test_honest_network.specs.declared.asking.Wish.TheVariants.{Unheld, Held}
 use Rattle.test_honest_network.specs.declared.asking.TheConstants.{CALLED, TRANSMITTED}

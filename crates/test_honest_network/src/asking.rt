@@ -24,7 +24,7 @@ use stun_types_base::instant::Instant;
 use stun_types_base::memory::NoMemory;
 use stun_types_base::transmit::Transmit;
 use stun_types_base::transport::TransportType;
-use test_tables::driving::happen;
+use test_driver::driving::happen;
 use turn_desk_core::decision::Decision;
 use turn_desk_event::answer::Answer;
 use turn_desk_event::event::{ClientCall, Event};

@@ -9,7 +9,7 @@ use stun_types_base::data::Data;
 use stun_types_base::instant::Instant;
 use stun_types_base::memory::NoMemory;
 use stun_types_base::transmit::Transmit;
-use test_tables::driving::happen;
+use test_driver::driving::happen;
 use turn_desk_core::decision::Decision;
 use turn_desk_event::answer::Answer;
 use turn_desk_event::event::Event;

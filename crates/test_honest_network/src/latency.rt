@@ -6,8 +6,8 @@ ghost use Rattle.stun_types_wire.specs.Registry.{longest_text, longest_username}
 ghost use Rattle.turn_desk_world_laws.specs.TurnClientProtoStepLaws.Sound.{IsWhole};
 ghost use Rattle.turn_desk_core.specs.declared.decision.Decision.TheVariants.{Allocate};
 ghost use Rattle.turn_desk_world.specs.Model.{World as WorldModel};
-ghost use Rattle.test_tables.specs.Carrying.{HasExchanged};
-ghost use Rattle.test_tables.specs.declared.network.Network.{Network as NetworkModel};
+ghost use Rattle.test_driver.specs.Carrying.{HasExchanged};
+ghost use Rattle.test_driver.specs.declared.network.Network.{Network as NetworkModel};
 ghost use Rattle.test_honest_network.specs.Latencies.{HasLooped, HasShaken, IfAllocated, IsTimely};
 ghost use Rattle.test_honest_network.specs.Simulations.{plan_of};
 
@@ -16,9 +16,9 @@ use crate::simulation::{LIFETIME, Outcome, decision_for, world_of};
 use std::alloc::Global;
 use std::net::SocketAddr;
 use stun_types_base::memory::NoMemory;
-use test_tables::carrying::{Answered, bring, exchange};
-use test_tables::driving::{MOST_TURNS, happen, wait};
-use test_tables::network::Network;
+use test_driver::carrying::{Answered, bring, exchange};
+use test_driver::driving::{MOST_TURNS, happen, wait};
+use test_driver::network::Network;
 use turn_desk_core::decision::Decision;
 use turn_desk_event::answer::Answer;
 use turn_desk_event::event::Event;

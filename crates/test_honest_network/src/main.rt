@@ -31,7 +31,7 @@ use std::net::{IpAddr, Ipv4Addr, Ipv6Addr, SocketAddr};
 use stun_proto_auth::feature::Feature;
 use stun_types_base::family::AddressFamily;
 use stun_types_base::transport::TransportType;
-use test_tables::requesting::{Kind, Wanted};
+use test_driver::requesting::{Kind, Wanted};
 
 fn main(rt: HostRuntime) -> anyhow::Result<()> {
     for transport in [TransportType::Udp, TransportType::Tcp] {

@@ -7,7 +7,7 @@ ghost use Rattle.stun_types_wire.specs.Types.{class_of};
 ghost use Rattle.turn_client_proto.specs.StunProtoClient.Challenges.{asks_again, challenge_visible};
 ghost use Rattle.turn_desk_event.specs.declared.answer.Answer.TheVariants.{Nothing};
 ghost use Rattle.turn_desk_event.specs.declared.event.Event.TheVariants.{Draw};
-ghost use Rattle.test_tables.specs.Driving.{Happened};
+ghost use Rattle.test_driver.specs.Driving.{Happened};
 ghost use Rattle.test_honest_network.specs.Replies.{IsBrought, IsCall, IsGiven, IsKind, IsPoll, IsReplied, IsTaken};
 
 use std::alloc::Global;
@@ -19,7 +19,7 @@ use stun_types_base::transmit::Transmit;
 use stun_types_message::parsed::Message;
 use stun_types_wire::class::MessageClass;
 use stun_types_wire::registry::{STALE_NONCE, UNAUTHORIZED};
-use test_tables::driving::happen;
+use test_driver::driving::happen;
 use turn_desk_core::decision::Decision;
 use turn_desk_event::answer::Answer;
 use turn_desk_event::event::{ClientCall, Event};

@@ -10,9 +10,9 @@ use crate::setting::Setting;
 use crate::stale::request_stale;
 use std::alloc::Global;
 use std::net::SocketAddr;
-use test_tables::network::Network;
-use test_tables::requesting::Wanted;
-use test_tables::showing::show_seen;
+use test_driver::network::Network;
+use test_driver::requesting::Wanted;
+use test_driver::showing::show_seen;
 
 /// Prints the handshake with each latency.
 pub(crate) fn shake_all(

@@ -9,8 +9,8 @@ use crate::simulation::{Outcome, world_of};
 use crate::tcp_binding::world_of as tcp_world_of;
 use std::alloc::Global;
 use stun_types_base::memory::NoMemory;
-use test_tables::network::Network;
-use test_tables::requesting::{Kind, Wanted, request};
+use test_driver::network::Network;
+use test_driver::requesting::{Kind, Wanted, request};
 use turn_desk_world::world::World;
 
 /// Simulates a client and a server core with these settings. Returns how often the server core

@@ -8,10 +8,13 @@
 //! `tests/oracle/rows_wire.py` generates the lines and the expected output.
 #![tactic(auto)]
 
+mod changed;
 mod frames;
 mod line;
 mod made;
 mod messages;
+mod moved;
+mod names;
 mod objected;
 mod read;
 mod small;
@@ -67,6 +70,11 @@ fn ask(line: &mut Line<'_>, kind: &str) {
         "lent" => messages::lent(line),
         "judge" => messages::judge(line),
         "object" => objected::object(line),
+        "outlive" => changed::outlive(line),
+        "change" => changed::change(line),
+        "change-lent" => changed::change_lent(line),
+        "names" => names::names(line),
+        "moved" => moved::moved(line),
         _ => small::ask(line, kind),
     }
 }

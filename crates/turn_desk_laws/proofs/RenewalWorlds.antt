@@ -1,5 +1,5 @@
 -- How a simulation stands while its client renews an allocation.
-use Rattle.std.proofs.Common.{◌≡◌, ℕ, Bool, true, false, List, [], None, refl, sym, ap, ◌∙◌, subst, inl, inr, arith}
+use Rattle.std.proofs.Common.{◌≡◌, ℕ, Bool, true, false, List, [], ◌∷◌, None, refl, sym, ap, ◌∙◌, subst, inl, inr, arith}
 use Rattle.std.specs.Prelude.{find, IsSome, ◌==◌}
 use Rattle.std.specs.List.{list_any}
 use Rattle.std.specs.FinMap as map
@@ -16,7 +16,7 @@ use Rattle.turn_desk_core.specs.State.{State}
 use Rattle.turn_desk_event.specs.declared.answer.Answer.{Answer}
 use Rattle.turn_desk_event.specs.declared.event.Event.{Event}
 use Rattle.turn_desk_world_laws.specs.World.Model.{World}
-use Rattle.turn_desk_world_laws.specs.World.Runs.{IsStep}
+use Rattle.turn_desk_world_laws.specs.World.Runs.{IsRun, IsStep}
 use Rattle.turn_client_proto_api.specs.Sent.{Sent}
 use Rattle.turn_desk_progress_laws.specs.Joining.{IsSameDesk}
 use Rattle.turn_desk_progress_laws.specs.Links.{Link}
@@ -70,6 +70,11 @@ module _ (plan : Plan) (old : World) where
       anonymous = k.anonymous;
       decodes = λ own. k.announces;
     }))
+
+    pub keeps_run : (pairs : List (Event × Answer)) (w v : World) → IsRun w pairs v → KeepsSettings plan old w.desk → KeepsSettings plan old v.desk
+    unfolding IsRun
+    keeps_run [] w v run k = subst (λ (x : World). KeepsSettings plan old x.desk) (sym run) k
+    keeps_run (pair ∷ pairs) w v run k = keeps_run pairs run.0 v run.2 (keeps_on pair.0 w run.0 pair.1 run.1 k)
 
 -- ---- what is queued
 

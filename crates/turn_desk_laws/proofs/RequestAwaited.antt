@@ -1,5 +1,5 @@
 -- What becomes of a request whose response the client of a simulation awaits.
-use Rattle.std.proofs.Common.{◌≡◌, ℕ, ◌<◌, ◌≤◌, ◌+◌, arith, Bool, true, length, List, [], ◌∷◌, ◌++◌, Option, Some, refl, sym, ap, ◌∙◌, subst, inl, inr}
+use Rattle.std.proofs.Common.{◌≡◌, ℕ, ◌<◌, ◌≤◌, ◌+◌, arith, Bool, true, length, List, [], ◌++◌, Option, Some, refl, sym, ap, ◌∙◌, subst, inl, inr}
 use Rattle.std.specs.Prelude.{Ok, Vec}
 use Rattle.std.specs.declared.alloc.Global.{Global}
 use Rattle.std.specs.Net.Socket.{socket_ip}
@@ -55,7 +55,7 @@ use Rattle.turn_desk_progress_laws.proofs.RequestComing.{asker_waits, data_given
 use Rattle.turn_desk_laws.specs.AwaitedRequests.{IsCallFor}
 use Rattle.turn_desk_laws.specs.RenewalStages.{KeepsSettings}
 use Rattle.turn_desk_laws.specs.RequestLoops.{Again, Before, Got, HasAllocated, HasLastSent, IsAskingLoop, IsDrawOf, IsGiven, IsNext, IsOutstanding, IsQueued, IsQueuedAfter, IsRequestCall, Itself, Pending, RequestPosition, Stage, requested}
-use Rattle.turn_desk_laws.proofs.RenewalWorlds.{keeps_first, keeps_on, serving_of}
+use Rattle.turn_desk_laws.proofs.RenewalWorlds.{keeps_first, keeps_on, keeps_run, serving_of}
 use Rattle.turn_desk_laws.proofs.RequestMade as established
 use Rattle.turn_desk_laws.proofs.RequestQueue.{Given, IsBehind, IsGrown, IsInTime, Left, Next, Owns, Repeats, bind_queue, channel_stands, drawn_behind, drawn_in_time, drawn_last, grown_behind, grown_last, last_on, not_resting, permission_queue, permission_stands}
 use Rattle.turn_desk_laws.proofs.RequestRuns.{DoAsk, IsAtStage, IsDrawnAs, asking, draws_on, gives_so, same_core, waiting}
@@ -238,14 +238,9 @@ module _ (plan : Plan) (old two : World) (address : SocketAddr) (has : HasAlloca
   pub of_it : (Is : Protocol → Type 0) → HasClient plan [] two Is → Is here
   of_it = established.of_it plan old two address has speaks
 
-  keeps_run : (pairs : List (Event × Answer)) (w v : World) → IsRun w pairs v → KeepsSettings plan old w.desk → KeepsSettings plan old v.desk
-  unfolding IsRun
-  keeps_run [] w v run keeps = subst (λ (x : World). KeepsSettings plan old x.desk) (sym run) keeps
-  keeps_run (pair ∷ pairs) w v run keeps = keeps_run pairs run.0 v run.2 (keeps_on plan old has.may pair.0 w run.0 pair.1 run.1 keeps)
-
   -- The server core has its settings still.
   pub keeps_two : KeepsSettings plan old two.desk
-  keeps_two = keeps_run has.second has.between two has.again (keeps_run has.first old has.between has.run (keeps_first plan old has.may))
+  keeps_two = keeps_run plan old has.may has.second has.between two has.again (keeps_run plan old has.may has.first old has.between has.run (keeps_first plan old has.may))
 
   module _ (three : World) (made : ℕ) (request : List ℕ) (beyond : ℕ) (Counts : ℕ → Type 0) (holds_on : HasClient plan [] two (λ p. AreHeldBeyond beyond p.allocations)) (counted : HasClient plan [] two (λ p. Counts p.resends)) (is : IsRequestOf two three request) where
     -- The request of the call is awaited, and queued last.

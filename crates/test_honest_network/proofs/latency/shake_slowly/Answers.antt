@@ -1,6 +1,6 @@
 use Rattle.turn_desk_core.specs.declared.decision.Decision.TheVariants as by
-use Rattle.test_tables.specs.Carrying.{HasBrought}
-use Rattle.test_tables.proofs.Deliveries.{not_forged}
+use Rattle.test_driver.specs.Carrying.{HasBrought}
+use Rattle.test_driver.proofs.Deliveries.{not_forged}
 use Rattle.test_honest_network.proofs.Looped.{brought_alike, shaken_on}
 use Rattle.test_honest_network.proofs.latency.shake_slowly.Goals as goal
 

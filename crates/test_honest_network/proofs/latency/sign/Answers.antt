@@ -1,6 +1,6 @@
 use Rattle.std.proofs.Common.{subst}
 use Rattle.turn_desk_core.specs.declared.decision.Decision.{Decision}
-use Rattle.test_tables.specs.Carrying.{HasExchanged}
+use Rattle.test_driver.specs.Carrying.{HasExchanged}
 use Rattle.test_honest_network.specs.declared.latency.TheConstants.{PATIENCE}
 use Rattle.test_honest_network.proofs.latency.sign.Goals as goal
 

@@ -30,10 +30,9 @@ use Rattle.turn_desk_progress_laws.specs.Scripts.{BringsOn, Plan, Progress}
 use Rattle.turn_desk_progress_laws.specs.Standing.{IsOfSettings}
 use Rattle.turn_desk_progress_laws.proofs.Challenged.{answers_other}
 use Rattle.turn_desk_laws.specs.AwaitedRequests.{CanAnswer, HasCalled, HasQueued, IsRequestAwaited, IsRequestedAgain, IsWithin}
-use Rattle.turn_desk_laws.specs.RenewalStages.{KeepsSettings}
 use Rattle.turn_client_proto_progress_laws.specs.RequestChallenges.{Counted, IsMadeAgain}
 use Rattle.turn_desk_laws.specs.RequestLoops.{Challenged, HasAllocated, IsAskingLoop, IsNext, IsQueued, IsQueuedAfter, IsRequestCall, RequestPosition, requested}
-use Rattle.turn_desk_laws.proofs.RenewalWorlds.{keeps_on}
+use Rattle.turn_desk_laws.proofs.RenewalWorlds.{keeps_on, keeps_run}
 use Rattle.turn_desk_laws.proofs.RequestAwaited.{Held, called_for, do_ask, here, keeps_three, stage_so}
 use Rattle.turn_desk_laws.proofs.RequestMade as established
 use Rattle.turn_client_proto_progress_laws.proofs.RequestChallenged.{challenge_answered}
@@ -152,12 +151,6 @@ module _ (c : goal.After-signed_requests_claim) (plan : Plan) (old three four fi
       challenge_answered plan.client realm address a.wanted request until beyond (Counted challenges) p is_asking c.signed_requests_claim.ensures reply turning.is.reported
       (record { number = turning.is.number_is; visible = turning.is.visible; realm_is = turning.is.of.realm }) 0 (record { choice = a.can.choice; can = answerable; few = omega (arith, counts, few) }) now later early taken.handled taken.core taken.is
 
-  -- The server core has its settings still.
-  keeps_run : (pairs : List (Event × Answer)) (w v : World) → IsRun w pairs v → KeepsSettings plan old w.desk → KeepsSettings plan old v.desk
-  unfolding IsRun
-  keeps_run [] w v run keeps = subst (λ (x : World). KeepsSettings plan old x.desk) (sym run) keeps
-  keeps_run (pair ∷ pairs) w v run keeps = keeps_run pairs run.0 v run.2 (keeps_on plan old a.may pair.0 w run.0 pair.1 run.1 keeps)
-
   again_so : IsRequestedAgain plan old address what request reply later beyond (challenges + 1) four five
   again_so =
       let m = again in
@@ -176,7 +169,7 @@ module _ (c : goal.After-signed_requests_claim) (plan : Plan) (old three four fi
         awaited = record {
           may = a.may;
           can = a.can;
-          keeps = keeps_on plan old a.may (ToClient bytes plan.client.server plan.client.here now) four five ret step (keeps_run third three four on a.keeps);
+          keeps = keeps_on plan old a.may (ToClient bytes plan.client.server plan.client.here now) four five ret step (keeps_run plan old a.may third three four on a.keeps);
           wanted = a.wanted;
           is_for = a.is_for;
           client = record {

@@ -1,4 +1,0 @@
-use Rattle.test_tables.proofs.driving.+drive.Given as goal
-
-abbrev pub decreases-drive : goal.decreases-drive
-decreases-drive l = l.turns

@@ -1,4 +1,0 @@
-use Rattle.test_tables.proofs.driving.+poll_events.Given as goal
-
-abbrev pub decreases-poll_events : goal.decreases-poll_events
-decreases-poll_events l = l.most

@@ -1,4 +1,0 @@
-use Rattle.test_tables.proofs.driving.+wait.Given as goal
-
-abbrev pub decreases-wait : goal.decreases-wait
-decreases-wait l = l.turns
