@@ -22,9 +22,10 @@ from traces_payloads import fingerprinted
 
 ONLY_READ = (
     "stream", "judge", "raw", "check", "plain", "look", "header", "frame", "number", "transport", "family",
-    "causes",
+    "causes", "outlive",
 )
-MESSAGES = ("message", "lent")
+# rows of messages, and which of their words is the first add
+MESSAGES = {"message": 3, "lent": 4, "change": 6, "change-lent": 6}
 # how many words an add has behind its name
 ONE = ("user", "realm", "nonce", "code", "mapped", "zeros", "sign", "sign-short")
 MORE = {"key": 2, **dict.fromkeys(ONE, 1)}
@@ -39,7 +40,7 @@ WHOLE, LOST = b"user:realm:pass", (b":realm:pass", b"user::pass", b"user:realm:"
 
 def adds_of(words):
     """Where the adds of a message's words begin and end."""
-    at, found = 3 if words[0] == "message" else 4, []
+    at, found = MESSAGES[words[0]], []
     while at < len(words):
         end = at + 1 + MORE.get(words[at], 0)
         found.append((at, end))
@@ -52,7 +53,7 @@ def features(words, answer):
     Where zeros fill a message, the others don't count: its bytes are not printed."""
     if words[0] not in MESSAGES:
         return [(words[0], *(it for it in words[-3:] if it in ("-", "bad", "check", "unknown")))]
-    how = words[1] if words[0] == "message" else words[2]
+    how = words[MESSAGES[words[0]] - 2]
     were_fine = [it == "fine" for it in re.findall(r" \d+ (fine|[A-Z])", answer)]
     adds = [words[a:b] if words[a] in ("sign", "key") else [words[a]] for a, b in adds_of(words)]
     fine = [it for it, was_fine in zip(adds, were_fine) if was_fine]
