@@ -1,5 +1,5 @@
 //! The trait of a TURN client's calls, and the types of their parameters and results: settings,
-//! events, errors.
+//! events, errors, and what is sent and received.
 
 ghost use Rattle.std.specs.Prelude.{◌≡◌, ◌≢◌, ◌<◌, ◌^◌, ◌++◌, [], length, true, IfNone, IfOk, OnErr, OnOk, option_to_list};
 ghost use Rattle.std.specs.Option.{option_map};
@@ -24,10 +24,10 @@ pub use crate::getters::{
 use std::convert::AsSlice;
 use std::fmt::Debug;
 use std::net::{IpAddr, SocketAddr};
-use stun_types_base::data::Data;
+pub use stun_types_base::data::Data;
 use stun_types_base::instant::Instant;
 use stun_types_base::memory::NoMemory;
-use stun_types_base::transmit::Transmit;
+pub use stun_types_base::transmit::Transmit;
 use stun_types_base::transport::TransportType;
 pub use turn_client_proto_api::answer::{Socket5Tuple, TurnPollRet, TurnRecvRet};
 pub use turn_client_proto_api::config::TurnConfig;
@@ -37,8 +37,8 @@ pub use turn_client_proto_api::error::{
     TcpConnectError,
 };
 pub use turn_client_proto_api::event::TurnEvent;
-pub use turn_client_proto_api::send::DelayedMessageOrChannelSend;
-use turn_types_frame::build::TransmitBuild;
+pub use turn_client_proto_api::send::{DelayedMessageOrChannelSend, DelayedTransmit};
+pub use turn_types_frame::build::TransmitBuild;
 
 /// The latest time that may be passed to a client's calls: 2^62 nanoseconds after `Instant::ZERO`,
 /// some 146 years.
@@ -430,8 +430,9 @@ pub trait TurnClientApi: Debug + Send {
     /// - A chunk whose first frame is neither a message nor a channel frame is `Handled`, as soon
     ///   as that can be seen.
     /// - If the first frame gives nothing of a peer, the result is the data of the next complete
-    ///   frame of the stream that carries some, as `poll_recv` returns it. If there is none, the
-    ///   result says whether the first frame was for the client.
+    ///   frame of the stream that carries some. If there is none, the result says whether the first
+    ///   frame was for the client. Bytes that are buffered for a bound connection are not looked
+    ///   at: `poll_recv` returns them, before any frame.
     /// - A chunk of no bytes ends the stream, and is `Handled`. After that the stream's bytes are
     ///   `Ignored`. A client that has failed ignores all bytes.
     /// - If the two top bits of a frame are 10 or 11, or a byte of a message's cookie is wrong, the
