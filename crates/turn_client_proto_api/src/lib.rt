@@ -3,6 +3,7 @@
 #![tactic(auto)]
 
 pub mod answer;
+pub mod cause;
 pub mod config;
 pub mod data;
 pub mod error;
