@@ -1,4 +1,4 @@
--- The settings of a TURN client as contracts see them (RFC 8656, sections 7.1, 18.6, 18.8 and 18.11).
+-- The settings of a TURN client as contracts see them (RFC 8656, sections 7.1, 8.3, 18.6, 18.8 and 18.11).
 use Rattle.std.specs.Prelude.{ℕ, Bool, false, List, [], ◌∷◌, Option, None}
 use Rattle.turn_types_attributes.specs.StunTypesIntegrity.Credentials.{NameAndPassword}
 use Rattle.stun_types_wire.specs.declared.algorithm.IntegrityAlgorithm.{IntegrityAlgorithm}
@@ -14,8 +14,8 @@ use Rattle.stun_proto_agent.specs.State.{default_waits}
 
 -- The settings: the user's name and password; the transport of the requested allocation, and the families of
 -- its addresses, in order; the supported integrity algorithms, in order; whether the name is hidden; whether the
--- client is hardened; how many connections may wait while it accepts a further one of a peer; and how long a
--- request waits for its response.
+-- client is hardened; how many connections may wait while it accepts a further one of a peer; whether a REFRESH
+-- may shorten an allocation; and how long a request waits for its response.
 pub record Config : Type 0 where
   pub credentials : NameAndPassword
   pub transport : TransportType
@@ -24,10 +24,12 @@ pub record Config : Type 0 where
   pub anonymous_username : Feature
   pub hardened : Bool
   pub max_connection_attempts : Option ℕ
+  pub short_lifetimes : Bool
   pub waits : Waits
 
 -- The settings of a new client: an allocation over UDP, of one IPv4 address; `Sha1`; the name is hidden if the
--- server supports it; not hardened; no limit on connections of peers; the waits of a new agent.
+-- server supports it; not hardened; no limit on connections of peers; no REFRESH shortens an allocation; the
+-- waits of a new agent.
 abbrev pub default_config : NameAndPassword → Config
 default_config credentials = record {
   credentials = credentials;
@@ -37,5 +39,6 @@ default_config credentials = record {
   anonymous_username = Auto;
   hardened = false;
   max_connection_attempts = None;
+  short_lifetimes = false;
   waits = default_waits;
 }

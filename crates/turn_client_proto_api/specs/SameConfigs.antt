@@ -58,7 +58,8 @@ same_config = eq_of_both (on (λ (c : Config). c.credentials) same_account)
     (eq_of_both (on (λ (c : Config). c.anonymous_username) (feature.eq-value).it)
     (eq_of_both (on (λ (c : Config). c.hardened) same_bool)
     (eq_of_both (on (λ (c : Config). c.max_connection_attempts) (option_eq nat_eq))
-    (on (λ (c : Config). c.waits) same_waits)))))))
+    (eq_of_both (on (λ (c : Config). c.short_lifetimes) same_bool)
+    (on (λ (c : Config). c.waits) same_waits))))))))
 
 pub same_config_equiv : IsEquivalence same_config
 same_config_equiv = and_equiv (on_equiv (λ (c : Config). c.credentials) same_account_equiv)
@@ -68,4 +69,5 @@ same_config_equiv = and_equiv (on_equiv (λ (c : Config). c.credentials) same_ac
     (and_equiv (on_equiv (λ (c : Config). c.anonymous_username) feature_laws.laws-law)
     (and_equiv (on_equiv (λ (c : Config). c.hardened) same_bool_equiv)
     (and_equiv (on_equiv (λ (c : Config). c.max_connection_attempts) (options_equiv nat_eq_equiv))
-    (on_equiv (λ (c : Config). c.waits) same_waits_equiv)))))))
+    (and_equiv (on_equiv (λ (c : Config). c.short_lifetimes) same_bool_equiv)
+    (on_equiv (λ (c : Config). c.waits) same_waits_equiv))))))))

@@ -32,6 +32,7 @@ use turn_types_attributes::credentials::TurnCredentials;
 /// - the allocation that it requests (RFC 8656, section 7.1);
 /// - what it supports and requests when it signs (RFC 8489, section 9.2);
 /// - against which messages it is hardened, and how many connections of peers may wait;
+/// - whether a REFRESH may shorten an allocation (RFC 8656, section 8);
 /// - how long it waits for responses.
 ///
 /// The lists of families and of algorithms are never empty and have no duplicates. In contracts it
@@ -45,6 +46,7 @@ pub struct TurnConfig {
     anonymous_username: Feature,
     hardened: bool,
     max_connection_attempts: Option<usize>,
+    short_lifetimes: bool,
     waits: Option<SetWaits>,
 }
 
@@ -62,6 +64,7 @@ impl Model for TurnConfig {
       anonymous_username = c.anonymous_username;
       hardened = c.hardened;
       max_connection_attempts = c.max_connection_attempts;
+      short_lifetimes = c.short_lifetimes;
       waits = waits_of c.waits;
     } };
 }
@@ -69,8 +72,9 @@ impl Model for TurnConfig {
 impl TurnConfig {
     /// Creates the settings of a client with these credentials, which it takes. They request an
     /// allocation over UDP of one IPv4 address, with `Sha1` as the only algorithm. The name is
-    /// hidden if the server supports it. The client is not hardened, and any number of
-    /// connections that peers open may wait. The waits are those of a new agent.
+    /// hidden if the server supports it. The client is not hardened, any number of connections that
+    /// peers open may wait, and no REFRESH shortens an allocation. The waits are those of a new
+    /// agent.
     pub fn new(credentials: TurnCredentials) -> TurnConfig
         ensures { result ≡ default_config credentials }
     {
@@ -82,6 +86,7 @@ impl TurnConfig {
             anonymous_username: Feature::Auto,
             hardened: false,
             max_connection_attempts: None,
+            short_lifetimes: false,
             waits: None,
         }
     }
@@ -104,6 +109,7 @@ impl TurnConfig {
             anonymous_username: self.anonymous_username,
             hardened: self.hardened,
             max_connection_attempts: self.max_connection_attempts,
+            short_lifetimes: self.short_lifetimes,
             waits: self.waits,
         })
     }
@@ -264,6 +270,31 @@ impl TurnConfig {
         self.max_connection_attempts = max_connection_attempts;
     }
 
+    /// Returns whether a REFRESH may shorten an allocation (`set_short_lifetimes`).
+    pub fn short_lifetimes(&self) -> bool
+        ensures { result ≡ self.now.short_lifetimes }
+    {
+        self.short_lifetimes
+    }
+
+    /// Sets whether a LIFETIME under 600 seconds in the success response to a REFRESH is believed
+    /// (RFC 8656, section 8.3). Off in new settings.
+    ///
+    /// - On: the allocation expires that many seconds after the response, 0 included: then it ends
+    ///   at once. The next REFRESH is sent when half of the lifetime is left if that is 120 seconds
+    ///   or less, else a minute before the expiry.
+    /// - Off: such a response changes nothing. The allocation keeps its earlier expiry, which may
+    ///   be later than the server's, and the request counts as unanswered.
+    ///
+    /// A LIFETIME of 600 or more is believed either way, and so is that of the ALLOCATE response,
+    /// whatever it is. How long before its expiry an allocation is refreshed follows from the
+    /// latest of its believed lifetimes that is under 600, or if none is, from the first.
+    pub fn set_short_lifetimes(&mut self, is_believed: bool)
+        ensures { self.new ≡ record self.old { short_lifetimes = is_believed } }
+    {
+        self.short_lifetimes = is_believed;
+    }
+
     /// Sets how long each request waits for its response (RFC 8489, section 6.2.1).
     ///
     /// - `initial`: the wait after the first transmission. Each further wait is twice as long.
@@ -362,6 +393,7 @@ impl PartialEq for TurnConfig {
             && self.anonymous_username == other.anonymous_username
             && self.hardened == other.hardened
             && is_same_limit(self.max_connection_attempts, other.max_connection_attempts)
+            && self.short_lifetimes == other.short_lifetimes
             && is_same(self.waits, other.waits)
     }
 }
