@@ -16,21 +16,25 @@ second = 1_000_000_000
 abbrev pub renewed_before : ℕ
 renewed_before = 60 * second
 
--- The longest first lifetime, in seconds, that counts as short: such an allocation is refreshed when half of
--- its first lifetime is left.
+-- The longest lifetime, in seconds, of an allocation that is refreshed when half of it is left.
 abbrev pub short_lifetime : ℕ
 short_lifetime = 120
 
--- The least LIFETIME in a REFRESH response, in seconds, that extends an allocation.
+-- The least LIFETIME in a REFRESH response, in seconds, that any client believes.
 abbrev pub least_lifetime : ℕ
 least_lifetime = 600
+
+-- The least LIFETIME in a REFRESH response that is believed, by whether shorter ones than `least_lifetime` are.
+abbrev pub least_of : (short_lifetimes : Bool) → ℕ
+least_of true = 0
+least_of false = least_lifetime
 
 -- An allocation that was granted at `now` for `lifetime` seconds.
 abbrev pub granted : TransportType → SocketAddr → ℕ → ℕ → Allocation
 granted transport address lifetime now = record {
   transport = transport;
   address = address;
-  first_lifetime = lifetime;
+  renewal_lifetime = lifetime;
   expiry = time_after now (lifetime * second);
   is_expired = false;
   permissions = [];
@@ -44,13 +48,14 @@ granted transport address lifetime now = record {
   connections = [];
 }
 
--- How long before its expiry an allocation is refreshed: a minute, or half of a short first lifetime.
+-- How long before its expiry an allocation is refreshed, by the lifetime that decides it: a minute, or half of a
+-- short lifetime.
 abbrev pub ahead : ℕ → ℕ
 ahead lifetime = if nat_le lifetime short_lifetime then lifetime * second / 2 else renewed_before
 
 -- The time from which an allocation is to be refreshed.
 unfoldable pub renewal : Allocation → ℕ
-renewal a = a.expiry - ahead a.first_lifetime
+renewal a = a.expiry - ahead a.renewal_lifetime
 
 -- The lifetime that the first request with this transaction ID requests.
 abbrev pub lifetime_requested : ℕ → List PendingRefresh → Option ℕ
@@ -68,24 +73,34 @@ is_end (Some (suc _)) = false
 unfoldable pub ends_by : ℕ → Allocation → Bool
 ends_by transaction_id a = is_end (lifetime_requested transaction_id a.pending_refreshes)
 
--- The allocation after it was extended to `lifetime` seconds from `now`. It is unchanged if the lifetime is
--- missing or less than `least_lifetime`.
-abbrev pub is_active_for : ℕ → Option ℕ → Allocation → Allocation
-is_active_for now None a = a
-is_active_for now (Some lifetime) a = if nat_le least_lifetime lifetime
-    then record a { expiry = time_after now (lifetime * second); pending_refreshes = [] }
+-- The lifetime that decides how long before its expiry an allocation is refreshed, after a REFRESH gave it
+-- `lifetime` seconds: that lifetime if it is less than `least_lifetime`, else the one that decided before.
+abbrev pub margin_of : (before lifetime : ℕ) → ℕ
+margin_of before lifetime = if nat_le least_lifetime lifetime then before else lifetime
+
+-- The allocation after it was given `lifetime` seconds from `now`. It is unchanged if the lifetime is missing or
+-- less than `least`.
+abbrev pub is_active_for : (least now : ℕ) → Option ℕ → Allocation → Allocation
+is_active_for least now None a = a
+is_active_for least now (Some lifetime) a = if nat_le least lifetime
+    then record a {
+      renewal_lifetime = margin_of a.renewal_lifetime lifetime;
+      expiry = time_after now (lifetime * second);
+      pending_refreshes = [];
+    }
     else a
 
 -- The allocation after a success response with the lifetime `reported` to a REFRESH that requested the lifetime
--- `requested`.
-abbrev pub renewed_by : ℕ → (reported requested : Option ℕ) → Allocation → Allocation
-renewed_by now reported None a = a
-renewed_by now reported (Some zero) a = record a { pending_refreshes = [] }
-renewed_by now reported (Some (suc _)) a = is_active_for now reported a
+-- `requested`. Lifetimes of `least` seconds and more are believed.
+abbrev pub renewed_by : (least now : ℕ) → (reported requested : Option ℕ) → Allocation → Allocation
+renewed_by least now reported None a = a
+renewed_by least now reported (Some zero) a = record a { pending_refreshes = [] }
+renewed_by least now reported (Some (suc _)) a = is_active_for least now reported a
 
 -- The allocation after a success response with the lifetime `reported` to the REFRESH with this transaction ID.
-unfoldable pub renewed : ℕ → ℕ → Option ℕ → Allocation → Allocation
-renewed transaction_id now reported a = renewed_by now reported (lifetime_requested transaction_id a.pending_refreshes) a
+unfoldable pub renewed : (least transaction_id now : ℕ) → Option ℕ → Allocation → Allocation
+renewed least transaction_id now reported a =
+    renewed_by least now reported (lifetime_requested transaction_id a.pending_refreshes) a
 
 -- ---- requests
 

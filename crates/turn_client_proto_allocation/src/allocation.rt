@@ -6,7 +6,7 @@ ghost use Rattle.turn_client_proto_allocation.specs.Awaited.{is_awaited};
 ghost use Rattle.turn_client_proto_allocation.specs.declared.allocation.Allocation.{Allocation};
 ghost use Rattle.turn_client_proto_allocation.specs.declared.refresh.PendingRefresh.{PendingRefresh};
 ghost use Rattle.turn_client_proto_allocation.specs.Polling.{has_ended, next_of, polled, stays};
-ghost use Rattle.turn_client_proto_allocation.specs.Refreshing.{ahead, ended, ends_by, granted, lifetime_requested, refreshing, renewal, renewed, is_active_for, wants_refresh};
+ghost use Rattle.turn_client_proto_allocation.specs.Refreshing.{ahead, ended, ends_by, granted, least_of, lifetime_requested, margin_of, refreshing, renewal, renewed, is_active_for, wants_refresh};
 
 use crate::channel::{Channel, ExpiredChannel, PendingChannel};
 use crate::connection::{
@@ -30,13 +30,20 @@ const RENEWED_BEFORE: u64 = 60_000_000_000;
 /// Half a second, in nanoseconds.
 const HALF_SECOND: u64 = 500_000_000;
 
-/// The longest first lifetime, in seconds, that counts as short: such an allocation is refreshed
-/// when half of its first lifetime is left.
+/// The longest lifetime, in seconds, of an allocation that is refreshed when half of it is left.
 const SHORT_LIFETIME: u32 = 120;
 
-/// The least LIFETIME in a REFRESH response, in seconds, that extends an allocation. A response
-/// with less changes nothing.
+/// The least LIFETIME in a REFRESH response, in seconds, that any client believes.
 const LEAST_LIFETIME: u32 = 600;
+
+/// Returns the least LIFETIME in a REFRESH response, in seconds, that is believed: 0 if short
+/// lifetimes are (`TurnConfig::set_short_lifetimes`), else 600. A response with less changes
+/// nothing.
+pub fn least_of(short_lifetimes: bool) -> u32
+    ensures { result ≡ least_of short_lifetimes }
+{
+    if short_lifetimes { 0 } else { LEAST_LIFETIME }
+}
 
 /// A relayed address at the server, with its permissions, channels and connections, and the
 /// requests that concern it and are not answered.
@@ -46,8 +53,10 @@ pub struct Allocation {
     pub transport: TransportType,
     /// The relayed address.
     pub address: SocketAddr,
-    /// The lifetime that the ALLOCATE response granted, in seconds.
-    pub first_lifetime: u32,
+    /// The lifetime that decides how long before its expiry the allocation is refreshed, in
+    /// seconds: the one that the ALLOCATE response granted, or the latest under 600 that a
+    /// REFRESH response gave it.
+    pub renewal_lifetime: u32,
     /// The time at which the allocation expires.
     pub expiry: Instant,
     /// Whether a call found the allocation to be expired, or its deletion was requested.
@@ -87,7 +96,7 @@ impl Allocation {
         Allocation {
             transport,
             address,
-            first_lifetime: lifetime,
+            renewal_lifetime: lifetime,
             expiry: now.saturating_add(Duration::from_secs(u64::from(lifetime))),
             is_expired: false,
             permissions: ListOf::new(alloc),
@@ -120,13 +129,13 @@ impl Allocation {
 
     /// Returns the time from which the allocation is to be refreshed (RFC 8656, section 8.1).
     ///
-    /// This is 60 s before its expiry. If the first lifetime was 120 s or less, it is half of the
-    /// first lifetime before its expiry.
+    /// This is 60 s before its expiry, or half of its `renewal_lifetime` before it if that is 120 s
+    /// or less.
     #[tactic(auto, unfolding(crate::specs::Refreshing::renewal))]
     pub fn renewal(&self) -> Instant
         ensures { result ≡ renewal self.now }
     {
-        let ahead = ahead(self.first_lifetime);
+        let ahead = ahead(self.renewal_lifetime);
         Instant::from_nanos(self.expiry.as_nanos().saturating_sub(ahead))
     }
 
@@ -169,30 +178,34 @@ impl Allocation {
     /// - No such REFRESH is outstanding: nothing changes.
     /// - It requested lifetime 0: no REFRESH is outstanding any more.
     /// - It requested more: the allocation expires `lifetime` seconds after `now`, and no REFRESH
-    ///   is outstanding any more. If `lifetime` is missing or under 600, nothing changes.
+    ///   is outstanding any more. A lifetime under 600 also decides how long before that expiry it
+    ///   is refreshed. If `lifetime` is missing or under `least` seconds, nothing changes.
     #[tactic(auto, unfolding(crate::specs::Refreshing::renewed))]
     pub(crate) fn renew(
         &mut self,
         transaction_id: TransactionId,
         lifetime: Option<u32>,
+        least: u32,
         now: Instant,
     )
-        ensures { self.new ≡ renewed transaction_id now lifetime self.old }
+        ensures { self.new ≡ renewed least transaction_id now lifetime self.old }
     {
         match self.lifetime_requested(transaction_id) {
             None => {}
             Some(0) => self.pending_refreshes.clear(),
-            Some(_) => self.stand_for(lifetime, now),
+            Some(_) => self.stand_for(lifetime, least, now),
         }
     }
 
     /// Sets the expiry to `lifetime` seconds after `now` and forgets the outstanding REFRESH
-    /// requests. Does nothing if `lifetime` is missing or under 600.
-    fn stand_for(&mut self, lifetime: Option<u32>, now: Instant)
-        ensures { self.new ≡ is_active_for now lifetime self.old }
+    /// requests; a lifetime under 600 also decides how long before that expiry the allocation is
+    /// refreshed. Does nothing if `lifetime` is missing or under `least` seconds.
+    fn stand_for(&mut self, lifetime: Option<u32>, least: u32, now: Instant)
+        ensures { self.new ≡ is_active_for least now lifetime self.old }
     {
         if let Some(lifetime) = lifetime {
-            if lifetime >= LEAST_LIFETIME {
+            if lifetime >= least {
+                self.renewal_lifetime = margin_of(self.renewal_lifetime, lifetime);
                 self.expiry = now.saturating_add(Duration::from_secs(u64::from(lifetime)));
                 self.pending_refreshes.clear();
             }
@@ -291,8 +304,21 @@ impl Allocation {
     }
 }
 
-/// Returns how long before its expiry an allocation with this first lifetime, in seconds, is
-/// refreshed, in nanoseconds.
+/// Returns the lifetime that decides how long before its expiry an allocation is refreshed, after
+/// `before` decided it and a REFRESH gave it `lifetime`, both in seconds: `lifetime` if that is
+/// under 600, else `before`.
+fn margin_of(before: u32, lifetime: u32) -> u32
+    ensures { result ≡ margin_of before lifetime }
+{
+    if lifetime >= LEAST_LIFETIME {
+        before
+    } else {
+        lifetime
+    }
+}
+
+/// Returns how long before its expiry an allocation is refreshed, in nanoseconds, by the lifetime
+/// that decides it, in seconds.
 fn ahead(lifetime: u32) -> u64
     ensures { result ≡ ahead lifetime }
 {

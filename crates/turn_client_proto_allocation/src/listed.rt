@@ -136,12 +136,19 @@ impl Allocations {
     }
 
     /// Handles a success response to the REFRESH with this transaction ID, with its LIFETIME in
-    /// seconds, in each allocation (RFC 8656, section 8.3).
-    pub fn renew(&mut self, transaction_id: TransactionId, lifetime: Option<u32>, now: Instant)
-        ensures { self.new ≡ map (renewed transaction_id now lifetime) self.old }
+    /// seconds, in each allocation (RFC 8656, section 8.3). `least` is the least LIFETIME that is
+    /// believed, in seconds.
+    pub fn renew(
+        &mut self,
+        transaction_id: TransactionId,
+        lifetime: Option<u32>,
+        least: u32,
+        now: Instant,
+    )
+        ensures { self.new ≡ map (renewed least transaction_id now lifetime) self.old }
     {
         for allocation in self.items.iter_mut() {
-            allocation.renew(transaction_id, lifetime, now);
+            allocation.renew(transaction_id, lifetime, least, now);
         }
     }
 

@@ -4,4 +4,4 @@ use Rattle.turn_client_proto_allocation.proofs.listed.Allocations.renew.Given as
 
 -- The elements so far are changed, and the others are as they were.
 abbrev pub invariant-loop-allocation : goal.invariant-loop-allocation
-invariant-loop-allocation l = l.allocation-items ≡ map (renewed l.transaction_id l.now l.lifetime) (take l.allocation-index l.initial.allocation-items) ++ drop l.allocation-index l.initial.allocation-items
+invariant-loop-allocation l = l.allocation-items ≡ map (renewed l.least l.transaction_id l.now l.lifetime) (take l.allocation-index l.initial.allocation-items) ++ drop l.allocation-index l.initial.allocation-items
