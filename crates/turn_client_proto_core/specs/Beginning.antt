@@ -31,5 +31,6 @@ pub record IsNew (transport : TransportType) (here server : SocketAddr) (config 
   pub events : p.events ≡ []
   pub closing : p.closing ≡ []
   pub max_connection_attempts : p.max_connection_attempts ≡ config.max_connection_attempts
+  pub short_lifetimes : p.short_lifetimes ≡ config.short_lifetimes
   pub resends : p.resends ≡ 0
   pub rng : p.rng ≡ of_seed seed

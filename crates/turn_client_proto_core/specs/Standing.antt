@@ -12,7 +12,7 @@ use Rattle.stun_types_wire.specs.Grammar.{number_at}
 use Rattle.stun_types_wire.specs.Registry.{allocation_mismatch_code}
 use Rattle.stun_types_wire.specs.Types.{class_of, method_of}
 use Rattle.turn_types_attributes.specs.TurnRegistry.{channel_bind_method, connect_method, create_permission_method, refresh_method}
-use Rattle.turn_client_proto_allocation.specs.Refreshing.{ends_by, renewed}
+use Rattle.turn_client_proto_allocation.specs.Refreshing.{ends_by, least_of, renewed}
 use Rattle.turn_client_proto_allocation.specs.PendingRequests.{all_reissued_under, pending_request}
 use Rattle.turn_client_proto_allocation.specs.declared.pending.PendingRequest.{PendingRequest}
 use Rattle.turn_client_proto_allocation.specs.declared.pending.PendingRequest.TheVariants.{ChannelRenewal, Lifetime, NewChannel, NewConnection, NewPermission, Renewal}
@@ -85,11 +85,13 @@ unfoldable pub deallocated : Protocol → Protocol
 deallocated p = record p { phase = Ended; allocations = [] }
 
 -- The client after a REFRESH was granted. The allocations are removed if their deletion was requested;
--- otherwise they are renewed.
+-- otherwise they are renewed, for the lifetime that the response reports.
 unfoldable pub refreshed : List ℕ → ℕ → Protocol → Protocol
 refreshed bytes now p =
     if list_any (ends_by (number_at bytes)) p.allocations then deallocated p
-    else record p { allocations = map (renewed (number_at bytes) now (lifetime_reported bytes)) p.allocations }
+    else record p {
+      allocations = map (renewed (least_of p.short_lifetimes) (number_at bytes) now (lifetime_reported bytes)) p.allocations;
+    }
 
 -- The client after the response to a REFRESH.
 unfoldable pub after_refresh : List ℕ → ℕ → Protocol → Protocol

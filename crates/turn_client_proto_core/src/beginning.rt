@@ -37,6 +37,7 @@ impl Protocol {
         let allocates = config.allocation_transport();
         let families = config.requested_families();
         let max_connection_attempts = config.max_connection_attempts();
+        let short_lifetimes = config.short_lifetimes();
         Protocol {
             alloc,
             server: remote,
@@ -51,6 +52,7 @@ impl Protocol {
             events: QueueOf::new(alloc),
             closing: QueueOf::new(alloc),
             max_connection_attempts,
+            short_lifetimes,
             resends: 0,
             rng: ChaCha20Rng::from_seed(seed),
         }

@@ -81,6 +81,8 @@ pub struct Protocol {
     pub closing: QueueOf<SocketAddr>,
     /// The limit on connections of peers (`TurnConfig::set_max_connection_attempts`).
     pub max_connection_attempts: Option<usize>,
+    /// Whether a REFRESH may shorten an allocation (`TurnConfig::set_short_lifetimes`).
+    pub short_lifetimes: bool,
     /// The count of challenges answered since a response was last accepted.
     pub resends: u32,
     /// The generator of the transaction IDs.

@@ -19,6 +19,7 @@ use stun_types_message::parsed::Message;
 use stun_types_wire::class::MessageClass;
 use stun_types_wire::registry::ALLOCATION_MISMATCH;
 use stun_types_wire::transaction::TransactionId;
+use turn_client_proto_allocation::allocation::least_of;
 use turn_client_proto_allocation::pending::{PendingRequest, pending_request, reissue_under};
 use turn_client_proto_connection::reported::answer;
 use turn_client_proto_messages::laws::proof_requests_are_lawful;
@@ -189,8 +190,9 @@ impl Protocol {
             self.phase = Phase::Ended;
             self.allocations.clear();
         } else {
+            let least = least_of(self.short_lifetimes);
             self.allocations
-                .renew(number, lifetime_reported(message), now);
+                .renew(number, lifetime_reported(message), least, now);
         }
     }
 }
