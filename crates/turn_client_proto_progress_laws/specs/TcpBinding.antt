@@ -39,7 +39,7 @@ abbrev pub allocation_with : Holder → List Permission → List PendingPermissi
 allocation_with h permissions pending connecting waiting connections = record {
   transport = Tcp;
   address = h.address;
-  first_lifetime = h.lifetime;
+  renewal_lifetime = h.lifetime;
   expiry = time_after h.since (h.lifetime * second);
   is_expired = false;
   permissions = permissions;

@@ -6,7 +6,7 @@ use Rattle.turn_client_proto_timers.specs.StunTypesBase.Times.{time_after}
 use Rattle.turn_client_proto_timers.specs.TurnRuns.Members.{IsIn}
 use Rattle.turn_client_proto_timers.specs.Allocation.Changes.{change_first}
 use Rattle.turn_client_proto_timers.specs.Allocation.Polling.{has_ended, stored, polled, stays}
-use Rattle.turn_client_proto_timers.specs.Allocation.Refreshing.{deleted, least_lifetime, lifetime_requested, refreshing, renewed, renewed_by, second, is_active_for}
+use Rattle.turn_client_proto_timers.specs.Allocation.Refreshing.{deleted, lifetime_requested, margin_of, refreshing, renewed, renewed_by, second, is_active_for}
 use Rattle.turn_client_proto_timers.specs.Peers.Permission.Asking.{marked}
 use Rattle.turn_client_proto_timers.specs.Peers.Channel.Numbers.{AreDistinct}
 use Rattle.turn_client_proto_timers.proofs.Peers.Distinct.{alike_uses_less, each_stay_distinct, ended_uses_less, first_stay_distinct, stored_stay_distinct}
@@ -76,8 +76,8 @@ marked_less a = record {
 }
 
 -- No REFRESH is awaited any more.
-none_awaited : (a : Allocation) (expiry : ℕ) → IsLess [] a (record a { expiry = expiry; pending_refreshes = [] })
-none_awaited a expiry = record {
+none_awaited : (a : Allocation) (lifetime expiry : ℕ) → IsLess [] a (record a { renewal_lifetime = lifetime; expiry = expiry; pending_refreshes = [] })
+none_awaited a lifetime expiry = record {
   transport = refl;
   address = refl;
   permissions = λ p h. h;
@@ -94,26 +94,26 @@ polled_less : (over : Option ℕ) (a : Allocation) → IsLess [] a (polled over 
 unfolding polled
 polled_less over a =
     elim (has_ended over a.pending_refreshes) as (λ b. IsLess [] a (if b then record a { pending_refreshes = [] } else a)) [
-      | true ↦ none_awaited a a.expiry
+      | true ↦ none_awaited a a.renewal_lifetime a.expiry
       | false ↦ itself [] a
     ]
 
-standing_less : (now : ℕ) (reported : Option ℕ) (a : Allocation) → IsLess [] a (is_active_for now reported a)
-standing_less now None a = itself [] a
-standing_less now (Some lifetime) a =
-    elim (nat_le least_lifetime lifetime) as (λ b. IsLess [] a (if b then record a { expiry = time_after now (lifetime * second); pending_refreshes = [] } else a)) [
-      | true ↦ none_awaited a (time_after now (lifetime * second))
+standing_less : (least now : ℕ) (reported : Option ℕ) (a : Allocation) → IsLess [] a (is_active_for least now reported a)
+standing_less least now None a = itself [] a
+standing_less least now (Some lifetime) a =
+    elim (nat_le least lifetime) as (λ b. IsLess [] a (if b then record a { renewal_lifetime = margin_of a.renewal_lifetime lifetime; expiry = time_after now (lifetime * second); pending_refreshes = [] } else a)) [
+      | true ↦ none_awaited a (margin_of a.renewal_lifetime lifetime) (time_after now (lifetime * second))
       | false ↦ itself [] a
     ]
 
-renewed_less_by : (now : ℕ) (reported requested : Option ℕ) (a : Allocation) → IsLess [] a (renewed_by now reported requested a)
-renewed_less_by now reported None a = itself [] a
-renewed_less_by now reported (Some zero) a = none_awaited a a.expiry
-renewed_less_by now reported (Some (suc n)) a = standing_less now reported a
+renewed_less_by : (least now : ℕ) (reported requested : Option ℕ) (a : Allocation) → IsLess [] a (renewed_by least now reported requested a)
+renewed_less_by least now reported None a = itself [] a
+renewed_less_by least now reported (Some zero) a = none_awaited a a.renewal_lifetime a.expiry
+renewed_less_by least now reported (Some (suc n)) a = standing_less least now reported a
 
-renewed_less : (number now : ℕ) (reported : Option ℕ) (a : Allocation) → IsLess [] a (renewed number now reported a)
+renewed_less : (least number now : ℕ) (reported : Option ℕ) (a : Allocation) → IsLess [] a (renewed least number now reported a)
 unfolding renewed
-renewed_less number now reported a = renewed_less_by now reported (lifetime_requested number a.pending_refreshes) a
+renewed_less least number now reported a = renewed_less_by least now reported (lifetime_requested number a.pending_refreshes) a
 
 -- ---- all of them
 
@@ -140,8 +140,8 @@ module _ (more : List PendingRefresh) (f : Allocation → Allocation) (less : (a
 pub none_less : (old : List Allocation) → AreLess [] old []
 none_less old a listed = absurd listed
 
-pub all_renewed : (number now : ℕ) (reported : Option ℕ) (old : List Allocation) → AreLess [] old (map (renewed number now reported) old)
-all_renewed number now reported old = each_less [] (renewed number now reported) (renewed_less number now reported) old
+pub all_renewed : (least number now : ℕ) (reported : Option ℕ) (old : List Allocation) → AreLess [] old (map (renewed least number now reported) old)
+all_renewed least number now reported old = each_less [] (renewed least number now reported) (renewed_less least number now reported) old
 
 pub all_polled : (over : Option ℕ) (now : ℕ) (old : List Allocation) → AreLess [] old (map (polled over) (stored over now old))
 all_polled over now old a listed =
@@ -162,22 +162,22 @@ polled_alike over a =
       | false ↦ (refl, refl)
     ]
 
-standing_alike : (now : ℕ) (reported : Option ℕ) (a : Allocation) → IsAlike a (is_active_for now reported a)
-standing_alike now None a = (refl, refl)
-standing_alike now (Some lifetime) a =
-    elim (nat_le least_lifetime lifetime) as (λ b. IsAlike a (if b then record a { expiry = time_after now (lifetime * second); pending_refreshes = [] } else a)) [
+standing_alike : (least now : ℕ) (reported : Option ℕ) (a : Allocation) → IsAlike a (is_active_for least now reported a)
+standing_alike least now None a = (refl, refl)
+standing_alike least now (Some lifetime) a =
+    elim (nat_le least lifetime) as (λ b. IsAlike a (if b then record a { renewal_lifetime = margin_of a.renewal_lifetime lifetime; expiry = time_after now (lifetime * second); pending_refreshes = [] } else a)) [
       | true ↦ (refl, refl)
       | false ↦ (refl, refl)
     ]
 
-renewed_alike_by : (now : ℕ) (reported requested : Option ℕ) (a : Allocation) → IsAlike a (renewed_by now reported requested a)
-renewed_alike_by now reported None a = (refl, refl)
-renewed_alike_by now reported (Some zero) a = (refl, refl)
-renewed_alike_by now reported (Some (suc n)) a = standing_alike now reported a
+renewed_alike_by : (least now : ℕ) (reported requested : Option ℕ) (a : Allocation) → IsAlike a (renewed_by least now reported requested a)
+renewed_alike_by least now reported None a = (refl, refl)
+renewed_alike_by least now reported (Some zero) a = (refl, refl)
+renewed_alike_by least now reported (Some (suc n)) a = standing_alike least now reported a
 
-renewed_alike : (number now : ℕ) (reported : Option ℕ) (a : Allocation) → IsAlike a (renewed number now reported a)
+renewed_alike : (least number now : ℕ) (reported : Option ℕ) (a : Allocation) → IsAlike a (renewed least number now reported a)
 unfolding renewed
-renewed_alike number now reported a = renewed_alike_by now reported (lifetime_requested number a.pending_refreshes) a
+renewed_alike least number now reported a = renewed_alike_by least now reported (lifetime_requested number a.pending_refreshes) a
 
 -- Changes that leave channels as they are leave their numbers distinct.
 pub same_distinct : (f : Allocation → Allocation) → ((a : Allocation) → IsAlike a (f a)) → (all : List Allocation) → AreDistinct all → AreDistinct (map f all)
@@ -186,8 +186,8 @@ same_distinct f alike all distinct = each_stay_distinct all f (λ a. alike_uses_
 pub same_first_distinct : (passes : Allocation → Bool) (f : Allocation → Allocation) → ((a : Allocation) → IsAlike a (f a)) → (all : List Allocation) → AreDistinct all → AreDistinct (change_first passes f all)
 same_first_distinct passes f alike all distinct = first_stay_distinct all passes f (λ a found. alike_uses_less a (f a) (alike a).0 (alike a).1) distinct
 
-pub renewed_distinct : (number now : ℕ) (reported : Option ℕ) (all : List Allocation) → AreDistinct all → AreDistinct (map (renewed number now reported) all)
-renewed_distinct number now reported all distinct = same_distinct (renewed number now reported) (renewed_alike number now reported) all distinct
+pub renewed_distinct : (least number now : ℕ) (reported : Option ℕ) (all : List Allocation) → AreDistinct all → AreDistinct (map (renewed least number now reported) all)
+renewed_distinct least number now reported all distinct = same_distinct (renewed least number now reported) (renewed_alike least number now reported) all distinct
 
 pub polled_distinct : (over : Option ℕ) (now : ℕ) (all : List Allocation) → AreDistinct all → AreDistinct (map (polled over) (stored over now all))
 polled_distinct over now all distinct = same_distinct (polled over) (polled_alike over) (stored over now all) (stored_stay_distinct all (stays over now) distinct)

@@ -20,7 +20,7 @@ use Rattle.turn_client_proto_recv.specs.TurnTypesAttributes.TurnRegistry.{channe
 use Rattle.turn_client_proto_timers.specs.TurnRuns.Members.{IsIn}
 use Rattle.turn_client_proto_timers.specs.Allocation.Awaited.{asks_for_permission, has_number}
 use Rattle.turn_client_proto_timers.specs.Allocation.Changes.{change_first}
-use Rattle.turn_client_proto_timers.specs.Allocation.Refreshing.{ends_by, granted, renewed}
+use Rattle.turn_client_proto_timers.specs.Allocation.Refreshing.{ends_by, granted, least_of, renewed}
 use Rattle.turn_client_proto_timers.specs.Allocation.PendingRequests.{pending_request, reissued_under, awaits_reply, permission_too}
 use Rattle.turn_client_proto_timers.specs.Peers.Channel.Granted as channels
 use Rattle.turn_client_proto_timers.specs.Allocation.declared.pending.PendingRequest.{PendingRequest}
@@ -263,10 +263,10 @@ module _ (bytes : List ℕ) (now : ℕ) where
   refreshes : (p : Protocol) → AreOf p.allocations (refreshed bytes now p).allocations
   unfolding refreshed
   refreshes p =
-      let left : List Allocation = map (renewed (number_at bytes) now (lifetime_reported bytes)) p.allocations in
+      let left : List Allocation = map (renewed (least_of p.short_lifetimes) (number_at bytes) now (lifetime_reported bytes)) p.allocations in
       elim (list_any (ends_by (number_at bytes)) p.allocations) as (λ (b : Bool). AreOf p.allocations (if b then deallocated p else record p { allocations = left }).allocations) [
         | true ↦ gone p
-        | false ↦ of_less p.allocations left (all_renewed (number_at bytes) now (lifetime_reported bytes) p.allocations)
+        | false ↦ of_less p.allocations left (all_renewed (least_of p.short_lifetimes) (number_at bytes) now (lifetime_reported bytes) p.allocations)
       ]
 
   refresh_after : (p : Protocol) → AreOf p.allocations (after_refresh bytes now p).allocations

@@ -20,7 +20,7 @@ use Rattle.turn_client_proto_recv.specs.StunProtoClient.declared.validation.Long
 use Rattle.turn_client_proto_recv.specs.StunProtoClient.declared.validation.LongTermClientValidation.TheVariants.{ResendRequest, Validated}
 use Rattle.turn_client_proto_timers.specs.StunProtoAgent.Handling.{is_awaited, is_response}
 use Rattle.turn_client_proto_recv.specs.TurnTypesAttributes.TurnRegistry.{channel_bind_method, connect_method, create_permission_method, refresh_method}
-use Rattle.turn_client_proto_timers.specs.Allocation.Refreshing.{ends_by, renewed}
+use Rattle.turn_client_proto_timers.specs.Allocation.Refreshing.{ends_by, least_of, renewed}
 use Rattle.turn_client_proto_timers.specs.Api.declared.event.TurnEvent.TheVariants.{PermissionCreateFailed}
 use Rattle.turn_client_proto_timers.specs.Allocation.PendingRequests.{pending_request}
 use Rattle.turn_client_proto_timers.specs.Allocation.declared.pending.PendingRequest.{PendingRequest}
@@ -75,16 +75,16 @@ module _ (c : Client) (mid : Protocol) (bytes : List ℕ) (now : ℕ) (under_way
       (quiet None [] c c.transmitted core (counts_none c core under_way.rng) (ended_realm (bytes ∷ []) c.core core refl) adds (nothing_transmitted [] c) under_way.reported)
       (phase_orderly gone Ended tt (allocations_orderly [] (parts_of mid) [] (none_less mid.allocations) (λ r h. absurd h) none_distinct under_way.orderly)) tt
 
-  all_renew : IsRunStep c (bytes ∷ []) None [] (record mid { allocations = map (renewed (number_at bytes) now (lifetime_reported bytes)) mid.allocations })
+  all_renew : IsRunStep c (bytes ∷ []) None [] (record mid { allocations = map (renewed (least_of mid.short_lifetimes) (number_at bytes) now (lifetime_reported bytes)) mid.allocations })
   all_renew =
-      let left : List Allocation = map (renewed (number_at bytes) now (lifetime_reported bytes)) mid.allocations in
+      let left : List Allocation = map (renewed (least_of mid.short_lifetimes) (number_at bytes) now (lifetime_reported bytes)) mid.allocations in
       let core : Protocol = record mid { allocations = left } in
-      let less : AreLess [] mid.allocations left = all_renewed (number_at bytes) now (lifetime_reported bytes) mid.allocations in
+      let less : AreLess [] mid.allocations left = all_renewed (least_of mid.short_lifetimes) (number_at bytes) now (lifetime_reported bytes) mid.allocations in
       let adds = adds_both [] (parts_of c.core) (parts_of mid) (parts_of core) under_way.adds (allocations_less [] [] (parts_of mid) left less (λ r h. absurd h)) in
       run_step [] (bytes ∷ []) None [] c c.transmitted core
       (quiet None [] c c.transmitted core (counts_none c core under_way.rng) under_way.realms adds (nothing_transmitted [] c) under_way.reported)
       (allocations_orderly [] (parts_of mid) left less (λ r h. absurd h)
-      (renewed_distinct (number_at bytes) now (lifetime_reported bytes) mid.allocations under_way.orderly.distinct) under_way.orderly) (until_all mid.phase (record {
+      (renewed_distinct (least_of mid.short_lifetimes) (number_at bytes) now (lifetime_reported bytes) mid.allocations under_way.orderly.distinct) under_way.orderly) (until_all mid.phase (record {
         account = under_way.can_ask.account;
         texts = under_way.can_ask.texts;
         families = under_way.can_ask.families;
@@ -94,7 +94,7 @@ module _ (c : Client) (mid : Protocol) (bytes : List ℕ) (now : ℕ) (under_way
   refresh : IsRunStep c (bytes ∷ []) None [] (refreshed bytes now mid)
   unfolding refreshed
   refresh =
-      elim (list_any (ends_by (number_at bytes)) mid.allocations) as (λ b. IsRunStep c (bytes ∷ []) None [] (if b then deallocated mid else record mid { allocations = map (renewed (number_at bytes) now (lifetime_reported bytes)) mid.allocations })) [
+      elim (list_any (ends_by (number_at bytes)) mid.allocations) as (λ b. IsRunStep c (bytes ∷ []) None [] (if b then deallocated mid else record mid { allocations = map (renewed (least_of mid.short_lifetimes) (number_at bytes) now (lifetime_reported bytes)) mid.allocations })) [
         | true ↦ all_gone
         | false ↦ all_renew
       ]

@@ -22,7 +22,7 @@ use Rattle.turn_client_proto_timers.specs.TurnRuns.Messages as run
 use Rattle.turn_client_proto_timers.specs.Allocation.Awaited.{asks_for_permission, has_number, renews_channel, renews_permission}
 use Rattle.turn_client_proto_timers.specs.Allocation.Changes.{change_first}
 use Rattle.turn_client_proto_timers.specs.Allocation.Permissions as permissions
-use Rattle.turn_client_proto_timers.specs.Allocation.Refreshing.{ends_by, refreshing, renewed}
+use Rattle.turn_client_proto_timers.specs.Allocation.Refreshing.{ends_by, least_of, refreshing, renewed}
 use Rattle.turn_client_proto_timers.specs.Allocation.PendingRequests.{pending_request, reissued_under, awaits_reply, permission_too}
 use Rattle.turn_client_proto_timers.specs.Allocation.Channels as channels
 use Rattle.turn_client_proto_timers.specs.Allocation.declared.pending.PendingRequest.{PendingRequest}
@@ -340,7 +340,7 @@ module _ (Signed : Type 0) (bytes : List ℕ) (now : ℕ) where
   refreshed_rng : (p : Protocol) → (refreshed bytes now p).rng ≡ p.rng
   unfolding refreshed deallocated
   refreshed_rng p =
-      elim (list_any (ends_by (number_at bytes)) p.allocations) as (λ (b : Bool). (if b then deallocated p else record p { allocations = map (renewed (number_at bytes) now (lifetime_reported bytes)) p.allocations }).rng ≡ p.rng) [
+      elim (list_any (ends_by (number_at bytes)) p.allocations) as (λ (b : Bool). (if b then deallocated p else record p { allocations = map (renewed (least_of p.short_lifetimes) (number_at bytes) now (lifetime_reported bytes)) p.allocations }).rng ≡ p.rng) [
         | true ↦ refl
         | false ↦ refl
       ]

@@ -22,7 +22,7 @@ use Rattle.turn_client_proto_messages.proofs.StunProtoClient.Stepping.{step_of}
 use Rattle.turn_client_proto_messages.specs.TurnTypesAttributes.TurnRegistry.{channel_bind_method, connect_method, create_permission_method, refresh_method}
 use Rattle.turn_client_proto_messages.specs.Allocation.Awaited.{asks_for_permission}
 use Rattle.turn_client_proto_messages.specs.Allocation.Changes.{change_first}
-use Rattle.turn_client_proto_messages.specs.Allocation.Refreshing.{ends_by, lifetime_requested, renewed, renewed_by, least_lifetime}
+use Rattle.turn_client_proto_messages.specs.Allocation.Refreshing.{ends_by, least_of, lifetime_requested, renewed, renewed_by}
 use Rattle.turn_client_proto_messages.specs.Allocation.declared.allocation.Allocation.{Allocation}
 use Rattle.turn_client_proto_messages.specs.Allocation.PendingRequests.{pending_request, reissued_under, awaits_reply, permission_too}
 use Rattle.turn_client_proto_step_laws.specs.Peers.Channel.Granted as channel_granted
@@ -119,15 +119,15 @@ again_stay (NewPermission transport ip) old number a = record { transport = refl
 again_stay (Renewal transport ip) old number a = record { transport = refl; address = refl }
 again_stay (NewConnection peer) old number a = record { transport = refl; address = refl }
 
-refreshed_stay : (number now : ℕ) (reported : Option ℕ) → AllStay (renewed number now reported)
+refreshed_stay : (least number now : ℕ) (reported : Option ℕ) → AllStay (renewed least number now reported)
 unfolding renewed
-refreshed_stay number now reported a = by (lifetime_requested number a.pending_refreshes) reported
+refreshed_stay least number now reported a = by (lifetime_requested number a.pending_refreshes) reported
   where
-    by : (lifetime reported : Option ℕ) → Stays a (renewed_by now reported lifetime a)
+    by : (lifetime reported : Option ℕ) → Stays a (renewed_by least now reported lifetime a)
     by None reported = as_it_is a
     by (Some zero) reported = record { transport = refl; address = refl }
     by (Some (suc n)) None = as_it_is a
-    by (Some (suc n)) (Some lifetime) = elim (cases_Bool (nat_le least_lifetime lifetime)) [
+    by (Some (suc n)) (Some lifetime) = elim (cases_Bool (nat_le least lifetime)) [
       | inl enough ↦ rw enough (record { transport = refl; address = refl })
       | inr short ↦ rw short (as_it_is a)
     ]
@@ -219,8 +219,8 @@ module _ (b : Beginning) (realm : List ℕ) (address : SocketAddr) where
     unfolding refreshed
     refreshed_so bytes now = elim (cases_Bool (list_any (ends_by (number_at bytes)) p.allocations)) [
       | inl ends ↦ rw ends gone
-      | inr stays ↦ rw stays (with_allocations (record p { allocations = map (renewed (number_at bytes) now (lifetime_reported bytes)) p.allocations }) (own_agent b realm address p is) refl refl refl refl refl
-          (most_mapped b address (renewed (number_at bytes) now (lifetime_reported bytes)) (refreshed_stay (number_at bytes) now (lifetime_reported bytes)) p.allocations is.one))
+      | inr stays ↦ rw stays (with_allocations (record p { allocations = map (renewed (least_of p.short_lifetimes) (number_at bytes) now (lifetime_reported bytes)) p.allocations }) (own_agent b realm address p is) refl refl refl refl refl
+          (most_mapped b address (renewed (least_of p.short_lifetimes) (number_at bytes) now (lifetime_reported bytes)) (refreshed_stay (least_of p.short_lifetimes) (number_at bytes) now (lifetime_reported bytes)) p.allocations is.one))
     ]
 
     refresh_so : (bytes : List ℕ) (now : ℕ) → Speaking (after_refresh bytes now p)

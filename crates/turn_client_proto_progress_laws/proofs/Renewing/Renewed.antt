@@ -38,7 +38,7 @@ use Rattle.turn_client_proto_handshake_laws.specs.Core.Standing.{IsConnectRespon
 use Rattle.turn_client_proto_handshake_laws.specs.Core.declared.protocol.Phase.{Phase}
 use Rattle.turn_client_proto_handshake_laws.specs.Core.declared.protocol.Protocol.{Protocol}
 use Rattle.turn_client_proto_messages.specs.TurnTypesAttributes.TurnRegistry.{channel_bind_method, connect_method, create_permission_method}
-use Rattle.turn_client_proto_messages.specs.Allocation.Refreshing.{ends_by, is_end, least_lifetime, lifetime_requested, renewed, renewed_by}
+use Rattle.turn_client_proto_messages.specs.Allocation.Refreshing.{ends_by, is_end, least_lifetime, least_of, lifetime_requested, margin_of, renewed, renewed_by}
 use Rattle.turn_client_proto_messages.specs.Allocation.declared.allocation.Allocation.{Allocation}
 use Rattle.turn_client_proto_messages.specs.Allocation.declared.refresh.PendingRefresh.{PendingRefresh}
 use Rattle.turn_client_proto_messages.specs.Api.declared.event.TurnEvent.{TurnEvent}
@@ -48,7 +48,7 @@ use Rattle.turn_client_proto_messages.specs.Requests.{allocation_lifetime}
 use Rattle.turn_client_proto_handshake_laws.specs.Sent.{Beginning}
 use Rattle.turn_client_proto_progress_laws.specs.Keeping.{IsKeeping, IsRefreshing, Term, held_for, next_term}
 use Rattle.turn_client_proto_progress_laws.specs.Refreshed.{IsRenewal, signed_by}
-use Rattle.turn_client_proto_progress_laws.proofs.Renewing.Tools.{none_left, where_false, where_true}
+use Rattle.turn_client_proto_progress_laws.proofs.Renewing.Tools.{least_enough, margin_stays, none_left, where_false, where_true}
 
 module _ (b : Beginning) (c : Choice) (address : SocketAddr) (t : Term) (number made many last : ℕ) (events : List TurnEvent) (p : Protocol) (w : IsRefreshing b c address t number made many last events p)
     (lifetime : ℕ) (bytes : List ℕ) (is : IsRenewal b c number lifetime bytes) (enough : least_lifetime ≤ lifetime) (now : ℕ) (handled : Bool) (q : Protocol) where
@@ -85,21 +85,22 @@ module _ (b : Beginning) (c : Choice) (address : SocketAddr) (t : Term) (number 
   unfolding ends_by
   not_ended = ap is_end its_own
 
-  renewed_so : renewed (number_at bytes) now (Some lifetime) pending ≡ stored
+  renewed_so : (short : Bool) → renewed (least_of short) (number_at bytes) now (Some lifetime) pending ≡ stored
   unfolding renewed
-  renewed_so =
-      ap (λ (o : Option ℕ). renewed_by now (Some lifetime) o pending) its_own
-      ∙ ap (λ (x : Bool). if x then stored else pending) (le-leb least_lifetime lifetime enough)
+  renewed_so short =
+      ap (λ (o : Option ℕ). renewed_by (least_of short) now (Some lifetime) o pending) its_own
+      ∙ (ap (λ (x : Bool). if x then record stored { renewal_lifetime = margin_of t.first lifetime } else pending) (le-leb (least_of short) lifetime (least_enough short lifetime enough))
+      ∙ ap (λ (n : ℕ). record stored { renewal_lifetime = n }) (margin_stays t.first lifetime enough))
 
   after : (k : Protocol) → k.allocations ≡ pending ∷ [] → after_refresh bytes now k ≡ record k { allocations = stored ∷ [] }
   unfolding after_refresh refreshed
   after k same =
       let ok : is_refreshed bytes ≡ true = ap (λ (m : MessageClass). if is_error_class m then is_code allocation_mismatch_code (first_code bytes) else true) is.success in
       ap (λ (x : Bool). if x then refreshed bytes now k else k) ok
-      ∙ (ap (λ (l : List Allocation). if list_any (ends_by (number_at bytes)) l then deallocated k else record k { allocations = map_list (renewed (number_at bytes) now (lifetime_reported bytes)) l }) same
-      ∙ (ap (λ (x : Bool). if x || false then deallocated k else record k { allocations = renewed (number_at bytes) now (lifetime_reported bytes) pending ∷ [] }) not_ended
-      ∙ (ap (λ (o : Option ℕ). record k { allocations = renewed (number_at bytes) now o pending ∷ [] }) is.lifetime_is
-      ∙ ap (λ (x : Allocation). record k { allocations = x ∷ [] }) renewed_so)))
+      ∙ (ap (λ (l : List Allocation). if list_any (ends_by (number_at bytes)) l then deallocated k else record k { allocations = map_list (renewed (least_of k.short_lifetimes) (number_at bytes) now (lifetime_reported bytes)) l }) same
+      ∙ (ap (λ (x : Bool). if x || false then deallocated k else record k { allocations = renewed (least_of k.short_lifetimes) (number_at bytes) now (lifetime_reported bytes) pending ∷ [] }) not_ended
+      ∙ (ap (λ (o : Option ℕ). record k { allocations = renewed (least_of k.short_lifetimes) (number_at bytes) now o pending ∷ [] }) is.lifetime_is
+      ∙ ap (λ (x : Allocation). record k { allocations = x ∷ [] }) (renewed_so k.short_lifetimes))))
 
   -- ---- the client
 

@@ -1,11 +1,13 @@
--- What the proofs of this crate share: choices, and maps of transactions.
-use Rattle.std.proofs.Common.{◌≡◌, ℕ, Bool, true, false, cond, Option, Some, None, refl, sym, ap, ◌∙◌, ◌⊎◌, inl, inr}
+-- What the proofs of this crate share: choices, lifetimes, and maps of transactions.
+use Rattle.std.proofs.Common.{◌≡◌, ◌≤◌, ℕ, Bool, true, false, cond, if◌then◌else◌, Option, Some, None, refl, sym, ap, ◌∙◌, ◌⊎◌, inl, inr, arith}
+use Rattle.std.proofs.lemmas.Bool.{le-leb}
 use Rattle.std.specs.Bool.{MatchBool}
 use Rattle.std.specs.Cmp.{eq_by_cmp_equiv, nat_cmp_total}
 use Rattle.std.specs.FinMap as map
 use Rattle.std.specs.Ordering.{is_eq, nat_cmp}
 use Rattle.turn_client_proto_messages.proofs.StunProtoTransaction.Leasts.{same_number}
 use Rattle.turn_client_proto_messages.specs.StunProtoTransaction.Agents.{Transaction}
+use Rattle.turn_client_proto_messages.specs.Allocation.Refreshing.{least_lifetime, least_of, margin_of}
 use Rattle.turn_client_proto_messages.specs.Api.declared.answer.TurnPollRet.{TurnPollRet}
 use Rattle.turn_client_proto_messages.specs.Api.declared.answer.TurnPollRet.TheVariants as answer
 use Rattle.turn_client_proto_step_laws.specs.Timers.Drawing.{Sends}
@@ -40,6 +42,17 @@ refused_or p now (answer.AllocateTcpSocket connection socket peer) q is = inl is
 refused_or p now (answer.TcpClose near far) q is = inl is
 refused_or p now answer.Closed q is = inl is
 refused_or p now answer.NoMemory q is = inr (refl, is)
+
+-- ---- lifetimes
+
+-- A lifetime of ten minutes or more is believed, whether shorter ones are or not.
+pub least_enough : (short_lifetimes : Bool) (lifetime : ℕ) → least_lifetime ≤ lifetime → least_of short_lifetimes ≤ lifetime
+least_enough true lifetime enough = omega arith
+least_enough false lifetime enough = enough
+
+-- It doesn't change how long before its expiry the allocation is refreshed.
+pub margin_stays : (before lifetime : ℕ) → least_lifetime ≤ lifetime → margin_of before lifetime ≡ before
+margin_stays before lifetime enough = ap (λ (x : Bool). if x then before else lifetime) (le-leb least_lifetime lifetime enough)
 
 -- ---- maps of transactions
 
