@@ -42,6 +42,7 @@ class Settings:
         self.account = name or "-", password or "-"
         self.transport, self.families, self.algorithms = "UDP", ("IPV4",), ("Sha1",)
         self.anonymity, self.is_hardened, self.attempts, self.waits = "Auto", False, None, None
+        self.believes_short = False
         self.words = []
         for it in changes:
             self.words += ["waits", *it] if isinstance(it, tuple) else it.split(" ")
@@ -53,6 +54,9 @@ class Settings:
             return
         if it in ("hardened", "softened"):
             self.is_hardened = it == "hardened"
+            return
+        if it in ("short", "long"):
+            self.believes_short = it == "short"
             return
         if it.startswith("attempts ") or it == "unlimited":
             self.attempts = None if it == "unlimited" else it.split(" ")[1]
@@ -69,7 +73,8 @@ class Settings:
             self.anonymity = name.capitalize()
 
     def told(self):
-        last = ["hardened"] * self.is_hardened + ([] if self.attempts is None else ["attempts", self.attempts])
+        last = ["hardened"] * self.is_hardened + ["short"] * self.believes_short
+        last += [] if self.attempts is None else ["attempts", self.attempts]
         return [*self.account, self.transport, *self.families, *self.algorithms, self.anonymity, *last]
 
     def schedule(self):
@@ -432,6 +437,24 @@ def limited():
         row("settings", "user", "pass", *word.split(" "))("bad line")
 
 
+def short_lived():
+    part("settings with which a REFRESH may shorten an allocation equal their copy, and none with which it may not")
+    alone = settings("short")
+    assert alone == [len(KEPT) - 1]
+    assert settings("hardened", "short") == [len(KEPT) - 1]
+    assert settings("short", "attempts 64") == [len(KEPT) - 1]
+    assert settings("hardened", "short", "attempts 64") == [len(KEPT) - 1]
+    part("what was set last counts")
+    assert settings("long", "short")[:-1] == settings("short", "short")[:-2]
+    assert settings("short", "long") == settings()[:-1]
+    for others in (*([it] for it in OTHERS), OTHERS):
+        first, last = settings("short", *others), settings(*others, "short")
+        assert last[:-1] == first and not {*last} & {*settings(*others)}
+    part("words that mean no such change")
+    for word in ("Short", "short=true", "short 1", "shorter", "long 0"):
+        row("settings", "user", "pass", *word.split(" "))("bad line")
+
+
 def debugs():
     part("what credentials are printed as for who looks for a fault: no password is")
     for name, password, realm in (("user", "pass", "realm"), ("", "", ""), ("a\"b", "secret", "r")):
@@ -445,7 +468,7 @@ def debugs():
 
 
 def main():
-    for made in (no_settings, lists, kinds, agents, errors, payloads, sends, debugs, bad_lines, hardened, limited):
+    for made in (no_settings, lists, kinds, agents, errors, payloads, sends, debugs, bad_lines, hardened, limited, short_lived):
         made()
     write(CRATE)
 

@@ -452,7 +452,7 @@ def refresh_answered(name, text):
 def refreshes_answered():
     yield refresh_answered("A REFRESH is granted without a lifetime: it renews nothing", success(REFRESH, 2))
     yield refresh_answered("A REFRESH is refused: it renews nothing", error(REFRESH, 2))
-    for seconds in (0, 1, 599):
+    for seconds in (0, 1, 70, 599):
         yield refresh_answered(
             f"A REFRESH is granted for {seconds} seconds: it renews nothing", success(REFRESH, 2, lifetime(seconds))
         )
@@ -574,6 +574,7 @@ def good_traces():
     from traces_channel_lifetimes import channel_traces
     from traces_payloads import payload_traces
     from traces_permissions import permission_traces
+    from traces_short_lifetimes import short_traces
     from traces_connections import connection_traces
     from traces_connection_sockets import socket_traces
     from traces_hardened import hardened_traces
@@ -589,7 +590,7 @@ def good_traces():
         last_moment(), nothing_yet(), *first_answered(), request_for_a_response(), default_timeout(),
         *signed_answered(), signed_request(), expired(), stale_allocate(), half_stale(),
         family_unknown(), family_not_supported(), both_families(), refresh_times_out(),
-        *refreshes_answered(), stale_refresh(), stale_refresh_lost(), stale_deletion(),
+        *refreshes_answered(), *short_traces(), stale_refresh(), stale_refresh_lost(), stale_deletion(),
         mismatched_deletion(), *each_setting(), *stranger_traces(), *address_traces(), *permission_traces(),
         *channel_traces(), *payload_traces(), *stream_traces(), *connection_traces(), *socket_traces(),
         *bound_traces(), *attempt_traces(), *limited_traces(), *unanswered_traces(),
@@ -653,6 +654,17 @@ def bad_traces():
         ("behind the word that hardens it, with two numbers", "hardened attempts 1 1"),
     ):
         yield f"A client with the word of its limit, {remark}", f"{MADE[:-1]} {words}\n", "", 2
+    for remark, words in (
+        ("spelled otherwise", "Short"), ("with a letter less", "shor"), ("twice", "short short"),
+        ("and a word behind it", "short 0"), ("before the word that hardens it", "short hardened"),
+        ("behind the word of its limit", "attempts 1 short"), ("between the words of its limit", "attempts short 1"),
+        ("and the word of its limit alone", "short attempts"), ("and a limit that is no number", "short attempts many"),
+        ("twice behind the word that hardens it", "hardened short short"),
+        ("behind the word that hardens it, and the word of its limit alone", "hardened short attempts"),
+        ("behind the word that hardens it, and two limits", "hardened short attempts 1 1"),
+        ("behind the word that hardens it twice", "hardened hardened short"),
+    ):
+        yield f"A client that a REFRESH may shorten, with that word {remark}", f"{MADE[:-1]} {words}\n", "", 2
     yield "A client with the word that hardens it in the place of its seed", MADE[:-3] + " hardened\n", "", 2
     yield "A client with the word that hardens it before its seed", MADE[:-3] + " hardened 0\n", "", 2
     yield "A client over TCP with the word that hardens it twice", TCP[:-1] + " hardened hardened\n", "", 2

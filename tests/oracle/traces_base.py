@@ -190,8 +190,11 @@ def unsigned(kind, k, attributes):
 # ---- traces
 
 
-def setup(families="4", algorithms="sha1", anonymity="auto", desk="sha1 auto", rto="", hardened=False, attempts=None):
-    options = " hardened" * hardened + ("" if attempts is None else f" attempts {attempts}")
+def setup(
+    families="4", algorithms="sha1", anonymity="auto", desk="sha1 auto", rto="", hardened=False, short=False,
+    attempts=None,
+):
+    options = " hardened" * hardened + " short" * short + ("" if attempts is None else f" attempts {attempts}")
     return (
         f"desk realm {desk}\nuser user pass\n{rto}"
         f"client udp {CLIENT} {SERVER} udp {families} {algorithms} {anonymity} user pass 0{options}\n"

@@ -54,6 +54,8 @@ fn change(line: &mut Line<'_>, config: &mut TurnConfig) {
         "softened" => config.set_hardened(false),
         "attempts" => config.set_max_connection_attempts(Some(line.value(0usize))),
         "unlimited" => config.set_max_connection_attempts(None),
+        "short" => config.set_short_lifetimes(true),
+        "long" => config.set_short_lifetimes(false),
         "waits" => wait(line, config),
         word => sign(line, config, word),
     }
@@ -83,7 +85,8 @@ fn sign(line: &mut Line<'_>, config: &mut TurnConfig, word: &str) {
     }
 }
 
-/// Prints settings, `hardened` if they are, and `attempts` with the limit if they have one.
+/// Prints settings, `hardened` if they are, `short` if a REFRESH may shorten an allocation, and
+/// `attempts` with the limit if they have one.
 fn show(line: &mut Line<'_>, config: &TurnConfig) {
     line.say_text(config.credentials().username());
     line.say_text(config.credentials().password());
@@ -98,6 +101,9 @@ fn show(line: &mut Line<'_>, config: &TurnConfig) {
     let _ = write!(line.answer, " {anonymity:?}");
     if config.is_hardened() {
         line.say(&"hardened");
+    }
+    if config.short_lifetimes() {
+        line.say(&"short");
     }
     if let Some(limit) = config.max_connection_attempts() {
         line.say(&"attempts");

@@ -1,5 +1,5 @@
 -- The setup lines of a trace.
-use Rattle.std.specs.Prelude.{ℕ, ◌≡◌, ◌≤◌, ◌*◌, ◌==◌, Bool, true, false, List, [], ◌∷◌, length, codes, Option, Some, None}
+use Rattle.std.specs.Prelude.{ℕ, ◌≡◌, ◌≤◌, ◌*◌, ◌==◌, ◌⊎◌, Bool, true, false, List, [], ◌∷◌, length, codes, Option, Some, None}
 use Rattle.std.specs.Duration.{as_nanos}
 use Rattle.std.specs.List.{slice_split}
 use Rattle.std.specs.Option.{option_map}
@@ -96,15 +96,33 @@ abbrev pub IsLimit : List ℕ → Option ℕ → Type 0
 IsLimit word None = ⊥
 IsLimit word (Some limit) = IsU32 word limit
 
--- The words after the seed: `hardened` or not, and behind it `attempts` and the limit on connections of peers, or
--- not.
-abbrev pub AreOptions : List (List ℕ) → (hardened : Bool) → (attempts : Option ℕ) → Type 0
-AreOptions [] hardened attempts = (hardened ≡ false) × (attempts ≡ None)
-AreOptions (word ∷ []) hardened attempts = (word ≡ codes "hardened") × (hardened ≡ true) × (attempts ≡ None)
-AreOptions (word ∷ limit ∷ []) hardened attempts = (word ≡ codes "attempts") × (hardened ≡ false) × IsLimit limit attempts
-AreOptions (first ∷ word ∷ limit ∷ []) hardened attempts =
-    (first ≡ codes "hardened") × (word ≡ codes "attempts") × (hardened ≡ true) × IsLimit limit attempts
-AreOptions words hardened attempts = ⊥
+-- The word is `hardened` or `short`, and says one of the two.
+abbrev pub IsOption : List ℕ → (hardened short : Bool) → Type 0
+IsOption word hardened short = ((word ≡ codes "hardened") × (hardened ≡ true) × (short ≡ false))
+    ⊎ ((word ≡ codes "short") × (hardened ≡ false) × (short ≡ true))
+
+-- The two words are `hardened` and `short`, and say both.
+abbrev pub AreBoth : List ℕ → List ℕ → (hardened short : Bool) → Type 0
+AreBoth first second hardened short =
+    (first ≡ codes "hardened") × (second ≡ codes "short") × (hardened ≡ true) × (short ≡ true)
+
+-- The word is `attempts`, and the next one spells the limit on connections of peers.
+abbrev pub AreAttempts : List ℕ → List ℕ → (attempts : Option ℕ) → Type 0
+AreAttempts word limit attempts = (word ≡ codes "attempts") × IsLimit limit attempts
+
+-- The words after the seed: `hardened` or not, behind it `short` or not, and behind that `attempts` and the limit
+-- on connections of peers, or not.
+abbrev pub AreOptions : List (List ℕ) → (hardened short : Bool) → (attempts : Option ℕ) → Type 0
+AreOptions [] hardened short attempts = (hardened ≡ false) × (short ≡ false) × (attempts ≡ None)
+AreOptions (word ∷ []) hardened short attempts = IsOption word hardened short × (attempts ≡ None)
+AreOptions (first ∷ second ∷ []) hardened short attempts =
+    (AreBoth first second hardened short × (attempts ≡ None))
+    ⊎ ((hardened ≡ false) × (short ≡ false) × AreAttempts first second attempts)
+AreOptions (first ∷ word ∷ limit ∷ []) hardened short attempts =
+    IsOption first hardened short × AreAttempts word limit attempts
+AreOptions (first ∷ second ∷ word ∷ limit ∷ []) hardened short attempts =
+    AreBoth first second hardened short × AreAttempts word limit attempts
+AreOptions words hardened short attempts = ⊥
 
 -- The words spell the settings of a client with those addresses.
 pub record IsClientOf (local remote families algorithms anonymity name password seed : List ℕ)
@@ -118,7 +136,7 @@ pub record IsClientOf (local remote families algorithms anonymity name password 
   pub bound : length name ≤ MAX_USERNAME
   pub secret : client.password.now ≡ password
   pub transmitted : seed_of seed ≡ Some client.seed
-  pub options : AreOptions more client.hardened client.attempts
+  pub options : AreOptions more client.hardened client.short_lifetimes client.attempts
 
 -- The first five words and the words after them spell the settings of a client.
 abbrev pub IsClientWith : List ℕ → List ℕ → List ℕ → List ℕ → List ℕ → List (List ℕ) → ClientSetup → Type 0

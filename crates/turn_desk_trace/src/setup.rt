@@ -59,6 +59,8 @@ pub struct Client<'a> {
     pub seed: [u8; SEED_LENGTH],
     /// Whether it is hardened.
     pub hardened: bool,
+    /// Whether a REFRESH may shorten its allocations (`TurnConfig::set_short_lifetimes`).
+    pub short_lifetimes: bool,
     /// Its limit on connections of peers (`TurnConfig::set_max_connection_attempts`).
     pub attempts: Option<u32>,
 }
@@ -97,7 +99,7 @@ pub enum Setup<'a> {
         last: Duration,
     },
     /// `client BY LOCAL REMOTE OVER FAMILIES ALGS ANON NAME PASSWORD SEED`, then `hardened` or
-    /// nothing, then `attempts LIMIT` or nothing: adds a client.
+    /// nothing, then `short` or nothing, then `attempts LIMIT` or nothing: adds a client.
     Client {
         /// The transport between the client and the server.
         by: TransportType,
@@ -321,7 +323,7 @@ fn client_of<'a>(
     if name.len() > MAX_USERNAME {
         return None;
     }
-    let (hardened, attempts) = read_options(more)?;
+    let (hardened, short_lifetimes, attempts) = read_options(more)?;
     Some(Client {
         local: read_address(local)?,
         remote: read_address(remote)?,
@@ -332,23 +334,28 @@ fn client_of<'a>(
         password,
         seed: read_seed(seed)?,
         hardened,
+        short_lifetimes,
         attempts,
     })
 }
 
-/// Reads the words after a client's seed: `hardened` or nothing, then `attempts` and a limit or
-/// nothing. Returns whether the client is hardened, and its limit on connections of peers; `None`
-/// for any other words.
-fn read_options(words: &[&str]) -> Option<(bool, Option<u32>)>
-    ensures { MatchOption result ((h : Bool) (a : Option ℕ)
-        → ¬ (AreOptions (map (λ x. x.now) words.entry.now) h a))
-        (λ read. AreOptions (map (λ x. x.now) words.entry.now) read.0 read.1) }
+/// Reads the words after a client's seed: `hardened` or nothing, then `short` or nothing, then
+/// `attempts` and a limit or nothing. Returns whether the client is hardened, whether a REFRESH may
+/// shorten its allocations, and its limit on connections of peers; `None` for any other words.
+fn read_options(words: &[&str]) -> Option<(bool, bool, Option<u32>)>
+    ensures { MatchOption result ((h s : Bool) (a : Option ℕ)
+        → ¬ (AreOptions (map (λ x. x.now) words.entry.now) h s a))
+        (λ read. AreOptions (map (λ x. x.now) words.entry.now) read.0 read.1 read.2) }
 {
     match words {
-        [] => Some((false, None)),
-        ["hardened"] => Some((true, None)),
-        ["attempts", limit] => Some((false, Some(read_u32(limit)?))),
-        ["hardened", "attempts", limit] => Some((true, Some(read_u32(limit)?))),
+        [] => Some((false, false, None)),
+        ["hardened"] => Some((true, false, None)),
+        ["short"] => Some((false, true, None)),
+        ["hardened", "short"] => Some((true, true, None)),
+        ["attempts", limit] => Some((false, false, Some(read_u32(limit)?))),
+        ["hardened", "attempts", limit] => Some((true, false, Some(read_u32(limit)?))),
+        ["short", "attempts", limit] => Some((false, true, Some(read_u32(limit)?))),
+        ["hardened", "short", "attempts", limit] => Some((true, true, Some(read_u32(limit)?))),
         _ => None,
     }
 }

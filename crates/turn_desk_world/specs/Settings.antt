@@ -60,6 +60,7 @@ config_of over client rto =
       anonymous_username = client.anonymity;
       hardened = client.hardened;
       max_connection_attempts = client.attempts;
+      short_lifetimes = client.short_lifetimes;
     })
 
 -- A new client over a transport, with these settings. Over TCP its stream has received nothing.

@@ -140,6 +140,7 @@ fn config_of(
     config.set_anonymous_username(settings.anonymity);
     config.set_hardened(settings.hardened);
     config.set_max_connection_attempts(limit_of(settings.attempts));
+    config.set_short_lifetimes(settings.short_lifetimes);
     wait(&mut config, rto);
     Ok(config)
 }
