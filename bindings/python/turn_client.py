@@ -233,7 +233,11 @@ class TurnConfig:
 
     If max_connection_attempts connections of an allocation wait for their socket, one more that a peer opens gets error
     447 (RFC 6062); while as many messages wait to be sent, an attempt that would get an error is ignored. 0 is 64, or
-    no limit if the client isn't hardened."""
+    no limit if the client isn't hardened.
+
+    With short_lifetimes, a lifetime under 600 seconds in the response to a REFRESH is believed (RFC 8656, section 8.3),
+    so that it shortens the allocation, unless the client isn't hardened. Without, such a response changes nothing, and
+    the allocation may outlast the server's. What the response to the ALLOCATE says is always believed."""
 
     username: str
     password: str = field(repr=False)
@@ -244,6 +248,7 @@ class TurnConfig:
     request_retransmits: RequestRetransmits | None = None
     hardened: bool = True
     max_connection_attempts: int = 0
+    short_lifetimes: bool = True
 
 
 # ---- answers
@@ -413,7 +418,7 @@ class _Settings(ctypes.Structure):
         ("peers", ctypes.c_uint32), ("families", ctypes.c_uint32), ("integrity", ctypes.c_uint32),
         ("anonymous", ctypes.c_uint32), ("sends", ctypes.c_uint32), ("first_wait", ctypes.c_uint32),
         ("most_wait", ctypes.c_uint32), ("last_wait", ctypes.c_uint32), ("compatible", ctypes.c_uint32),
-        ("max_connection_attempts", ctypes.c_size_t),
+        ("max_connection_attempts", ctypes.c_size_t), ("ignore_short_lifetimes", ctypes.c_uint32),
     ]
 
 
@@ -660,7 +665,8 @@ class TurnClient:
             integrity=_word(config.supported_integrity), anonymous=_word(config.anonymous_username),
             sends=_word(waits.sends), first_wait=_word(waits.first_wait), most_wait=_word(waits.most_wait),
             last_wait=_word(waits.last_wait), compatible=int(not config.hardened),
-            max_connection_attempts=_size(config.max_connection_attempts))
+            max_connection_attempts=_size(config.max_connection_attempts),
+            ignore_short_lifetimes=int(not config.short_lifetimes))
         name, password = (it.encode("utf-8", "surrogatepass") for it in (config.username, config.password))
         self._status("open", settings, name, len(name), password, len(password), _Seed.from_buffer_copy(seed))
 

@@ -67,7 +67,8 @@
  *     server responds with challenges, of which the client answers nine within half a second. Both end in
  *     TURN_ALLOCATION_FAILED for each family, which gives no cause, and TURN_CLOSED.
  *   - A server may reject one family of two. Then the client goes on with the other.
- *   - If a server grants less than 600 s at a renewal, the allocation still ends when it would have ended without it.
+ *   - If a server grants less than 600 s at a renewal, the allocation ends by that, and is renewed in time. If
+ *     compatible or ignore_short_lifetimes is 1, it still ends when it would have ended without the renewal.
  *   - No event reports that an allocation has expired, or what turn_client_delete ends: look at turn_client_relayed.
  *   - A client that has ended or failed returns TURN_CLOSED from poll once no event is queued, and TURN_NO_ALLOCATION
  *     from the calls that request something. Close the sockets that are still open: poll no longer names them. One that
@@ -165,7 +166,7 @@ typedef struct turn_address {
 
 /* The settings of a client, which begin as TURN_SETTINGS_INIT. With all numbers zero except size and addresses: over
  * UDP, one IPv4 address over UDP, HMAC-SHA1 and HMAC-SHA256, the name is hidden if the server supports it, requests
- * wait as RFC 8489 says, and the client is hardened. */
+ * wait as RFC 8489 says, the client is hardened, and a REFRESH may shorten an allocation. */
 typedef struct turn_settings {
     size_t size;             /* sizeof(turn_settings), as the program was compiled: another size is refused */
     turn_address local;      /* the client's own address. It need not be the system's, but turn_client_feed has to name
@@ -189,10 +190,15 @@ typedef struct turn_settings {
                              /* if as many connections of an allocation wait for their socket, one more that a peer
                               * opens gets error 447 (RFC 6062); while as many messages wait to be drawn, an attempt
                               * that would get an error is ignored. 0: 64, or no limit if compatible is 1 */
+    uint32_t ignore_short_lifetimes;
+                             /* 0: a lifetime under 600 seconds in the response to a REFRESH is believed (RFC 8656,
+                              * section 8.3), unless compatible is 1. 1: such a response changes nothing, so the
+                              * allocation may outlast the server's. What the response to the ALLOCATE says is
+                              * believed either way */
 } turn_settings;
 
 /* Settings of this size, and otherwise zero: turn_settings settings = TURN_SETTINGS_INIT; */
-#define TURN_SETTINGS_INIT {sizeof(turn_settings), {{0}, 0, 0}, {{0}, 0, 0}, 0, 0, 0, 0, 0, 0, 0, 0, 0, 0, 0}
+#define TURN_SETTINGS_INIT {sizeof(turn_settings), {{0}, 0, 0}, {{0}, 0, 0}, 0, 0, 0, 0, 0, 0, 0, 0, 0, 0, 0, 0}
 
 /* 32 random bytes, see above. */
 typedef struct turn_seed {

@@ -111,12 +111,13 @@ pub struct TurnConfig {
     retransmits: Option<Retransmits>,
     is_hardened: bool,
     max_connection_attempts: usize,
+    short_lifetimes: bool,
 }
 
 impl TurnConfig {
     /// An address of IPv4 over UDP is asked for, HMAC-SHA1 and HMAC-SHA256 are supported, of which the server's
-    /// strongest is taken, the name is hidden where the server can, requests are sent again as RFC 8489 says, and the
-    /// client is hardened.
+    /// strongest is taken, the name is hidden where the server can, requests are sent again as RFC 8489 says, the
+    /// client is hardened, and a REFRESH may shorten an allocation.
     pub fn new(credentials: TurnCredentials) -> Self {
         Self {
             allocation_transport: TransportType::Udp,
@@ -127,6 +128,7 @@ impl TurnConfig {
             retransmits: None,
             is_hardened: true,
             max_connection_attempts: 0,
+            short_lifetimes: true,
         }
     }
 
@@ -213,6 +215,18 @@ impl TurnConfig {
         self.max_connection_attempts
     }
 
+    /// Sets whether a lifetime under 600 seconds in the response to a REFRESH is believed (RFC 8656, section 8.3), so that
+    /// it shortens the allocation. If not, such a response changes nothing, and the allocation may outlast the server's.
+    /// It is not believed anyway if the client isn't hardened. What the response to the ALLOCATE says is always believed.
+    pub fn set_short_lifetimes(&mut self, is_believed: bool) {
+        self.short_lifetimes = is_believed;
+    }
+
+    /// Whether short lifetimes are believed, as it was set: they are at first.
+    pub fn short_lifetimes(&self) -> bool {
+        self.short_lifetimes
+    }
+
     /// Sets how requests are sent again over UDP: the wait behind the first, which each next one doubles, the longest
     /// wait between two, how often a request is sent in all, and the wait behind the last. Where `retransmits` is
     /// 0, all of it is as RFC 8489 says. Waits count in milliseconds, rounded up. Over TCP a request is sent once, and
@@ -251,6 +265,7 @@ impl TurnConfig {
             anonymous: told_feature(self.anonymous_username),
             compatible: u32::from(!self.is_hardened),
             max_connection_attempts: self.max_connection_attempts,
+            ignore_short_lifetimes: u32::from(!self.short_lifetimes),
             ..sys::Settings::default()
         };
         if let Some(waits) = self.retransmits {
@@ -552,6 +567,12 @@ mod tests {
         assert_eq!(attempts(&config), 0);
         config.set_max_connection_attempts(7);
         assert_eq!((attempts(&config), config.max_connection_attempts()), (7, 7));
+        let ignored = |config: &TurnConfig| config.told(TransportType::Udp, local, server).ignore_short_lifetimes;
+        assert_eq!((ignored(&config), config.short_lifetimes()), (0, true));
+        config.set_short_lifetimes(false);
+        assert_eq!((ignored(&config), config.short_lifetimes()), (1, false));
+        config.set_short_lifetimes(true);
+        assert_eq!((ignored(&config), config.short_lifetimes()), (0, true));
         config.set_address_family(AddressFamily::IPV6);
         config.set_supported_integrity(IntegrityAlgorithm::Sha256);
         assert_eq!(bits(&config), (2, 2));

@@ -78,6 +78,7 @@ pub struct Settings {
     pub last_wait: u32,
     pub compatible: u32,
     pub max_connection_attempts: usize,
+    pub ignore_short_lifetimes: u32,
 }
 
 #[repr(C)]
@@ -292,7 +293,7 @@ mod tests {
             turn_address = Address { ip, port, family }
             turn_settings = Settings {
                 size, local, server, transport, peers, families, integrity, anonymous, sends, first_wait, most_wait,
-                last_wait, compatible, max_connection_attempts
+                last_wait, compatible, max_connection_attempts, ignore_short_lifetimes
             }
             turn_seed = Seed { bytes }
             turn_transmit = Transmit { size, transport, from, to }

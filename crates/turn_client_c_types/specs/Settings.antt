@@ -1,5 +1,5 @@
 -- The settings of a client, as C passes them.
-use Rattle.std.specs.Prelude.{ℕ, ◌*◌, ◌/◌, ◌%◌, ◌==◌, nat_lt, Bool, not, ◌||◌, List, [], ◌∷◌, filter, Option, Some, None, if◌then◌else◌, replicate}
+use Rattle.std.specs.Prelude.{ℕ, ◌*◌, ◌/◌, ◌%◌, ◌==◌, nat_lt, Bool, not, ◌&&◌, ◌||◌, List, [], ◌∷◌, filter, Option, Some, None, if◌then◌else◌, replicate}
 use Rattle.std.specs.Cmp.Lexicographic.{pointwise}
 use Rattle.turn_types_attributes.specs.StunTypesIntegrity.Credentials.{NameAndPassword}
 use Rattle.stun_types_wire.specs.declared.algorithm.IntegrityAlgorithm.{IntegrityAlgorithm}
@@ -19,7 +19,7 @@ use Rattle.turn_client_c_types.specs.declared.settings.TurnSettings.{TurnSetting
 
 -- The size of the settings in bytes.
 abbrev pub settings_size : ℕ
-settings_size = 96
+settings_size = 104
 
 -- The settings state this size.
 abbrev pub has_size : TurnSettings → Bool
@@ -43,7 +43,8 @@ both_of _ _ = None
 -- choices.
 unfoldable pub transports_of : TurnSettings → Option (TransportType × TransportType)
 transports_of s =
-    if nat_lt 3 s.families || (nat_lt 7 s.integrity || (nat_lt 2 s.anonymous || nat_lt 1 s.compatible)) then None
+    if nat_lt 3 s.families || (nat_lt 7 s.integrity || (nat_lt 2 s.anonymous
+        || (nat_lt 1 s.compatible || nat_lt 1 s.ignore_short_lifetimes))) then None
     else both_of (transport_set s.transport) (transport_set s.peers)
 
 -- The requested families, by the bits of families; by default IPv4.
@@ -101,6 +102,10 @@ abbrev pub attempts_of : TurnSettings → Option ℕ
 attempts_of s = if not (s.max_connection_attempts == 0) then Some s.max_connection_attempts
     else if s.compatible == 1 then None else Some default_attempts
 
+-- Whether a REFRESH may shorten an allocation: it may if the client is hardened, unless they say otherwise.
+abbrev pub short_lifetimes_of : TurnSettings → Bool
+short_lifetimes_of s = not (s.ignore_short_lifetimes == 1) && not (s.compatible == 1)
+
 -- The settings of a client of this user, whose allocation is over this transport. It is hardened unless they say
 -- otherwise.
 abbrev pub config_of : TurnSettings → TransportType → NameAndPassword → Config
@@ -111,5 +116,6 @@ config_of s peers user = record (default_config user) {
   anonymous_username = anonymous_of s.anonymous (default_config user).anonymous_username;
   hardened = not (s.compatible == 1);
   max_connection_attempts = attempts_of s;
+  short_lifetimes = short_lifetimes_of s;
   waits = waits_of s (default_config user).waits;
 }

@@ -2,7 +2,7 @@
 
 ghost use Rattle.std.specs.Prelude.{◌≡◌, ◌<◌, IfOk, IfSome};
 ghost use Rattle.stun_types_base.specs.declared.transport.TransportType.TheVariants.{Udp};
-ghost use Rattle.turn_client_c_types.specs.Settings.{algorithms_of, anonymous_of, attempts_of, config_of, families_of, has_bit, has_size, is_zero_seed, transport_set, transports_of, waits_of};
+ghost use Rattle.turn_client_c_types.specs.Settings.{algorithms_of, anonymous_of, attempts_of, config_of, families_of, has_bit, has_size, is_zero_seed, short_lifetimes_of, transport_set, transports_of, waits_of};
 
 use crate::address::{TurnAddress, transport_of};
 use std::alloc::Global;
@@ -41,6 +41,9 @@ const ANONYMOUS_DISABLED: u32 = 2;
 
 /// The client is not hardened.
 const COMPATIBLE: u32 = 1;
+
+/// A REFRESH doesn't shorten allocations.
+const IGNORES_SHORT_LIFETIMES: u32 = 1;
 
 /// The limit on connections of peers of a hardened client that states none.
 const DEFAULT_ATTEMPTS: usize = 64;
@@ -87,6 +90,9 @@ pub struct TurnSettings {
     /// The limit on connections of peers (`TurnConfig::set_max_connection_attempts`). 0 is 64, or
     /// none if the client is not hardened.
     pub max_connection_attempts: usize,
+    /// 0: a REFRESH may shorten an allocation (`TurnConfig::set_short_lifetimes`), unless the
+    /// client is not hardened. 1: it may not.
+    pub ignore_short_lifetimes: u32,
 }
 
 /// The seed of the generator of a client's transaction IDs.
@@ -146,6 +152,7 @@ impl TurnSettings {
             || self.integrity > ALL_INTEGRITY
             || self.anonymous > ANONYMOUS_DISABLED
             || self.compatible > COMPATIBLE
+            || self.ignore_short_lifetimes > IGNORES_SHORT_LIFETIMES
         {
             return None;
         }
@@ -178,6 +185,7 @@ impl TurnSettings {
         self.set_anonymous(&mut config);
         config.set_hardened(self.compatible != COMPATIBLE);
         config.set_max_connection_attempts(self.attempts());
+        config.set_short_lifetimes(self.short_lifetimes());
         self.set_waits(&mut config);
         Ok(config)
     }
@@ -193,6 +201,13 @@ impl TurnSettings {
         } else {
             Some(DEFAULT_ATTEMPTS)
         }
+    }
+
+    /// Returns whether a REFRESH may shorten an allocation.
+    fn short_lifetimes(&self) -> bool
+        ensures { result ≡ short_lifetimes_of self.now }
+    {
+        self.ignore_short_lifetimes != IGNORES_SHORT_LIFETIMES && self.compatible != COMPATIBLE
     }
 
     /// Sets the families.
