@@ -1,17 +1,16 @@
 #!/usr/bin/env python3
 """Makes traces of a client and a desk, and what their events are answered (`docs/TRACE.md`).
 
-It knows nothing of the repository's code: messages and numbers are written by `traces_base.py`. The moments
-were worked out by hand, from the waits that a client is documented to have. It was run once, and what it
-wrote is stored: eleven examples, and the traces of a client and a desk in the stored run of `turn_replay`,
-behind those of a desk alone.
+It knows nothing of the repository's code: messages and numbers are written by `traces_base.py`. The moments were worked
+out by hand, from the waits that a client is documented to have. It writes eleven examples, and the traces of a client
+and a desk in the stored run of `turn_replay`, behind those of a desk alone.
 
-Here are the handshake, renewal and end of an allocation, each pair of settings, and what is no trace. Strangers at the
-desk are in `traces_other_addresses.py`, permissions in `traces_permissions.py`, channels in `traces_channels.py` and
-`traces_channel_lifetimes.py`, sends and payloads in `traces_payloads.py`, a client over TCP in `traces_tcp.py`.
-Connections are in `traces_connections.py`, their sockets in `traces_connection_sockets.py`, what comes over these in
-`traces_bound_connections.py`, connections that peers begin in `traces_attempt_timing.py`, a client that is never
-answered in `traces_unanswered.py`, and a hardened client in `traces_hardened.py`.
+Here are the handshake, renewal and end of an allocation, each pair of settings, and what is no trace. Strangers are in
+`traces_other_addresses.py`, each method that a desk rejects in `traces_each_method.py`, permissions in
+`traces_permissions.py`, channels in `traces_channels.py` and `traces_channel_lifetimes.py`, payloads in
+`traces_payloads.py`, TCP in `traces_tcp.py`, connections in `traces_connections.py`, their sockets in
+`traces_connection_sockets.py`, what comes over these in `traces_bound_connections.py`, connections that peers begin in
+`traces_attempt_timing.py`, one that nobody answers in `traces_unanswered.py`, a hardened one in `traces_hardened.py`.
 """
 
 import hashlib
@@ -572,6 +571,7 @@ def good_traces():
     from traces_attempt_timing import attempt_traces
     from traces_bound_connections import bound_traces
     from traces_channel_lifetimes import channel_traces
+    from traces_each_method import method_traces
     from traces_payloads import payload_traces
     from traces_permissions import permission_traces
     from traces_short_lifetimes import short_traces
@@ -591,9 +591,9 @@ def good_traces():
         *signed_answered(), signed_request(), expired(), stale_allocate(), half_stale(),
         family_unknown(), family_not_supported(), both_families(), refresh_times_out(),
         *refreshes_answered(), *short_traces(), stale_refresh(), stale_refresh_lost(), stale_deletion(),
-        mismatched_deletion(), *each_setting(), *stranger_traces(), *address_traces(), *permission_traces(),
-        *channel_traces(), *payload_traces(), *stream_traces(), *connection_traces(), *socket_traces(),
-        *bound_traces(), *attempt_traces(), *limited_traces(), *unanswered_traces(),
+        mismatched_deletion(), *each_setting(), *stranger_traces(), *address_traces(), *method_traces(),
+        *permission_traces(), *channel_traces(), *payload_traces(), *stream_traces(), *connection_traces(),
+        *socket_traces(), *bound_traces(), *attempt_traces(), *limited_traces(), *unanswered_traces(),
         *hardened_traces(honest_traces()),
     )
 
