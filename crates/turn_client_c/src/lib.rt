@@ -8,6 +8,7 @@ ghost use Rattle.std.specs.Net.Socket.{socket_ip};
 ghost use Rattle.std.specs.Prelude.{None, false, length, nat_lt, ◌+◌, ◌≡◌, ◌≢◌};
 ghost use Rattle.turn_client_c_calls.specs.Answers.{bind_answer, connect_answer, delete_answer, memory_answer, permission_answer, socket_answer};
 ghost use Rattle.turn_client_c_calls.specs.Calls.{Named, OnClient, OnCore, OnStored, Reports, Unless};
+ghost use Rattle.turn_client_c_calls.specs.Causes.{Reads, cause_noted, cause_status, domain_status, domain_written, mapped_reported, mapped_status, reason_status, reason_written};
 ghost use Rattle.turn_client_c_calls.specs.Codes.{bad_family, bad_length, bad_setting, ok, small_buffer};
 ghost use Rattle.turn_client_c_calls.specs.Lengths.{is_bad_length};
 ghost use Rattle.turn_client_c_calls.specs.Opened.{HoldsOpened, WhyNot};
@@ -26,8 +27,9 @@ ghost use Rattle.turn_client_c_types.specs.Addresses.{address_of, socket_of, rep
 use std::alloc::Global;
 use turn_client_c_calls::getters::{TurnChannel, TurnConnection, TurnRelayed};
 use turn_client_c_calls::handle::TurnHandle;
-use turn_client_c_calls::{asking, getters, opening, sockets, traffic, waiting};
+use turn_client_c_calls::{asking, causes, getters, opening, sockets, traffic, waiting};
 use turn_client_c_types::address::TurnAddress;
+use turn_client_c_types::cause::TurnClientCause;
 use turn_client_c_types::event::TurnClientEvent;
 use turn_client_c_types::reported::{TurnPayload, TurnTransmit, TurnWait};
 use turn_client_c_types::settings::{TurnSeed, TurnSettings};
@@ -193,6 +195,57 @@ pub extern "C" fn turn_client_event(
         (IsEventReported result event.old event.new) }
 {
     waiting::turn_client_event(alloc, client, event)
+}
+
+/// Writes why the event that `turn_client_event` wrote last happened, and the server that a
+/// response 300 named (RFC 8489, section 10).
+#[unsafe(no_mangle)]
+pub extern "C" fn turn_client_cause(
+    alloc: Global,
+    client: &mut TurnHandle,
+    cause: &mut TurnClientCause,
+) -> i32
+    ensures { Reads cause_status cause_noted client.old.boxed_client.value
+        client.new.boxed_client.value result cause.old cause.new }
+{
+    causes::turn_client_cause(alloc, client, cause)
+}
+
+/// Copies the reason phrase of the error response by which the server rejected the request (RFC
+/// 8489, section 14.8) to the start of a buffer.
+#[unsafe(no_mangle)]
+pub extern "C" fn turn_client_reason(alloc: Global, client: &mut TurnHandle, out: &mut [u8]) -> i32
+    ensures { Unless (is_bad_length (length out.old)) bad_length client.old.boxed_client.value
+        client.new.boxed_client.value result
+        (Reads (reason_status (length out.old)) reason_written client.old.boxed_client.value
+        client.new.boxed_client.value result out.old out.new) }
+{
+    causes::turn_client_reason(alloc, client, out)
+}
+
+/// Copies the name of the domain of the server that a response 300 named (RFC 8489, section 14.16)
+/// to the start of a buffer.
+#[unsafe(no_mangle)]
+pub extern "C" fn turn_client_domain(alloc: Global, client: &mut TurnHandle, out: &mut [u8]) -> i32
+    ensures { Unless (is_bad_length (length out.old)) bad_length client.old.boxed_client.value
+        client.new.boxed_client.value result
+        (Reads (domain_status (length out.old)) domain_written client.old.boxed_client.value
+        client.new.boxed_client.value result out.old out.new) }
+{
+    causes::turn_client_domain(alloc, client, out)
+}
+
+/// Writes the client's own address, as the server saw it (RFC 8656, section 7.3).
+#[unsafe(no_mangle)]
+pub extern "C" fn turn_client_mapped(
+    alloc: Global,
+    client: &mut TurnHandle,
+    mapped: &mut TurnAddress,
+) -> i32
+    ensures { Reads mapped_status mapped_reported client.old.boxed_client.value
+        client.new.boxed_client.value result mapped.old mapped.new }
+{
+    causes::turn_client_mapped(alloc, client, mapped)
 }
 
 /// Requests the end of all allocations (RFC 8656, section 8.1).

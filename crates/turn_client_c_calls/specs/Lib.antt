@@ -1,5 +1,6 @@
 pub mod Answers
 pub mod Calls
+pub mod Causes
 pub mod Codes
 pub mod Held
 pub mod Lengths

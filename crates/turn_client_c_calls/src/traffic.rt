@@ -33,7 +33,7 @@ use turn_types_frame::build::{DelayedTransmitBuild, TransmitBuild};
 const SEND_EXTRA: usize = 64;
 
 /// Writes bytes to the start of a buffer if they fit, and returns whether they do.
-fn write_head(out: &mut [u8], bytes: &[u8]) -> bool
+pub(crate) fn write_head(out: &mut [u8], bytes: &[u8]) -> bool
     ensures room { result ≡ not (nat_lt (length out.old) (length bytes.now)) }
     ensures bytes { out.new ≡ written bytes.now out.old }
 {

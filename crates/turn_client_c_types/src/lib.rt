@@ -3,6 +3,7 @@
 #![tactic(auto)]
 
 pub mod address;
+pub mod cause;
 pub mod event;
 pub mod reported;
 pub mod settings;
