@@ -105,7 +105,8 @@ static size_t least_room(const struct step *step)
         return TURN_MESSAGE_MAX;
     if (step->call == CALL_SEND && step->want.answer == TURN_OK)
         return step->bytes.len + TURN_SEND_EXTRA;
-    if (step->call == CALL_READ && step->want.answer == TURN_OK)
+    if ((step->call == CALL_READ || step->call == CALL_REASON || step->call == CALL_DOMAIN)
+        && step->want.answer == TURN_OK)
         return step->want.size;
     return 0;
 }
@@ -399,6 +400,8 @@ static void send_lengths(turn_client *client, const turn_settings *s, bool is_op
                      "the transport comes first");
         check_answer(turn_client_draw(client, 0, out, len, &transmit), TURN_BAD_LENGTH, "draw", "a buffer");
         check_answer(turn_client_read(client, out, len), TURN_BAD_LENGTH, "read", "a buffer");
+        check_answer(turn_client_reason(client, out, len), TURN_BAD_LENGTH, "reason", "a buffer");
+        check_answer(turn_client_domain(client, out, len), TURN_BAD_LENGTH, "domain", "a buffer");
     }
     const size_t small[] = {1, 2, PTRDIFF_MAX - 63, PTRDIFF_MAX};
     for (size_t i = 0; i < sizeof small / sizeof *small; i++)
@@ -412,6 +415,8 @@ static void send_lengths(turn_client *client, const turn_settings *s, bool is_op
                  "no buffer");
     check_answer(turn_client_draw(client, 0, NULL, 0, &transmit), TURN_SMALL_BUFFER, "draw", "no buffer");
     check_answer(turn_client_read(client, NULL, 0), is_open ? TURN_NOTHING : TURN_NO_CLIENT, "read", "no buffer");
+    check_answer(turn_client_reason(client, NULL, 0), is_open ? TURN_NOTHING : TURN_NO_CLIENT, "reason", "no buffer");
+    check_answer(turn_client_domain(client, NULL, 0), is_open ? TURN_NOTHING : TURN_NO_CLIENT, "domain", "no buffer");
 }
 
 static void list_by_null(turn_client *client, const turn_settings *s)

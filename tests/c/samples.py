@@ -17,8 +17,8 @@ from samples_base import (  # noqa: E402
     CHOSEN, CONNECT, CONNECTION_ATTEMPT, CONNECTION_BIND, CREATE_PERMISSION, ELSEWHERE, ERROR, Exchange, FAMILY,
     FEATURED, HERE, HIDDEN, LONGEST, MS, NAME, NOBODY, ONE, OTHER, OWN, REFRESH, RELAYED, RELAYED_6, REPORT, SECOND,
     SECRET, SEED, SERVER, SIX, STRANGER, STRONGEST, SUCCESS, TCP, TEXTS, TWO, TWO_ALGORITHMS, UDP, V6, allocate,
-    attempt, attempted, bind, c_fields, challenge, code, connect, data, fingerprinted, first, frame, grant, host,
-    identified, indication, join, lifetime, message, named, number, padded, permit, refresh, success,
+    attempt, attempted, bind, c_fields, challenge, code, connect, data, elsewhere, fingerprinted, first, frame, grant,
+    host, identified, indication, join, lifetime, message, named, number, padded, permit, refresh, rejection, success,
 )
 
 
@@ -52,11 +52,15 @@ def udp_allocation(t):
     t.at(550)
     t.draws(allocate())
     t.tells_no_more()
+    t.because("TURN_CAUSE_NONE")
+    t.does("mapped", "TURN_NOTHING")
     t.holds_relayed()
     t.at(600)
     t.feeds(fingerprinted(grant(RELAYED)))
     t.waits(600 * MS, "an event waits")
     t.tells("TURN_ALLOCATION_CREATED", RELAYED)
+    t.because("TURN_CAUSE_NONE")
+    t.is_mapped(OWN)
     t.tells_no_more()
     t.holds_relayed(RELAYED)
     t.waits(1740 * SECOND + 600 * MS)
@@ -295,6 +299,7 @@ def connections_asked(t):
     refusal = message(CONNECT | ERROR, number(5), [code(447, b"Connection Timeout or Failure")], BY_SHA1)
     t.feeds_cut(refusal)
     t.tells("TURN_TCP_FAILED", TWO)
+    t.because("TURN_REJECTED", 447, True, b"Connection Timeout or Failure")
     t.sends_not(ONE, "TURN_NO_SOCKET")
     t.sends_not(ONE, "TURN_NO_PERMISSION", transport="udp")
 
@@ -465,9 +470,11 @@ def strongest():
     return t
 
 
-def fails(t):
-    """That no address is allocated is told, and the client has ended."""
+def fails(t, *cause, **more):
+    """That no address is allocated is told, and why, and the client has ended."""
     t.step("event", {}, {"number": "TURN_ALLOCATION_FAILED", "transport": "none", "peer": "0.0.0.0:0"})
+    t.because(*cause, **more)
+    t.does("mapped", "TURN_NOTHING")
     t.tells_no_more()
     t.ends()
     t.draws_nothing()
@@ -488,7 +495,7 @@ def unanswered():
     t.waits(4600 * MS)
     t.at(4600)
     t.ends()
-    fails(t)
+    fails(t, "TURN_UNANSWERED")
     return t
 
 
@@ -498,7 +505,7 @@ def hidden():
     t.does("open")
     t.draws(first())
     t.feeds(challenge())
-    fails(t)
+    fails(t, "TURN_NO_ALGORITHM")
     return t
 
 
@@ -508,7 +515,98 @@ def none_in_common():
     t.does("open")
     t.draws(first())
     t.feeds(challenge(0, ALLOCATE, code(401, b"Unauthorized"), FEATURED, TWO_ALGORITHMS))
-    fails(t)
+    fails(t, "TURN_NO_ALGORITHM")
+    return t
+
+
+def permissions_rejected(t):
+    t.part("two permissions, and each for its own reason")
+    t.reaches("permit", ONE)
+    t.reaches("permit", TWO)
+    t.at(100)
+    t.draws(permit(2, ONE))
+    t.at(150)
+    t.draws(permit(3, TWO))
+    t.feeds(rejection(CREATE_PERMISSION, 2, 403, b"Forbidden"))
+    t.feeds(rejection(CREATE_PERMISSION, 3, 508, b"Insufficient Capacity"))
+    t.because("TURN_CAUSE_NONE")
+    t.tells("TURN_PERMISSION_FAILED", host(ONE))
+    t.because("TURN_REJECTED", 403, True, b"Forbidden")
+    t.because("TURN_REJECTED", 403, True, b"Forbidden")
+    t.tells("TURN_PERMISSION_FAILED", host(TWO))
+    t.because("TURN_REJECTED", 508, True, b"Insufficient Capacity")
+    t.tells_no_more()
+    t.because("TURN_REJECTED", 508, True, b"Insufficient Capacity")
+
+
+def permission_granted(t):
+    t.part("a success has no cause, and an error without a phrase has one")
+    t.reaches("permit", ONE)
+    t.at(200)
+    t.draws(permit(4, ONE))
+    t.feeds(success(CREATE_PERMISSION, 4))
+    t.tells("TURN_PERMISSION_CREATED", host(ONE))
+    t.because("TURN_CAUSE_NONE")
+    t.reaches("permit", TWO)
+    t.at(250)
+    t.draws(permit(5, TWO))
+    t.feeds(rejection(CREATE_PERMISSION, 5, 403, b""))
+    t.tells("TURN_PERMISSION_FAILED", host(TWO))
+    t.because("TURN_REJECTED", 403, True)
+    t.is_mapped(OWN)
+
+
+def rejected():
+    t = Exchange("what the server rejects")
+    t.begins()
+    t.challenged()
+    t.granted()
+    permissions_rejected(t)
+    permission_granted(t)
+    t.part("the end")
+    t.at(300)
+    t.deleted(6)
+    t.does("close")
+    return t
+
+
+DOMAIN_ELSEWHERE, TRY_ALTERNATE = b"turn.example.net", b"Try Alternate"
+
+
+def redirected():
+    """The signed ALLOCATE is rejected by a signed response."""
+    t = Exchange("another server")
+    t.begins()
+    t.challenged()
+    t.at(50)
+    t.draws(allocate())
+    t.feeds(rejection(ALLOCATE, 1, 300, TRY_ALTERNATE, *elsewhere(ELSEWHERE, DOMAIN_ELSEWHERE)))
+    fails(t, "TURN_REJECTED", 300, True, TRY_ALTERNATE, ELSEWHERE, DOMAIN_ELSEWHERE)
+    return t
+
+
+def redirected_unsigned():
+    """The first ALLOCATE is rejected, by a response that nothing signs, with an address of IPv6 and no name."""
+    t = Exchange("another server, which anybody may name")
+    t.begins()
+    t.draws(first())
+    t.feeds(rejection(ALLOCATE, 0, 300, TRY_ALTERNATE, elsewhere(SIX, b"")[0], by=None))
+    fails(t, "TURN_REJECTED", 300, False, TRY_ALTERNATE, SIX)
+    return t
+
+
+def another_password():
+    """Nine challenges are answered, and the tenth ends the client (crates/turn_client_proto/CALLING.md)."""
+    t = Exchange("another password")
+    t.begins()
+    t.draws(first())
+    for k in range(9):
+        t.at(50 * (k + 1))
+        t.feeds(challenge(k))
+        t.tells_no_more()
+        t.draws(allocate(k=k + 1))
+    t.feeds(challenge(9))
+    fails(t, "TURN_REJECTED", 401, False, b"Unauthorized")
     return t
 
 
@@ -536,9 +634,11 @@ def lapsed():
     t.at(300_100)
     t.waits(t.now)
     t.tells("TURN_PERMISSION_FAILED", host(ONE))
+    t.because("TURN_EXPIRED")
     t.at(600_100)
     t.waits(t.now)
     t.tells("TURN_CHANNEL_FAILED", ONE)
+    t.because("TURN_EXPIRED")
     t.holds_channels()
     free = 900 * SECOND + 100 * MS
     given = {"transport": "udp", "to": ONE}
@@ -566,6 +666,8 @@ def asks(t):
     t.is_permitted(ONE, name="is_permitted", repeats=16)
     t.holds_channels((A, ONE), name="channels", repeats=16)
     t.holds_connections(name="connections", repeats=16)
+    t.step("cause", {}, {"number": "TURN_CAUSE_NONE"}, name="cause: none", repeats=16)
+    t.step("mapped", {}, {"peer": OWN}, name="mapped", repeats=16)
 
 
 def timed_udp():
@@ -653,7 +755,7 @@ def c_exchanges(name, exchanges):
 def main():
     exchanges = [
         udp(), tcp(), connections(), both(), the_others(), unanswered(), hidden(), lapsed(), strongest(),
-        none_in_common(),
+        none_in_common(), rejected(), redirected(), redirected_unsigned(), another_password(),
     ]
     timed = [timed_udp(), timed_tcp()]
     tables = [*c_exchanges("exchanges", exchanges), *c_exchanges("timed", timed)]

@@ -103,8 +103,8 @@ def first(transport=UDP, *families):
     return message(ALLOCATE, number(0), [lifetime(1800), transport, (DONT_FRAGMENT, b""), *families])
 
 
-def allocate(transport=UDP, *families, told=named(), by=BY_SHA1):
-    return message(ALLOCATE, number(1), [transport, lifetime(1800), *families, *told], by)
+def allocate(transport=UDP, *families, told=named(), by=BY_SHA1, k=1):
+    return message(ALLOCATE, number(k), [transport, lifetime(1800), *families, *told], by)
 
 
 def permit(k, peer, told=named(), by=BY_SHA1):
@@ -146,6 +146,26 @@ def indication(k, peer, value):
 
 
 # ---- what the server sends
+
+ALTERNATE_DOMAIN, ALTERNATE_SERVER = 0x8003, 0x8023
+
+
+def plain(address):
+    """An address as ALTERNATE-SERVER has it: as MAPPED-ADDRESS, so not hidden (RFC 8489, sections 14.1 and 14.15)."""
+    ip, port = address.rsplit(":", 1)
+    family = 2 if ip[0] == "[" else 1
+    octets = socket.inet_pton(socket.AF_INET6 if family == 2 else socket.AF_INET, ip.strip("[]"))
+    return struct.pack(">BBH", 0, family, int(port)) + octets
+
+
+def rejection(method, k, number_of_code, reason, *more, by=BY_SHA1):
+    """An error response to the kth request, signed unless `by` is none."""
+    return message(method | ERROR, number(k), [code(number_of_code, reason), *more], by)
+
+
+def elsewhere(address, domain):
+    """The server that a response 300 names, and its domain (RFC 8489, section 10)."""
+    return (ALTERNATE_SERVER, plain(address)), (ALTERNATE_DOMAIN, domain)
 
 
 def challenge(k=0, method=ALLOCATE, reason=code(401, b"Unauthorized"), nonce=ORDINARY, *more):
@@ -273,6 +293,25 @@ class Exchange:
         """The event that waits, and that no other one does."""
         want = {"number": kind, "transport": transport or self.peers, "peer": peer}
         self.step("event", {}, want, name=name)
+
+    def because(self, kind, code=None, is_signed=False, reason=b"", alternate=None, domain=b""):
+        """Why the event happened that was taken last, and the server and its domain that a response 300 named."""
+        want = {"number": kind} | ({"code": code, "is_signed": is_signed} if code else {})
+        want |= ({"size": len(reason)} if reason else {}) | ({"peer": alternate} if alternate else {})
+        self.step("cause", {}, want | ({"domain_size": len(domain)} if domain else {}))
+        self.copies("reason", reason, is_there=code is not None)
+        self.copies("domain", domain, is_there=bool(domain))
+
+    def copies(self, call, text, is_there):
+        """A text is copied into a buffer of just its size."""
+        if is_there:
+            self.step(call, {}, {"bytes": text})
+        else:
+            self.does(call, "TURN_NOTHING")
+
+    def is_mapped(self, address):
+        """The own address, as the server saw it."""
+        self.step("mapped", {}, {"peer": address})
 
     def tells_no_more(self):
         self.does("event", "TURN_NOTHING")

@@ -11,7 +11,8 @@ const char *const call_names[CALLS] = {
     [CALL_OPEN] = "open", [CALL_CLOSE] = "close", [CALL_DELETE] = "delete", [CALL_FEED] = "feed", [CALL_PULL] = "pull",
     [CALL_READ] = "read", [CALL_DRAW] = "draw", [CALL_SEND] = "send", [CALL_POLL] = "poll", [CALL_EVENT] = "event",
     [CALL_PERMIT] = "permit", [CALL_BIND] = "bind", [CALL_CONNECT] = "connect", [CALL_SOCKET] = "socket",
-    [CALL_CLOSED] = "closed", [CALL_RELAYED] = "relayed", [CALL_PERMISSIONS] = "permissions",
+    [CALL_CLOSED] = "closed", [CALL_CAUSE] = "cause", [CALL_REASON] = "reason", [CALL_DOMAIN] = "domain",
+    [CALL_MAPPED] = "mapped", [CALL_RELAYED] = "relayed", [CALL_PERMISSIONS] = "permissions",
     [CALL_IS_PERMITTED] = "is_permitted", [CALL_CHANNELS] = "channels", [CALL_CONNECTIONS] = "connections",
 };
 
@@ -83,6 +84,14 @@ int32_t step_call(struct walker *w, const struct step *s)
         return turn_client_socket(c, s->number, &s->to, &s->from, s->now);
     case CALL_CLOSED:
         return turn_client_closed(c, &s->from, &s->to, s->now);
+    case CALL_CAUSE:
+        return turn_client_cause(c, &w->cause);
+    case CALL_REASON:
+        return turn_client_reason(c, w->out, s->want.size - s->less);
+    case CALL_DOMAIN:
+        return turn_client_domain(c, w->out, s->want.size - s->less);
+    case CALL_MAPPED:
+        return turn_client_mapped(c, &w->mapped);
     default:
         return step_get(w, s);
     }
@@ -157,12 +166,26 @@ static void tell_held(const struct walker *w, const struct step *s, struct told 
     }
 }
 
+static void tell_cause(const turn_cause *cause, struct told *told)
+{
+    told->number = cause->kind;
+    told->code = cause->code;
+    told->is_signed = cause->is_signed;
+    told->size = cause->reason_size;
+    told->peer = cause->alternate;
+    told->domain_size = cause->domain_size;
+}
+
 /* Of a call that answered TURN_OK. */
 static void tell_done(const struct walker *w, const struct step *s, struct told *told)
 {
     if (s->call == CALL_DRAW || s->call == CALL_SEND) {
         tell_message(w, told);
-    } else if (s->call == CALL_READ) {
+    } else if (s->call == CALL_CAUSE) {
+        tell_cause(&w->cause, told);
+    } else if (s->call == CALL_MAPPED) {
+        told->peer = w->mapped;
+    } else if (s->call == CALL_READ || s->call == CALL_REASON || s->call == CALL_DOMAIN) {
         told->bytes = w->out;
         told->size = s->want.size;
     } else if (s->call == CALL_EVENT) {
@@ -205,6 +228,8 @@ const char *step_difference(const struct told *want, const struct told *told)
         return "transport";
     if (want->number != told->number)
         return "number";
+    if (want->code != told->code || want->is_signed != told->is_signed)
+        return "code or is_signed";
     if (!is_same(&want->from, &told->from))
         return "from";
     if (!is_same(&want->to, &told->to))
@@ -213,7 +238,7 @@ const char *step_difference(const struct told *want, const struct told *told)
         return "peer";
     if (want->is_joined != told->is_joined || want->is_bound != told->is_bound)
         return "is_joined or is_bound";
-    if (want->start != told->start || want->size != told->size)
+    if (want->start != told->start || want->size != told->size || want->domain_size != told->domain_size)
         return "start or size";
     if (want->icmp_type != told->icmp_type || want->icmp_code != told->icmp_code)
         return "report";

@@ -11,7 +11,7 @@
 /* the functions of turn_client.h */
 enum call {
     CALL_OPEN, CALL_CLOSE, CALL_DELETE, CALL_FEED, CALL_PULL, CALL_READ, CALL_DRAW, CALL_SEND, CALL_POLL, CALL_EVENT,
-    CALL_PERMIT, CALL_BIND, CALL_CONNECT, CALL_SOCKET, CALL_CLOSED,
+    CALL_PERMIT, CALL_BIND, CALL_CONNECT, CALL_SOCKET, CALL_CLOSED, CALL_CAUSE, CALL_REASON, CALL_DOMAIN, CALL_MAPPED,
     CALL_RELAYED, CALL_PERMISSIONS, CALL_IS_PERMITTED, CALL_CHANNELS, CALL_CONNECTIONS,
     CALLS
 };
@@ -28,13 +28,16 @@ struct bytes {
 struct told {
     int32_t answer;           /* a status; of getters how many there are, and 1 for true */
     uint32_t transport;
-    uint32_t number;          /* of a connection or a channel; the kind of an event; the data of a report in ICMP */
+    uint32_t number;          /* of a connection or a channel; the kind of an event or a cause; the data of a report in
+                                 ICMP */
+    uint32_t code;            /* of the error response that a cause reports */
     turn_address from, to;
     turn_address peer;        /* or the address that an event or a getter tells */
     const uint8_t *bytes;     /* what was written, or a payload that stands in what was handed in */
-    size_t size;              /* its size; of a payload that doesn't stand there, too */
+    size_t size;              /* its size; of a payload that doesn't stand there, too; of a cause its phrase's */
+    size_t domain_size;
     size_t start;             /* where it stands there */
-    bool is_joined, is_bound;
+    bool is_joined, is_bound, is_signed;
     uint8_t icmp_type, icmp_code;
     uint64_t until;
 };
@@ -81,6 +84,8 @@ struct walker {
     turn_transmit transmit;
     turn_wait wait;
     turn_event event;
+    turn_cause cause;
+    turn_address mapped;
     uint64_t until;
     turn_relayed relayed[HELD_MAX];
     turn_address permissions[HELD_MAX];

@@ -6,7 +6,7 @@
 #include "memory.h"
 #include "rooms.h"
 
-enum { NO_REFUSAL = 0, SHOWN_MAX = 64 };
+enum { NO_REFUSAL = 0, SHOWN_MAX = 64, REASON_MAX = 763, DOMAIN_MAX = 255 };
 
 /* ---- the statuses that each call may answer */
 
@@ -35,12 +35,21 @@ static const uint32_t statuses[CALLS] = {
     [CALL_CONNECT] = ASKED | BIT(TURN_NO_PERMISSION),
     [CALL_SOCKET] = ASKED,
     [CALL_CLOSED] = BIT(TURN_OK) | BIT(TURN_BAD_FAMILY) | BIT(TURN_NO_MEMORY) | BIT(TURN_NO_CLIENT),
+    [CALL_CAUSE] = BIT(TURN_OK) | BIT(TURN_NO_CLIENT),
+    [CALL_REASON] = BIT(TURN_OK) | BIT(TURN_NOTHING) | BIT(TURN_SMALL_BUFFER) | BIT(TURN_NO_CLIENT),
+    [CALL_DOMAIN] = BIT(TURN_OK) | BIT(TURN_NOTHING) | BIT(TURN_SMALL_BUFFER) | BIT(TURN_NO_CLIENT),
+    [CALL_MAPPED] = BIT(TURN_OK) | BIT(TURN_NOTHING) | BIT(TURN_NO_CLIENT),
 };
 
 /* Whether a call that was refused memory leaves a client that has failed. */
 static bool is_fatal(enum call call)
 {
     return call == CALL_FEED || call == CALL_PULL || call == CALL_DRAW || call == CALL_POLL;
+}
+
+bool is_note(enum call call)
+{
+    return call >= CALL_CAUSE && call <= CALL_MAPPED;
 }
 
 /* ---- what is refused first: arguments from the left, then room, then the handle */
@@ -79,6 +88,20 @@ static int32_t refusal_of_arguments(const struct step *s)
     return NO_REFUSAL;
 }
 
+/* Whether a call copies a text of the server. */
+static bool is_text(enum call call)
+{
+    return call == CALL_REASON || call == CALL_DOMAIN;
+}
+
+/* The cause that the client reports now; without a client that of no event. */
+static turn_cause cause_of(const struct fuzzed *f)
+{
+    turn_cause cause = {.kind = TURN_CAUSE_NONE};
+    turn_client_cause(f->client, &cause);
+    return cause;
+}
+
 static int32_t refusal_of(const struct fuzzed *f, const struct step *s, size_t room)
 {
     const int32_t refusal = refusal_of_arguments(s);
@@ -90,7 +113,7 @@ static int32_t refusal_of(const struct fuzzed *f, const struct step *s, size_t r
         return s->call == CALL_CLOSE ? NO_REFUSAL : TURN_NO_CLIENT;
     if ((s->call == CALL_FEED || s->call == CALL_PULL) && f->waiting > 0)
         return TURN_UNREAD;
-    if (s->call == CALL_READ && f->waiting > room)
+    if ((s->call == CALL_READ || is_text(s->call)) && room_wanted(f, s) > room)
         return TURN_SMALL_BUFFER;
     return NO_REFUSAL;
 }
@@ -101,6 +124,8 @@ size_t room_wanted(const struct fuzzed *f, const struct step *s)
     case CALL_DRAW: return TURN_MESSAGE_MAX;
     case CALL_SEND: return s->bytes.len + TURN_SEND_EXTRA;
     case CALL_READ: return f->waiting;
+    case CALL_REASON: return cause_of(f).reason_size;
+    case CALL_DOMAIN: return cause_of(f).domain_size;
     default: return HELD_MAX;
     }
 }
@@ -167,6 +192,24 @@ static int32_t call_telling(turn_client *c, const struct step *s, struct walker 
     return answer;
 }
 
+static int32_t call_noting(turn_client *c, const struct step *s, struct walker *w, size_t room)
+{
+    int32_t answer;
+    if (s->call == CALL_CAUSE) {
+        turn_cause *cause = GIVE(turn_cause);
+        answer = turn_client_cause(c, cause);
+        w->cause = *cause;
+    } else if (s->call == CALL_MAPPED) {
+        turn_address *mapped = GIVE(turn_address);
+        answer = turn_client_mapped(c, mapped);
+        w->mapped = *mapped;
+    } else {
+        uint8_t *out = room_give(ROOM_OUT, room);
+        answer = s->call == CALL_REASON ? turn_client_reason(c, out, room) : turn_client_domain(c, out, room);
+    }
+    return answer;
+}
+
 static int32_t call_in_rooms(struct fuzzed *f, const struct step *s, size_t room)
 {
     const turn_address *from = room_copy(ROOM_FROM, &s->from, sizeof s->from);
@@ -179,6 +222,8 @@ static int32_t call_in_rooms(struct fuzzed *f, const struct step *s, size_t room
         answer = call_telling(f->client, s, &f->walker);
     else if (s->call >= CALL_FEED && s->call <= CALL_SEND)
         answer = call_moving(f->client, s, from, to, &f->walker, room);
+    else if (is_note(s->call))
+        answer = call_noting(f->client, s, &f->walker, room);
     else
         answer = call_asking(f->client, s, from, to, &f->walker);
     room_check_copy(ROOM_FROM, &s->from);
@@ -258,10 +303,36 @@ static void check_event(const struct fuzzed *f)
     check(e->kind != TURN_PERMISSION_CREATED || e->address.port == 0, "a permission has no port");
 }
 
+static void check_cause(const turn_cause *c)
+{
+    const bool is_rejected = c->kind == TURN_REJECTED;
+    check(c->kind <= TURN_UNUSABLE && c->kind != TURN_SOCKET_CLOSED, "a cause has a kind");
+    check(is_rejected ? c->code >= 300 && c->code < 700 : c->code == 0, "a rejection has a code, and nothing else");
+    check(is_rejected || (!c->is_signed && c->reason_size == 0), "a rejection has a phrase, and nothing else");
+    check(c->reason_size <= REASON_MAX && c->domain_size <= DOMAIN_MAX, "the texts of a cause are short");
+    check(c->alternate.family == 0 || is_family(&c->alternate), "another server has a family, or there is none");
+    reach(is_rejected ? REACH_REJECTED : REACH_CAUSE);
+}
+
+/* Of a call that reads what the client notes: the size of what it copies. */
+static size_t check_note(const struct fuzzed *f, const struct step *s, int32_t answer)
+{
+    const turn_cause cause = cause_of(f);
+    if (s->call == CALL_CAUSE)
+        check_cause(&f->walker.cause);
+    if (s->call == CALL_MAPPED)
+        check(answer == TURN_NOTHING || is_family(&f->walker.mapped), "the own address has a family");
+    if (s->call == CALL_REASON)
+        check((answer == TURN_OK) == (cause.kind == TURN_REJECTED), "a rejection has a phrase, and nothing else");
+    if (s->call == CALL_DOMAIN)
+        check(answer == TURN_OK || cause.domain_size == 0, "a domain of no bytes isn't there");
+    return is_text(s->call) && answer == TURN_OK ? room_wanted(f, s) : 0;
+}
+
 /* Of a call that was not refused. */
 static void check_done(struct fuzzed *f, const struct step *s, size_t room, int32_t answer)
 {
-    size_t size = 0;
+    size_t size = is_note(s->call) ? check_note(f, s, answer) : 0;
     if (answer == TURN_PAYLOAD || answer == TURN_ICMP)
         check_payload(f, s, answer);
     if (s->call == CALL_POLL)
@@ -279,7 +350,7 @@ static void check_done(struct fuzzed *f, const struct step *s, size_t room, int3
     }
     check_written(f, size, room);
     if (s->call == CALL_CLOSE) {
-        f->is_open = f->has_failed = false;
+        f->is_open = f->has_failed = f->has_lost_notes = false;
         f->waiting = 0;
         check(memory_held() == 0, "memory is left behind the close");
     }
@@ -310,6 +381,15 @@ static void check_failure(struct fuzzed *f, const struct step *s)
     check(last_answer == TURN_CLOSED, "a client that has failed doesn't tell so");
 }
 
+/* Of a call that reads what the client notes. */
+static void check_unchanged(struct fuzzed *f, uint64_t before)
+{
+    memory_hold();
+    const bool is_same = shown(f) == before;
+    memory_go_on();
+    check(is_same, "a call that reads changed what getters show");
+}
+
 /* Whether a refusal may take an allocation out of sight: one whose time is found to be over. */
 static bool finds_time_over(const struct step *s, int32_t answer)
 {
@@ -332,14 +412,24 @@ static void check_refused(struct fuzzed *f, const struct step *s, int32_t answer
           "a refused call changed what getters show");
 }
 
-static void check_reason(const struct step *s, int32_t answer, int32_t refusal, bool had_no_memory)
+/* Whether memory that is refused may go unreported: without it the client doesn't note why events happen, and goes on
+ * with the rest. */
+static bool loses_notes(struct fuzzed *f, const struct step *s)
+{
+    const bool may_lose = s->call == CALL_FEED || s->call == CALL_PULL || s->call == CALL_POLL;
+    f->has_lost_notes |= may_lose;
+    return may_lose;
+}
+
+static void check_reason(struct fuzzed *f, const struct step *s, int32_t answer, int32_t refusal, bool had_no_memory)
 {
     const bool is_of_arguments = answer == TURN_BAD_FAMILY || answer == TURN_BAD_SETTING || answer == TURN_UNREAD
         || answer == TURN_SMALL_BUFFER || answer == TURN_NO_CLIENT;
     check(answer >= TURN_BAD_LENGTH && answer <= TURN_CLOSE_SOCKET && (statuses[s->call] & BIT(answer)) != 0,
           "a status that the call hasn't");
     check(refusal == NO_REFUSAL ? !is_of_arguments : answer == refusal, "another refusal than the arguments ask for");
-    check(!had_no_memory || answer == TURN_NO_MEMORY || s->call == CALL_CLOSE, "refused memory wasn't told");
+    check(!had_no_memory || answer == TURN_NO_MEMORY || s->call == CALL_CLOSE || loses_notes(f, s),
+          "refused memory wasn't told");
     check(answer != TURN_NO_MEMORY || had_no_memory || s->call == CALL_SEND, "memory was there");
     if (had_no_memory)
         reach(REACH_REFUSED_MEMORY);
@@ -371,6 +461,8 @@ static void check_length(struct fuzzed *f, const struct step *s, size_t length)
         last_answer = turn_client_feed(f->client, &s->from, &s->to, &byte, length, s->now, &payload);
         break;
     case CALL_READ: last_answer = turn_client_read(f->client, &byte, length); break;
+    case CALL_REASON: last_answer = turn_client_reason(f->client, &byte, length); break;
+    case CALL_DOMAIN: last_answer = turn_client_domain(f->client, &byte, length); break;
     case CALL_DRAW: last_answer = turn_client_draw(f->client, s->now, &byte, length, &transmit); break;
     case CALL_SEND:
         last_answer = turn_client_send(f->client, s->transport, &s->to, &byte, length, s->now, &byte, 1, &transmit);
@@ -395,12 +487,14 @@ int32_t call_checked(struct fuzzed *f, const struct step *s, size_t room)
     memory_was_refused();
     last_call = s->call;
     const int32_t answer = last_answer = call_in_rooms(f, s, room);
-    check_reason(s, answer, refusal, memory_was_refused());
+    check_reason(f, s, answer, refusal, memory_was_refused());
     check_behind_failure(f, s, answer);
     if (answer < 0)
         check_refused(f, s, answer, before);
     else
         check_done(f, s, room, answer);
+    if (is_note(s->call))
+        check_unchanged(f, before);
     return answer;
 }
 

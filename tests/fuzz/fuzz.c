@@ -22,6 +22,7 @@ static const char *const reach_names[REACHES] = {
     [REACH_PAYLOAD] = "payload", [REACH_JOINED] = "joined payload", [REACH_ICMP] = "report in ICMP",
     [REACH_CONNECTION] = "connection", [REACH_BOUND] = "bound connection", [REACH_REFUSED_MEMORY] = "refused memory",
     [REACH_FAILED] = "failed client", [REACH_ENDED] = "ended client", [REACH_WHOLE] = "whole exchange",
+    [REACH_REJECTED] = "rejection as a cause", [REACH_CAUSE] = "another cause, or none",
 };
 static unsigned long inputs, reached[REACHES], calls[CALLS], walked;
 static bool is_reached[REACHES];
@@ -150,7 +151,7 @@ static size_t next_room(const struct step *s)
 static bool is_harmless(const struct step *s, int32_t answer)
 {
     const bool is_foreign = memcmp(&s->from, &fuzzed.settings.server, sizeof s->from) != 0;
-    if (s->call >= CALL_RELAYED || (answer < 0 && answer != TURN_NO_MEMORY))
+    if (s->call >= CALL_RELAYED || is_note(s->call) || (answer < 0 && answer != TURN_NO_MEMORY))
         return true;
     return (s->call == CALL_READ && answer == TURN_NOTHING) || (s->call == CALL_EVENT && answer == TURN_NOTHING)
         || (s->call == CALL_FEED && answer == TURN_IGNORED && is_foreign);
@@ -226,7 +227,7 @@ static void walk(void)
     const int32_t answer = make_call(&s, room);
     if (answer == TURN_NO_MEMORY || is_other_time)
         fuzzed.is_undisturbed = false;
-    if (fuzzed.is_undisturbed) {
+    if (fuzzed.is_undisturbed && !(fuzzed.has_lost_notes && is_note(s.call))) {
         const struct told told = step_told(&fuzzed.walker, &s, answer);
         check(step_difference(&s.want, &told) == NULL, "an undisturbed exchange goes another way");
         walked++;

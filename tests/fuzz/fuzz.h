@@ -12,7 +12,7 @@ extern int32_t last_answer;
 /* How many inputs reached what. */
 enum reach {
     REACH_ALLOCATION, REACH_PERMISSION, REACH_CHANNEL, REACH_PAYLOAD, REACH_JOINED, REACH_ICMP, REACH_CONNECTION,
-    REACH_BOUND, REACH_REFUSED_MEMORY, REACH_FAILED, REACH_ENDED, REACH_WHOLE,
+    REACH_BOUND, REACH_REFUSED_MEMORY, REACH_FAILED, REACH_ENDED, REACH_WHOLE, REACH_REJECTED, REACH_CAUSE,
     REACHES
 };
 void reach(enum reach what);
@@ -26,12 +26,16 @@ struct fuzzed {
     size_t allocations;        /* that the getters showed last */
     bool is_open, has_failed;
     bool has_zero_seed;        /* it is opened under a seed of zeros */
+    bool has_lost_notes;       /* memory was refused for what it notes of events */
     bool is_undisturbed;       /* no call but those of the exchange changed anything */
 };
 
 /* Makes the call of a step, with so much room for what it writes: its answer. Where it breaks what the header says,
  * the program ends. */
 int32_t call_checked(struct fuzzed *fuzzed, const struct step *step, size_t room);
+
+/* Whether a call reads what the client notes beside what it holds: it changes nothing, and needs no memory. */
+bool is_note(enum call call);
 
 /* The room that a call wants. */
 size_t room_wanted(const struct fuzzed *fuzzed, const struct step *step);

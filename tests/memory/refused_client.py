@@ -12,7 +12,8 @@ refused memory is held against the one that isn't.
 Of each refusal it is judged that
 
 - each answer before it is that of the ample run;
-- the call that is refused says NoMemory;
+- the call that is refused says NoMemory; or it is one of `recv`, `poll_recv` and `poll`, which note why events
+  happen, and the rest of the run is that of the ample one, byte for byte;
 - a call of the user's has changed nothing that the client holds, and behind it the same call answers what it
   does with ample memory, and so does the rest of the run;
 - behind another call the client has failed: it holds nothing, sends nothing, gives nothing, tells the
@@ -143,7 +144,7 @@ def fault_with(library, course, ample, number):
     walk.close()
     if why is None and library.held.value != 0:
         why = f"{library.held.value} blocks are left at the end"
-    return why and f"{walk.refused}: {why}", was_refused
+    return why and f"{walk.refused or walk.lost}: {why}", was_refused
 
 
 def fault_of_failed(walk, waiting):

@@ -14,6 +14,8 @@ OF_THE_USER = (
     "open", "create_permission", "bind_channel", "tcp_connect", "allocated_tcp_socket", "tcp_closed",
     "delete", "send_to",
 )
+# these note why events happen. Without memory for that they answer as ever, and the cause is lost
+NOTING = "recv", "poll_recv", "poll"
 SEED = bytes([1] * 32)
 MS, SECOND = 1_000_000, 1_000_000_000
 # turns at one moment
@@ -94,13 +96,14 @@ class Early:
 class Walk:
     """A run of a course. `library` has the client's module, and the counters of the library below it;
     `ample` is what the ample run told, where this isn't that one. `refused` is the call that was refused
-    memory. `sockets` are the own addresses of those that are opened next."""
+    memory, and `lost` one that was refused what it notes. `sockets` are the own addresses of those that
+    are opened next."""
 
     def __init__(self, library, course, ample=None, is_early=False):
         self.library, self.turn, self.course, self.ample = library, library.turn, course, ample
         self.is_early, self.is_stream = is_early, course.transport == TCP
         self.client, self.server, self.now = None, course.server(), 0
-        self.told, self.refused, self.sockets, self.cut = [], None, [], 0
+        self.told, self.refused, self.lost, self.sockets, self.cut = [], None, None, [], 0
 
     def close(self):
         if self.client is not None:
@@ -123,8 +126,9 @@ class Walk:
             return error
 
     def call(self, name, *given, **named):
-        """Makes a call. Where it is refused memory it has to say so. Then, if it is the user's, it has
-        changed nothing, and is made once more; behind another one the client has failed."""
+        """Makes a call. Where it is refused memory it has to say so, or to answer as ever where that was for
+        its notes. Then, if it is the user's, it has changed nothing, and is made once more; behind another
+        one the client has failed."""
         waiting = tuple(self.client.waiting) if isinstance(self.client, Early) else ()
         held = self.held() if name in OF_THE_USER and self.client else None
         was_refused = self.library.is_refused()
@@ -133,6 +137,8 @@ class Walk:
         if self.library.is_refused() == was_refused:
             if says_so:
                 raise Fault(f"{name} says NoMemory, and nothing was refused")
+        elif name in NOTING and not says_so:
+            self.lost = name
         else:
             self.refused = name
             if not says_so:
