@@ -86,6 +86,7 @@ static const char usage[] =
     "  --interval MS         between two; without it 20\n"
     "  --seconds N           how long the address is kept at least; without it 0\n"
     "  --indications         no channel: each payload goes in an indication\n"
+    "  --follow              goes on at the server that this one names by an error 300, once\n"
     "  --quiet               tells errors and the result alone\n"
     "  --help\n"
     "Exit status: 0 all came back, or nothing was to be sent; 1 something was lost; 2 options that can't be read;\n"
@@ -100,6 +101,7 @@ static const struct option names[] = {
     {"count", required_argument, NULL, 'c'},    {"size", required_argument, NULL, 'b'},
     {"interval", required_argument, NULL, 'i'}, {"seconds", required_argument, NULL, 'n'},
     {"indications", no_argument, NULL, 'x'},    {"quiet", no_argument, NULL, 'q'},
+    {"follow", no_argument, NULL, 'o'},
     {"help", no_argument, NULL, 'h'},           {NULL, 0, NULL, 0},
 };
 
@@ -145,6 +147,7 @@ static bool take_option(struct options *o, int option, const char *value)
     case 'n': return read_number(value, 0, UINT32_MAX, &o->seconds);
     case 'x': return o->has_no_channel = true;
     case 'q': return o->is_quiet = true;
+    case 'o': return o->follows = true;
     default: return false;
     }
 }

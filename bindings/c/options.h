@@ -14,6 +14,7 @@ struct options {
     const char *user, *password;    /* the password: of a file, of TURN_PASSWORD, or of the command line */
     uint32_t families, integrity;   /* as those of turn_settings */
     bool is_over_tcp, has_echo, has_no_channel, is_quiet;
+    bool follows;                   /* goes on at the server that a response 300 names, once */
     uint32_t count, size;           /* of payloads */
     uint32_t interval, seconds;     /* milliseconds between two of them; how long the address is kept */
 };

@@ -27,6 +27,7 @@
 #define PATIENCE (2 * SECOND)    /* how long the last payloads are waited for */
 #define PAUSE (10 * MILLISECOND) /* how long it waits at least where the client wants a turn and does nothing in it */
 #define IN_MAX 65536             /* bytes that are read at once, and no payload is larger */
+#define TEXT_MAX 763             /* bytes of a reason phrase, and of a domain's name */
 
 struct run {
     struct options options;
@@ -37,6 +38,7 @@ struct run {
     uint64_t began, until;              /* the client wants no turn before that */
     uint64_t next, keeps_until;         /* when the next payload goes, and until when the address is kept */
     bool has_address, is_ready, is_deleted, is_over, has_heard;
+    turn_address elsewhere;             /* the server that is gone on with; family 0 if none is */
     struct tally tally;
     int outcome;                        /* an exit status; -1 as long as nothing went wrong */
 };
@@ -190,6 +192,62 @@ static void receive(struct run *run)
     }
 }
 
+/* ---- why something failed */
+
+typedef int32_t copy_text(turn_client *client, uint8_t *out, size_t out_len);
+
+/* A text of the server as it may be printed: of each byte that is no printable ASCII a question mark. It stays until
+ * the next call. */
+static const char *printable(struct run *run, copy_text *copy, size_t size)
+{
+    static uint8_t text[TEXT_MAX + 1];
+    if (size > TEXT_MAX || copy(&run->client, text, size) != TURN_OK)
+        size = 0;
+    for (size_t i = 0; i < size; i++) {
+        if (text[i] < 0x20 || text[i] > 0x7e)
+            text[i] = '?';
+    }
+    text[size] = '\0';
+    return (const char *)text;
+}
+
+/* A cause as a text. It stays until the next call. */
+static const char *text_of_cause(struct run *run, const turn_cause *cause)
+{
+    static const char *const names[] = {
+        [TURN_CAUSE_NONE] = "none", [TURN_UNANSWERED] = "unanswered", [TURN_INTEGRITY] = "integrity",
+        [TURN_NO_ALGORITHM] = "no-algorithm", [TURN_OTHER_FAMILY] = "other-family", [TURN_CAUSE_MEMORY] = "no-memory",
+        [TURN_DELETED] = "deleted", [TURN_EXPIRED] = "expired", [TURN_SOCKET_CLOSED] = "socket-closed",
+        [TURN_UNUSABLE] = "unusable"};
+    static char text[TEXT_MAX + 64];
+    if (cause->kind != TURN_REJECTED)
+        return names[cause->kind];
+    snprintf(text, sizeof text, "rejected %u %s %s", (unsigned)cause->code, cause->is_signed ? "signed" : "unsigned",
+             printable(run, turn_client_reason, cause->reason_size));
+    return text;
+}
+
+/* Says why the event happened that was taken last, if it reports a failure, and which server a response 300 named. */
+static turn_cause say_cause(struct run *run)
+{
+    turn_cause cause = {.kind = TURN_CAUSE_NONE};
+    turn_client_cause(&run->client, &cause);
+    if (cause.kind != TURN_CAUSE_NONE)
+        say(run, "cause: %s", text_of_cause(run, &cause));
+    if (cause.alternate.family != 0)
+        say(run, "alternate server: %s %s", text_of(&cause.alternate),
+            printable(run, turn_client_domain, cause.domain_size));
+    return cause;
+}
+
+/* Whether a failed allocation is not the end: the server named another one, and the program goes on there, once. */
+static bool goes_elsewhere(struct run *run, const turn_cause *cause)
+{
+    if (run->options.follows && cause->alternate.family != 0)
+        run->elsewhere = cause->alternate;
+    return run->elsewhere.family != 0;
+}
+
 /* ---- what the client tells */
 
 static void ask(struct run *run, int32_t status, const char *what)
@@ -199,8 +257,15 @@ static void ask(struct run *run, int32_t status, const char *what)
         fail(run, FAILED, "can't ask for %s %s: status %d", what, text_of(&run->options.peer), status);
 }
 
+static void say_public_address(struct run *run)
+{
+    turn_address mapped;
+    if (turn_client_mapped(&run->client, &mapped) == TURN_OK)
+        say(run, "public address: %s", text_of(&mapped));
+}
+
 /* What follows an event. */
-static void follow(struct run *run, const turn_event *event)
+static void follow(struct run *run, const turn_event *event, const turn_cause *cause)
 {
     const turn_address *peer = &run->options.peer;
     const uint64_t now = clock_now();
@@ -209,6 +274,7 @@ static void follow(struct run *run, const turn_event *event)
     case TURN_ALLOCATION_CREATED:
         run->keeps_until = now + run->options.seconds * SECOND;
         run->has_address = true;
+        say_public_address(run);
         if (event->address.family == peer->family)
             ask(run, turn_client_permit(&run->client, TURN_UDP, peer, now), "a permission for");
         return;
@@ -221,13 +287,15 @@ static void follow(struct run *run, const turn_event *event)
         run->is_ready = true;
         return;
     case TURN_ALLOCATION_FAILED:
+        if (goes_elsewhere(run, cause))
+            return;
         if (!run->has_heard)
             fail(run, NO_ANSWER, "no answer from %s", text_of(&run->settings.server));
         else if (!run->has_address || event->address.family == peer->family)
-            fail(run, FAILED, "no address: the server refused it, the name or the password");
+            fail(run, FAILED, "no address: %s", text_of_cause(run, cause));
         return;
     default:
-        fail(run, FAILED, "the server refused a permission or a channel, or didn't renew it");
+        fail(run, FAILED, "no permission or no channel: %s", text_of_cause(run, cause));
     }
 }
 
@@ -240,8 +308,9 @@ static void tell(struct run *run, const turn_event *event)
         [TURN_TCP_CONNECTED] = "has a connection to", [TURN_TCP_FAILED] = "has no connection to"};
     const char *family = event->address.family == 4 ? "IPv4" : "IPv6";
     say(run, "%s %s", names[event->kind], event->kind == TURN_ALLOCATION_FAILED ? family : text_of(&event->address));
+    const turn_cause cause = say_cause(run);
     if (!run->is_deleted)
-        follow(run, event);
+        follow(run, event, &cause);
 }
 
 /* ---- the loop */
@@ -340,19 +409,27 @@ static void loop(struct run *run)
             send_payload(run, now);
         wait_for_more(run, now);
     }
-    if (!run->is_deleted && run->outcome < 0)
+    if (!run->is_deleted && run->outcome < 0 && run->elsewhere.family == 0)
         fail(run, FAILED, "the address is gone: the server didn't renew it");
 }
 
 /* ---- the beginning and the end */
 
-static bool open_sockets(struct run *run)
+static bool open_line(struct run *run)
 {
-    struct options *o = &run->options;
+    const struct options *o = &run->options;
     const int error = line_open(&run->line, &o->server, o->is_over_tcp);
     if (error != 0)
         fail(run, NO_ANSWER, "no connection to %s: %s", text_of(&o->server), strerror(error));
-    else if (o->has_echo && (run->echo = open_echo(o->families & TURN_IPV4 ? 4 : 6)) < 0)
+    return error == 0;
+}
+
+static bool open_sockets(struct run *run)
+{
+    struct options *o = &run->options;
+    if (!open_line(run))
+        return false;
+    if (o->has_echo && (run->echo = open_echo(o->families & TURN_IPV4 ? 4 : 6)) < 0)
         fail(run, FAILED, "no socket for the echo: %s", strerror(errno));
     if (run->echo >= 0)
         o->peer = own_address(run->echo);
@@ -379,6 +456,21 @@ static bool open_client(struct run *run)
     return status == TURN_OK;
 }
 
+/* Opens a client at the server that the first one was directed to. That is done once. */
+static bool open_elsewhere(struct run *run)
+{
+    run->options.server = run->elsewhere;
+    run->options.follows = false;
+    run->elsewhere = (turn_address){.family = 0};
+    run->has_heard = run->is_over = false;
+    run->line.start = run->line.end = 0;
+    say(run, "goes on with %s", text_of(&run->options.server));
+    turn_client_close(&run->client);
+    close(run->line.fd);
+    run->line.fd = -1;
+    return open_line(run) && open_client(run);
+}
+
 int main(int argc, char **argv)
 {
     static struct run run = {.client = TURN_CLIENT_INIT, .line = {.fd = -1}, .echo = -1, .outcome = -1};
@@ -389,6 +481,8 @@ int main(int argc, char **argv)
     if (!tally_open(&run.tally, run.options.count, run.options.size))
         fail(&run, FAILED, "there is no memory");
     else if (open_sockets(&run) && open_client(&run))
+        loop(&run);
+    if (run.outcome < 0 && run.elsewhere.family != 0 && open_elsewhere(&run))
         loop(&run);
     turn_client_close(&run.client);
     if (has_peer(&run))
