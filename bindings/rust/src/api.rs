@@ -482,8 +482,7 @@ impl AsRef<[u8]> for TurnPeerData<'_> {
 pub enum TurnEvent {
     /// The server gave a relayed address.
     AllocationCreated(TransportType, SocketAddr),
-    /// There is no relayed address of that family. No cause is told: the server may be away, refuse the name or the
-    /// password, or have none to give.
+    /// There is no relayed address of that family: see [`TurnCause`] for why.
     AllocationCreateFailed(AddressFamily),
     /// The peer's address is permitted.
     PermissionCreated(TransportType, IpAddr),
@@ -515,6 +514,65 @@ impl TurnEvent {
             sys::CHANNEL_FAILED => Self::ChannelCreateFailed(transport, address),
             sys::TCP_CONNECTED => Self::TcpConnected(address),
             sys::TCP_FAILED => Self::TcpConnectFailed(address),
+            _ => return None,
+        })
+    }
+}
+
+/// Why an event reports a failure.
+#[derive(Clone, Debug, PartialEq, Eq)]
+#[non_exhaustive]
+pub enum TurnCause {
+    /// The server rejected the request, by an error response.
+    Rejected {
+        /// The response's error code, 300 to 699.
+        code: u16,
+        /// Its reason phrase: the server's words, or those of whoever sent the response. Remove control characters
+        /// before it is printed. It is empty if the response had none, or none that is UTF-8, or memory for it ran out.
+        reason: String,
+        /// Whether the response was validated under the password. If not, it may be anybody's.
+        is_signed: bool,
+    },
+    /// No response came in time.
+    Unanswered,
+    /// The response didn't validate under the name and the password.
+    Integrity,
+    /// The server's challenge names no algorithm that the client supports.
+    NoCommonAlgorithm,
+    /// The server allocated addresses of other families only.
+    OtherFamily,
+    /// Memory for the cause ran out, so it wasn't stored.
+    OutOfMemory,
+    /// [`TurnClientApi::delete`](crate::TurnClientApi::delete) ended it.
+    Deleted,
+    /// Its time was over.
+    Expired,
+    /// A layer above ended the client. No call of this crate does that.
+    SocketClosed,
+    /// The response was malformed, or lacked what the client needs of it.
+    Unusable,
+}
+
+impl TurnCause {
+    /// The cause that C reports, with its reason phrase; `None` if it reports none, or none of those above.
+    pub(crate) fn read(cause: &sys::Cause, reason: impl FnOnce() -> String) -> Option<Self> {
+        Some(match cause.kind {
+            sys::REJECTED => Self::Rejected {
+                code: u16::try_from(cause.code).unwrap_or_default(),
+                reason: reason(),
+                is_signed: cause.is_signed,
+            },
+            sys::UNANSWERED => Self::Unanswered,
+            sys::INTEGRITY => Self::Integrity,
+            sys::NO_ALGORITHM => Self::NoCommonAlgorithm,
+            sys::OTHER_FAMILY => Self::OtherFamily,
+            sys::CAUSE_MEMORY => Self::OutOfMemory,
+            sys::DELETED => Self::Deleted,
+            sys::EXPIRED => Self::Expired,
+            sys::SOCKET_CLOSED => Self::SocketClosed,
+            sys::UNUSABLE => Self::Unusable,
+            sys::CAUSE_NONE => return None,
+            // of a newer archive
             _ => return None,
         })
     }
@@ -606,5 +664,45 @@ mod tests {
         };
         assert_eq!(TurnEvent::read(&event), None);
         assert_eq!(TurnPollRet::read(8, &sys::Wait::default()), None);
+        let cause = sys::Cause {
+            kind: 11,
+            ..sys::Cause::default()
+        };
+        assert_eq!(TurnCause::read(&cause, String::new), None);
+    }
+
+    /// Each number of the header, and that only a rejection looks at the phrase.
+    #[test]
+    fn causes_are_those_of_the_header() {
+        let read = |kind| {
+            let cause = sys::Cause {
+                kind,
+                code: 403,
+                is_signed: true,
+                ..sys::Cause::default()
+            };
+            TurnCause::read(&cause, || "Forbidden".to_string())
+        };
+        let rejected = TurnCause::Rejected {
+            code: 403,
+            reason: "Forbidden".to_string(),
+            is_signed: true,
+        };
+        let wanted = [
+            (sys::CAUSE_NONE, None),
+            (sys::REJECTED, Some(rejected)),
+            (sys::UNANSWERED, Some(TurnCause::Unanswered)),
+            (sys::INTEGRITY, Some(TurnCause::Integrity)),
+            (sys::NO_ALGORITHM, Some(TurnCause::NoCommonAlgorithm)),
+            (sys::OTHER_FAMILY, Some(TurnCause::OtherFamily)),
+            (sys::CAUSE_MEMORY, Some(TurnCause::OutOfMemory)),
+            (sys::DELETED, Some(TurnCause::Deleted)),
+            (sys::EXPIRED, Some(TurnCause::Expired)),
+            (sys::SOCKET_CLOSED, Some(TurnCause::SocketClosed)),
+            (sys::UNUSABLE, Some(TurnCause::Unusable)),
+        ];
+        for (kind, cause) in wanted {
+            assert_eq!(read(kind), cause);
+        }
     }
 }

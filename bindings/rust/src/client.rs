@@ -9,7 +9,8 @@ use std::time::Duration;
 
 use crate::address::{read, read_transport, told, told_ip, told_moment, told_transport};
 use crate::api::{
-    Channel, Connection, Transmit, TransportType, TurnConfig, TurnEvent, TurnPeerData, TurnPollRet, TurnRecvRet,
+    Channel, Connection, Transmit, TransportType, TurnCause, TurnConfig, TurnEvent, TurnPeerData, TurnPollRet,
+    TurnRecvRet,
 };
 use crate::error::{
     AllocateError, BindChannelError, CreatePermissionError, DeleteError, PollError, PollTransmitError, RecvError,
@@ -163,6 +164,23 @@ impl Handle {
             sys::NOTHING => Ok(None),
             status => Err(RecvError::of(status)),
         }
+    }
+
+    /// What C reports of the event that was taken last.
+    fn cause(&self) -> sys::Cause {
+        let mut cause = sys::Cause::default();
+        // SAFETY: both pointers are of values that live as long as the call. An open handle refuses nothing.
+        unsafe { sys::turn_client_cause(self.at(), &mut cause) };
+        cause
+    }
+
+    /// A text of so many bytes that a call copies; `None` if there is no such text, or no memory for it.
+    fn text(&self, size: usize, copy: impl Fn(*mut sys::Client, *mut u8, usize) -> i32) -> Option<String> {
+        let mut bytes = Vec::new();
+        if !make_room(&mut bytes, size) || copy(self.at(), bytes.as_mut_ptr(), bytes.len()) != sys::OK {
+            return None;
+        }
+        String::from_utf8(bytes).ok()
     }
 
     /// All that a getter shows. It is asked how many there are first: none comes or goes before it is asked again.
@@ -453,6 +471,53 @@ pub trait TurnClientApi: HasHandle {
         } else {
             None
         }
+    }
+
+    /// Takes the event that has waited longest, as [`poll_event`](Self::poll_event) does, with its cause: `None` for
+    /// one that reports no failure.
+    fn poll_event_with_cause(&mut self) -> Option<(TurnEvent, Option<TurnCause>)> {
+        let event = self.poll_event()?;
+        Some((event, self.cause()))
+    }
+
+    /// Returns why the event happened that was taken last, until another is taken. `None` if it reports no failure, or
+    /// none was taken yet.
+    fn cause(&self) -> Option<TurnCause> {
+        let (handle, cause) = (self.handle(), self.handle().cause());
+        TurnCause::read(&cause, || {
+            // SAFETY: `text` passes a handle, and a place with its room.
+            let copied = handle.text(cause.reason_size, |at, out, room| unsafe {
+                sys::turn_client_reason(at, out, room)
+            });
+            copied.unwrap_or_default()
+        })
+    }
+
+    /// Returns the client's own address as the server saw it: the XOR-MAPPED-ADDRESS of the signed response that
+    /// allocated (RFC 8656, section 7.3). `None` before that, or if the response had no such address.
+    fn mapped_address(&self) -> Option<SocketAddr> {
+        let mut mapped = sys::Address::default();
+        // SAFETY: both pointers are of values that live as long as the call.
+        let status = unsafe { sys::turn_client_mapped(self.handle().at(), &mut mapped) };
+        (status == sys::OK).then(|| read(&mapped))
+    }
+
+    /// Returns the server that a response 300 named which ended the client (RFC 8489, section 10); `None` if there was
+    /// none. [`cause`](Self::cause) says whether that response was signed: if not, it may be anybody's. The client
+    /// doesn't follow it.
+    fn alternate_server(&self) -> Option<SocketAddr> {
+        let alternate = self.handle().cause().alternate;
+        (alternate.family != 0).then(|| read(&alternate))
+    }
+
+    /// Returns the name of the domain of that server (RFC 8489, section 14.16); `None` if the response had none, or
+    /// memory for it ran out.
+    fn alternate_domain(&self) -> Option<String> {
+        let handle = self.handle();
+        // SAFETY: `text` passes a handle, and a place with its room.
+        handle.text(handle.cause().domain_size, |at, out, room| unsafe {
+            sys::turn_client_domain(at, out, room)
+        })
     }
 }
 

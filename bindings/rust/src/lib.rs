@@ -51,8 +51,13 @@
 //! - While an event waits, `poll` tells to wait until now. Where turns at one moment do nothing, wait some
 //!   milliseconds.
 //! - A server that can't be reached is given up after 39.5 s. To a wrong password it answers challenges, of which nine
-//!   are answered. Both end in [`TurnEvent::AllocationCreateFailed`], which tells no cause, and
-//!   [`TurnPollRet::Closed`].
+//!   are answered. Both end in [`TurnEvent::AllocationCreateFailed`] and [`TurnPollRet::Closed`].
+//!   [`TurnClientApi::poll_event_with_cause`] says which it was: [`TurnCause::Unanswered`], or [`TurnCause::Rejected`]
+//!   with code 401.
+//! - An error response that isn't signed may be anybody's who can send from the server's address: see `is_signed` of
+//!   [`TurnCause::Rejected`]. The challenges of a wrong password never are.
+//! - The client doesn't follow a response 300. A program may make another client at
+//!   [`TurnClientApi::alternate_server`], with a limit on how often it does so in a row.
 //! - No event tells that an allocation's time is over: look at [`TurnClientApi::relayed_addresses`].
 //! - A client may go to another thread, and isn't shared by two. Dropped, it frees what it holds, and tells the server
 //!   nothing: [`TurnClientApi::delete`] does that.
@@ -93,7 +98,8 @@
 //! - `recv` takes `&[u8]`, and answers data that is borrowed of it or owned. Getters answer vectors. So
 //!   [`TurnClientApi`] makes an object: `Box<dyn TurnClientApi>` is a client over either transport.
 //! - `allocated_tcp_socket` takes no five addresses: number and peer name the connection. There is no `protocol_error`.
-//! - `channels` and `connections` are new.
+//! - `channels`, `connections` and `poll_event_with_cause` are new. `cause` and `alternate_domain` return values of
+//!   their own.
 
 #![deny(missing_docs, missing_debug_implementations, unsafe_op_in_unsafe_fn)]
 #![deny(clippy::undocumented_unsafe_blocks)]
@@ -109,8 +115,8 @@ mod error;
 mod sys;
 
 pub use api::{
-    AddressFamily, Channel, Connection, Feature, IntegrityAlgorithm, Socket5Tuple, Transmit, TransportType, TurnConfig,
-    TurnCredentials, TurnEvent, TurnPeerData, TurnPollRet, TurnRecvRet,
+    AddressFamily, Channel, Connection, Feature, IntegrityAlgorithm, Socket5Tuple, Transmit, TransportType, TurnCause,
+    TurnConfig, TurnCredentials, TurnEvent, TurnPeerData, TurnPollRet, TurnRecvRet,
 };
 pub use client::{TurnClientApi, TurnClientTcp, TurnClientUdp};
 pub use error::{

@@ -53,6 +53,18 @@ pub const CHANNEL_FAILED: u32 = 6;
 pub const TCP_CONNECTED: u32 = 7;
 pub const TCP_FAILED: u32 = 8;
 
+pub const CAUSE_NONE: u32 = 0;
+pub const REJECTED: u32 = 1;
+pub const UNANSWERED: u32 = 2;
+pub const INTEGRITY: u32 = 3;
+pub const NO_ALGORITHM: u32 = 4;
+pub const OTHER_FAMILY: u32 = 5;
+pub const CAUSE_MEMORY: u32 = 6;
+pub const DELETED: u32 = 7;
+pub const EXPIRED: u32 = 8;
+pub const SOCKET_CLOSED: u32 = 9;
+pub const UNUSABLE: u32 = 10;
+
 #[repr(C)]
 #[derive(Clone, Copy, Debug, Default, PartialEq, Eq)]
 pub struct Address {
@@ -125,6 +137,17 @@ pub struct Event {
     pub kind: u32,
     pub transport: u32,
     pub address: Address,
+}
+
+#[repr(C)]
+#[derive(Clone, Copy, Debug, Default)]
+pub struct Cause {
+    pub kind: u32,
+    pub code: u32,
+    pub is_signed: bool,
+    pub reason_size: usize,
+    pub alternate: Address,
+    pub domain_size: usize,
 }
 
 #[repr(C)]
@@ -212,6 +235,10 @@ extern "C" {
 
     pub fn turn_client_poll(client: *mut Client, now: u64, wait: *mut Wait) -> i32;
     pub fn turn_client_event(client: *mut Client, event: *mut Event) -> i32;
+    pub fn turn_client_cause(client: *mut Client, cause: *mut Cause) -> i32;
+    pub fn turn_client_reason(client: *mut Client, out: *mut u8, out_len: usize) -> i32;
+    pub fn turn_client_domain(client: *mut Client, out: *mut u8, out_len: usize) -> i32;
+    pub fn turn_client_mapped(client: *mut Client, mapped: *mut Address) -> i32;
 
     pub fn turn_client_permit(client: *mut Client, transport: u32, peer: *const Address, now: u64) -> i32;
     pub fn turn_client_bind(
@@ -300,6 +327,7 @@ mod tests {
             turn_payload = Payload { start, size, transport, peer, is_joined, icmp_type, icmp_code, icmp_data }
             turn_wait = Wait { until, id, transport, from, to, peer }
             turn_event = Event { kind, transport, address }
+            turn_cause = Cause { kind, code, is_signed, reason_size, alternate, domain_size }
             turn_relayed = Relayed { transport, address }
             turn_channel = Channel { number, peer }
             turn_connection = Connection { local, peer, id, is_bound }
@@ -316,6 +344,8 @@ mod tests {
             TCP UDP IPV4 IPV6 SHA1 SHA256 SHA512 ANONYMOUS_AUTO ANONYMOUS_REQUIRED ANONYMOUS_DISABLED
             ALLOCATION_CREATED ALLOCATION_FAILED PERMISSION_CREATED PERMISSION_FAILED CHANNEL_CREATED CHANNEL_FAILED
             TCP_CONNECTED TCP_FAILED
+            CAUSE_NONE REJECTED UNANSWERED INTEGRITY NO_ALGORITHM OTHER_FAMILY CAUSE_MEMORY DELETED EXPIRED
+            SOCKET_CLOSED UNUSABLE
         }
     }
 

@@ -8,14 +8,15 @@ use std::time::Duration;
 use stored::walker::{address, open, Walker};
 use stored::{exchange, PASSWORD, SEED, USER};
 use turn_client::{
-    version, AllocateError, IntegrityAlgorithm, SendError, Transmit, TransportType, TurnClientApi, TurnClientTcp,
-    TurnClientUdp, TurnConfig, TurnCredentials, TurnRecvRet, NAME_MAX, PAYLOAD_MAX,
+    version, AllocateError, IntegrityAlgorithm, SendError, Transmit, TransportType, TurnCause, TurnClientApi,
+    TurnClientTcp, TurnClientUdp, TurnConfig, TurnCredentials, TurnEvent, TurnRecvRet, NAME_MAX, PAYLOAD_MAX,
 };
 
 const LOCAL: &str = "192.0.2.1:5000";
 const SERVER: &str = "192.0.2.2:3478";
 /// The peer of the stored exchanges that has a channel, or a connection.
 const PEER: &str = "198.51.100.1:9000";
+const OTHER_PEER: &str = "198.51.100.2:9001";
 /// So many parts of the exchange over UDP bind the channel, and of that of connections bind the first of these.
 const PARTS_UNTIL_CHANNEL: usize = 4;
 const PARTS_UNTIL_CONNECTION: usize = 3;
@@ -66,6 +67,29 @@ fn first_request() -> Vec<u8> {
     let config = TurnConfig::new(TurnCredentials::new(USER, PASSWORD));
     let mut client = TurnClientUdp::new(address(LOCAL), address(SERVER), config).unwrap();
     client.poll_transmit(Duration::ZERO).unwrap().unwrap().data.to_vec()
+}
+
+/// Two responses came, and then the events of both are taken.
+#[test]
+fn each_event_comes_with_its_own_cause() {
+    let exchange = exchange("what the server rejects");
+    let mut walker = Walker::walked(exchange, 1);
+    let (_, steps) = exchange.parts[1];
+    for step in steps.iter().take_while(|it| it.call != "event") {
+        walker.call(step);
+    }
+    let client = walker.client();
+    for (peer, code, reason) in [(PEER, 403, "Forbidden"), (OTHER_PEER, 508, "Insufficient Capacity")] {
+        let event = TurnEvent::PermissionCreateFailed(TransportType::Udp, address(peer).ip());
+        let cause = TurnCause::Rejected {
+            code,
+            reason: reason.to_string(),
+            is_signed: true,
+        };
+        assert_eq!(client.poll_event_with_cause(), Some((event, Some(cause.clone()))));
+        assert_eq!(client.cause(), Some(cause));
+    }
+    assert_eq!(client.poll_event_with_cause(), None);
 }
 
 #[test]

@@ -59,6 +59,22 @@ fn the_name_is_to_be_hidden() {
 }
 
 #[test]
+fn the_server_rejects_requests() {
+    walk("what the server rejects");
+}
+
+#[test]
+fn the_server_names_another() {
+    walk("another server");
+    walk("another server, which anybody may name");
+}
+
+#[test]
+fn the_password_is_another() {
+    walk("another password");
+}
+
+#[test]
 fn a_channel_ends() {
     walk("a channel ends");
 }

@@ -12,8 +12,8 @@ use std::time::{Duration, Instant};
 use options::{Options, Peer};
 use tally::Tally;
 use turn_client::{
-    AddressFamily, IntegrityAlgorithm, Transmit, TransportType, TurnClientApi, TurnConfig, TurnCredentials, TurnEvent,
-    TurnPeerData, TurnPollRet, TurnRecvRet,
+    AddressFamily, IntegrityAlgorithm, Transmit, TransportType, TurnCause, TurnClientApi, TurnConfig, TurnCredentials,
+    TurnEvent, TurnPeerData, TurnPollRet, TurnRecvRet,
 };
 
 /// How long the last payloads are waited for.
@@ -53,6 +53,38 @@ impl<E: Error> From<E> for Failure {
     }
 }
 
+/// Opens a line to a server.
+pub type Open = fn(SocketAddr) -> Result<Box<dyn Line>, Failure>;
+
+/// A cause as it is printed. The reason phrase is the server's, so control characters are left out.
+fn text_of(cause: &TurnCause) -> String {
+    let word = match cause {
+        TurnCause::Rejected {
+            code,
+            reason,
+            is_signed,
+        } => {
+            let signed = if *is_signed { "signed" } else { "unsigned" };
+            return format!("rejected {code} {signed} {}", printable(reason));
+        }
+        TurnCause::Unanswered => "unanswered",
+        TurnCause::Integrity => "integrity",
+        TurnCause::NoCommonAlgorithm => "no-algorithm",
+        TurnCause::OtherFamily => "other-family",
+        TurnCause::OutOfMemory => "no-memory",
+        TurnCause::Deleted => "deleted",
+        TurnCause::Expired => "expired",
+        TurnCause::SocketClosed => "socket-closed",
+        TurnCause::Unusable => "unusable",
+        _ => "another",
+    };
+    word.to_string()
+}
+
+fn printable(text: &str) -> String {
+    text.chars().filter(|it| !it.is_control()).collect()
+}
+
 /// What leads to the server.
 pub trait Line {
     fn local_addr(&self) -> std::io::Result<SocketAddr>;
@@ -89,6 +121,7 @@ fn start_echo() -> std::io::Result<SocketAddr> {
 }
 
 struct Run {
+    new: New,
     client: Box<dyn TurnClientApi>,
     line: Box<dyn Line>,
     start: Instant,
@@ -103,6 +136,9 @@ struct Run {
     has_heard: bool,
     is_ready: bool,
     is_deleted: bool,
+    /// Whether it may go on at a server that a response 300 names; and that server.
+    follows: bool,
+    elsewhere: Option<SocketAddr>,
     /// What went wrong first: then the address is given back.
     failure: Option<Failure>,
 }
@@ -130,9 +166,10 @@ impl Run {
             }
             let answer = self.client.poll(self.now())?;
             let mut has_happened = false;
-            while let Some(event) = self.client.poll_event() {
+            while let Some((event, cause)) = self.client.poll_event_with_cause() {
                 self.say(format_args!("{event:?}"));
-                self.follow(event)?;
+                self.say_cause(cause.as_ref());
+                self.follow(event, cause.as_ref())?;
                 has_happened = true;
             }
             match answer {
@@ -148,13 +185,27 @@ impl Run {
         }
     }
 
+    /// Says why an event reports a failure, and which server a response 300 named.
+    fn say_cause(&self, cause: Option<&TurnCause>) {
+        if let Some(cause) = cause {
+            self.say(format_args!("cause: {}", text_of(cause)));
+        }
+        if let Some(server) = self.client.alternate_server() {
+            let domain = self.client.alternate_domain().unwrap_or_default();
+            self.say(format_args!("alternate server: {server} {}", printable(&domain)));
+        }
+    }
+
     /// Asks for what an event allows for.
-    fn follow(&mut self, event: TurnEvent) -> Result<(), Failure> {
-        let now = self.now();
+    fn follow(&mut self, event: TurnEvent, cause: Option<&TurnCause>) -> Result<(), Failure> {
+        let (now, why) = (self.now(), cause.map(text_of).unwrap_or_default());
         match (event, self.peer) {
             _ if self.is_deleted => {}
             (TurnEvent::AllocationCreated(..), peer) => {
                 self.keeps_until = Some(now + self.kept);
+                if let Some(address) = self.client.mapped_address() {
+                    self.say(format_args!("public address: {address}"));
+                }
                 if let Some(peer) = peer {
                     self.client.create_permission(BETWEEN, peer.ip(), now)?;
                 }
@@ -163,20 +214,32 @@ impl Run {
                 self.client.bind_channel(BETWEEN, peer, now)?;
             }
             (TurnEvent::PermissionCreated(..) | TurnEvent::ChannelCreated(..), _) => self.is_ready = true,
+            (TurnEvent::AllocationCreateFailed(_), _) if self.goes_elsewhere() => {}
             (TurnEvent::AllocationCreateFailed(_), _) if !self.has_heard => {
                 self.fail(NO_ANSWER, format!("no answer from {}", self.client.remote_addr()));
             }
             (TurnEvent::AllocationCreateFailed(_), _) => {
-                self.fail(
-                    FAILED,
-                    "no address: the server refused it, the name or the password".to_string(),
-                );
+                self.fail(FAILED, format!("no address: {why}"));
             }
-            _ => self.fail(
-                FAILED,
-                "the server refused a permission or a channel, or didn't renew it".to_string(),
-            ),
+            _ => self.fail(FAILED, format!("no permission or no channel: {why}")),
         }
+        Ok(())
+    }
+
+    /// Whether a failed allocation is not the end: the server named another one, and the example goes on there, once.
+    fn goes_elsewhere(&mut self) -> bool {
+        if self.follows {
+            self.elsewhere = self.client.alternate_server();
+        }
+        self.elsewhere.is_some()
+    }
+
+    /// Makes a client at the server that the first one was directed to. That is done once.
+    fn go_elsewhere(&mut self, open: Open, server: SocketAddr, config: TurnConfig) -> Result<(), Failure> {
+        self.say(format_args!("goes on with {server}"));
+        (self.follows, self.elsewhere, self.has_heard) = (false, None, false);
+        self.line = open(server)?;
+        self.client = (self.new)(self.line.local_addr()?, server, config)?;
         Ok(())
     }
 
@@ -278,7 +341,7 @@ impl Run {
         }
         match self.failure.take() {
             Some(failure) => Err(failure),
-            None if self.is_deleted => Ok(()),
+            None if self.is_deleted || self.elsewhere.is_some() => Ok(()),
             None => Err(Failure::new(
                 FAILED,
                 "the address is gone: the server didn't renew it".to_string(),
@@ -301,13 +364,15 @@ fn config(options: &Options, peer: Option<SocketAddr>) -> TurnConfig {
 }
 
 /// Does all of it: the tally, and what went wrong.
-fn run(options: &Options, line: Box<dyn Line>, new: New) -> Result<Tally, Failure> {
+fn run(options: &Options, open: Open, new: New) -> Result<Tally, Failure> {
     let peer = match options.peer {
         Peer::None => None,
         Peer::Echo => Some(start_echo()?),
         Peer::At(peer) => Some(peer),
     };
+    let line = open(options.server)?;
     let mut run = Run {
+        new,
         client: new(line.local_addr()?, options.server, config(options, peer))?,
         line,
         start: Instant::now(),
@@ -320,14 +385,20 @@ fn run(options: &Options, line: Box<dyn Line>, new: New) -> Result<Tally, Failur
         has_heard: false,
         is_ready: false,
         is_deleted: false,
+        follows: options.follows,
+        elsewhere: None,
         failure: None,
     };
     run.run()?;
+    if let Some(server) = run.elsewhere {
+        run.go_elsewhere(open, server, config(options, peer))?;
+        run.run()?;
+    }
     Ok(run.tally)
 }
 
 /// The exit status of an example. `open` makes its line to a server.
-pub fn main_over(open: fn(SocketAddr) -> Result<Box<dyn Line>, Failure>, new: New) -> ExitCode {
+pub fn main_over(open: Open, new: New) -> ExitCode {
     let mut words = std::env::args();
     let name = words.next().unwrap_or_default();
     let options = match options::read(words) {
@@ -341,7 +412,7 @@ pub fn main_over(open: fn(SocketAddr) -> Result<Box<dyn Line>, Failure>, new: Ne
             return ExitCode::from(BAD_USAGE);
         }
     };
-    match open(options.server).and_then(|line| run(&options, line, new)) {
+    match run(&options, open, new) {
         Ok(tally) => {
             let is_lost = tally.back < tally.count;
             tally.print();

@@ -16,6 +16,7 @@ pub const USAGE: &str = "\
   --size BYTES       of each, 4 to 60000; without it 100
   --seconds N        how long the address is kept at least; without it 0
   --indications      no channel: each payload goes in an indication
+  --follow           goes on at the server that this one names by an error 300, once
   --sha256           messages are signed by HMAC-SHA256 alone; without it by that or HMAC-SHA1
   --help
 
@@ -45,6 +46,7 @@ pub struct Options {
     pub kept: Duration,
     pub has_no_channel: bool,
     pub is_sha256: bool,
+    pub follows: bool,
 }
 
 /// Options as far as they were read.
@@ -60,6 +62,7 @@ struct Reader<I> {
     seconds: u32,
     has_no_channel: bool,
     is_sha256: bool,
+    follows: bool,
 }
 
 impl<I: Iterator<Item = String>> Reader<I> {
@@ -76,6 +79,7 @@ impl<I: Iterator<Item = String>> Reader<I> {
             seconds: 0,
             has_no_channel: false,
             is_sha256: false,
+            follows: false,
         }
     }
 
@@ -116,6 +120,7 @@ impl<I: Iterator<Item = String>> Reader<I> {
             "--seconds" => self.seconds = self.number(option, 0, u32::MAX)?,
             "--indications" => self.has_no_channel = true,
             "--sha256" => self.is_sha256 = true,
+            "--follow" => self.follows = true,
             _ => return Err(format!("{option} is no option")),
         }
         Ok(())
@@ -141,6 +146,7 @@ impl<I: Iterator<Item = String>> Reader<I> {
             kept: Duration::from_secs(self.seconds.into()),
             has_no_channel: self.has_no_channel,
             is_sha256: self.is_sha256,
+            follows: self.follows,
         })
     }
 }

@@ -9,22 +9,27 @@ pub mod walker;
 pub struct Told {
     /// A status; of getters how many there are, and 1 for true.
     pub answer: &'static str,
-    /// The kind of an event.
+    /// The kind of an event, or of a cause.
     pub kind: &'static str,
     pub transport: &'static str,
     /// Of a connection or a channel; the data of a report in ICMP.
     pub number: u32,
+    /// Of the error response that a cause reports.
+    pub code: u32,
     pub from: &'static str,
     pub to: &'static str,
     /// The peer, or the address that an event or a getter tells.
     pub peer: &'static str,
     /// What is sent, or the data of a peer; none where it is to be read by another step.
     pub bytes: &'static [u8],
+    /// Their number; of a cause that of its phrase.
     pub size: usize,
+    pub domain_size: usize,
     /// Where data stands in the bytes that came.
     pub start: usize,
     pub is_joined: bool,
     pub is_bound: bool,
+    pub is_signed: bool,
     pub icmp_type: u8,
     pub icmp_code: u8,
     pub until: u64,
@@ -35,14 +40,17 @@ pub const TOLD: Told = Told {
     kind: "",
     transport: "",
     number: 0,
+    code: 0,
     from: "",
     to: "",
     peer: "",
     bytes: &[],
     size: 0,
+    domain_size: 0,
     start: 0,
     is_joined: false,
     is_bound: false,
+    is_signed: false,
     icmp_type: 0,
     icmp_code: 0,
     until: 0,

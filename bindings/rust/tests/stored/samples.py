@@ -81,7 +81,8 @@ class Exchange(samples.Exchange):
 def main():
     samples.Exchange = Exchange
     makers = (samples.udp, samples.tcp, samples.connections, samples.both, samples.the_others, samples.unanswered,
-              samples.hidden, samples.lapsed, samples.strongest, samples.none_in_common)
+              samples.hidden, samples.lapsed, samples.strongest, samples.none_in_common, samples.rejected,
+              samples.redirected, samples.redirected_unsigned, samples.another_password)
     exchanges = [line for make in makers for line in make().rust_lines()]
     texts = [f"const {name}: &[u8] = &{list(value)};" for value, name in TEXTS.items()]
     constants = [

@@ -6,7 +6,7 @@ use std::net::SocketAddr;
 use std::time::Duration;
 
 use turn_client::{
-    AddressFamily, BindChannelError, Feature, IntegrityAlgorithm, Transmit, TransportType, TurnClientApi,
+    AddressFamily, BindChannelError, Feature, IntegrityAlgorithm, Transmit, TransportType, TurnCause, TurnClientApi,
     TurnClientTcp, TurnClientUdp, TurnConfig, TurnCredentials, TurnEvent, TurnPeerData, TurnPollRet, TurnRecvRet,
 };
 
@@ -154,6 +154,48 @@ fn tell_event(event: TurnEvent) -> Told {
         peer,
         ..TOLD
     }
+}
+
+/// A cause, with its code and whether its response was signed.
+fn tell_cause(cause: Option<&TurnCause>) -> Told {
+    let kind = match cause {
+        None => "TURN_CAUSE_NONE",
+        Some(TurnCause::Rejected { .. }) => "TURN_REJECTED",
+        Some(TurnCause::Unanswered) => "TURN_UNANSWERED",
+        Some(TurnCause::Integrity) => "TURN_INTEGRITY",
+        Some(TurnCause::NoCommonAlgorithm) => "TURN_NO_ALGORITHM",
+        Some(TurnCause::OtherFamily) => "TURN_OTHER_FAMILY",
+        Some(TurnCause::Deleted) => "TURN_DELETED",
+        Some(TurnCause::Expired) => "TURN_EXPIRED",
+        Some(TurnCause::Unusable) => "TURN_UNUSABLE",
+        other => panic!("no exchange has this: {other:?}"),
+    };
+    let (code, is_signed, size) = match cause {
+        Some(TurnCause::Rejected {
+            code,
+            reason,
+            is_signed,
+        }) => ((*code).into(), *is_signed, reason.len()),
+        _ => (0, false, 0),
+    };
+    Told {
+        answer: "TURN_OK",
+        kind,
+        code,
+        is_signed,
+        size,
+        ..TOLD
+    }
+}
+
+/// A text that is copied, if there is one.
+fn tell_text(text: Option<String>) -> Told {
+    text.map_or(answer("TURN_NOTHING"), |text| Told {
+        answer: "TURN_OK",
+        size: text.len(),
+        bytes: text.into_bytes().leak(),
+        ..TOLD
+    })
 }
 
 /// An address without a port, as the header has it.
@@ -319,6 +361,29 @@ impl Walker {
         }
     }
 
+    /// What the client notes of the event that was taken last, and of the server's addresses.
+    fn note(&mut self, step: &Step) -> Told {
+        let client = self.client();
+        let (cause, domain) = (client.cause(), client.alternate_domain());
+        match step.call {
+            "cause" => Told {
+                peer: client.alternate_server().map_or("", kept),
+                domain_size: domain.map_or(0, |it| it.len()),
+                ..tell_cause(cause.as_ref())
+            },
+            "reason" => match cause {
+                Some(TurnCause::Rejected { reason, .. }) => tell_text(Some(reason)),
+                _ => tell_text(None),
+            },
+            "domain" => tell_text(domain),
+            _ => client.mapped_address().map_or(answer("TURN_NOTHING"), |it| Told {
+                answer: "TURN_OK",
+                peer: kept(it),
+                ..TOLD
+            }),
+        }
+    }
+
     fn get(&mut self, step: &Step) -> Told {
         let (which, client) = (step.number, self.client());
         match step.call {
@@ -405,6 +470,7 @@ impl Walker {
             }
             "poll" => tell_poll(self.client().poll(now).unwrap()),
             "event" => self.client().poll_event().map_or(answer("TURN_NOTHING"), tell_event),
+            "cause" | "reason" | "domain" | "mapped" => self.note(step),
             _ => self.ask(step, now),
         }
     }
