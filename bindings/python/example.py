@@ -22,9 +22,10 @@ from pathlib import Path
 from typing import Any, Protocol
 
 from turn_client import (
-    Address, AllocateTcpSocket, AllocationCreated, AllocationCreateFailed, BadText, ChannelCreated, Families, Handled,
-    Integrity, LongName, NoAllocation, PeerData, PeerIcmp, PermissionCreated, TcpClose, TcpConnected, Transmit,
-    Transport, TurnClient, TurnConfig, TurnError, TurnEvent, TurnRecvRet, WaitUntil,
+    Address, AllocateTcpSocket, AllocationCreated, AllocationCreateFailed, BadIntegrity, BadText, CauseLost,
+    ChannelCreated, Deleted, Expired, Families, Handled, Integrity, LongName, NoAllocation, NoCommonAlgorithm,
+    OtherFamily, PeerData, PeerIcmp, PermissionCreated, Rejected, SocketClosed, TcpClose, TcpConnected, Transmit,
+    Transport, TurnCause, TurnClient, TurnConfig, TurnError, TurnEvent, TurnRecvRet, Unanswered, Unusable, WaitUntil,
 )
 
 ALL_BACK, SOME_LOST, BAD_USAGE, FAILED, NO_ANSWER = range(5)
@@ -42,12 +43,37 @@ STRIDE, BYTES = 31, 256  # from each of its other bytes to the next, and how man
 LEAST_SIZE, MOST_SIZE, MOST_COUNT = NUMBER, 60000, 1_000_000
 
 
+CAUSES: dict[type[TurnCause], str] = {
+    Unanswered: "unanswered", BadIntegrity: "integrity", NoCommonAlgorithm: "no-algorithm", OtherFamily: "other-family",
+    CauseLost: "no-memory", Deleted: "deleted", Expired: "expired", SocketClosed: "socket-closed", Unusable: "unusable",
+}
+
+
 class Failure(Exception):
     """Why the run ends, and with which exit status."""
 
     def __init__(self, status: int, text: str) -> None:
         super().__init__(text)
         self.status = status
+
+
+class Redirected(Failure):
+    """The server named another one, by an error 300."""
+
+    def __init__(self, server: Address) -> None:
+        super().__init__(FAILED, f"the server names another one, {shown(server)}: see --follow")
+        self.server = server
+
+
+def printable(text: str) -> str:
+    """A text of the server's, without what isn't to be printed."""
+    return "".join(it for it in text if it.isprintable())
+
+
+def text_of(cause: TurnCause) -> str:
+    if isinstance(cause, Rejected):
+        return f"rejected {cause.code} {'signed' if cause.is_signed else 'unsigned'} {printable(cause.reason)}"
+    return CAUSES[type(cause)]
 
 
 def shown(address: Address) -> str:
@@ -280,8 +306,8 @@ class Session:
             self.send(transmit)
             has_done = True
         answer = self.client.poll(time.monotonic_ns())
-        while (event := self.client.poll_event()) is not None:
-            self.follow(event)
+        while (happened := self.client.poll_event_with_cause()) is not None:
+            self.follow(*happened)
             has_done = True
         if isinstance(answer, AllocateTcpSocket):
             self.start(self.open_socket(answer))
@@ -301,17 +327,29 @@ class Session:
         if not self.is_deleted:
             self.fail(FAILED, "the address is gone: the server didn't renew it")
 
-    def follow(self, event: TurnEvent) -> None:
+    def follow(self, event: TurnEvent, cause: TurnCause | None) -> None:
         self.say(str(event))
         self.events.append(event)
-        if self.is_deleted or isinstance(event, (AllocationCreated, PermissionCreated, ChannelCreated, TcpConnected)):
+        if cause is not None:
+            self.say(f"cause: {text_of(cause)}")
+        if isinstance(event, AllocationCreated) and (mapped := self.client.mapped_address()) is not None:
+            self.say(f"public address: {shown(mapped)}")
+        if self.is_deleted or cause is None:
             return
-        if isinstance(event, AllocationCreateFailed) and not self.has_heard:
-            self.fail(NO_ANSWER, "no answer from the server")
-        elif isinstance(event, AllocationCreateFailed):
-            self.fail(FAILED, "no address: the server refused it, the name or the password")
+        if isinstance(event, AllocationCreateFailed):
+            self.failure = self.failure or self.failed_allocation(cause)
+            self.changed.set()
         else:
-            self.fail(FAILED, "the server refused a permission, a channel or a connection, or didn't renew it")
+            self.fail(FAILED, f"no permission, no channel or no connection: {text_of(cause)}")
+
+    def failed_allocation(self, cause: TurnCause) -> Failure:
+        """Why there is no address."""
+        if (server := self.client.alternate_server()) is not None:
+            self.say(f"alternate server: {shown(server)} {printable(self.client.alternate_domain() or '')}")
+            return Redirected(server)
+        if not self.has_heard:
+            return Failure(NO_ANSWER, "no answer from the server")
+        return Failure(FAILED, f"no address: {text_of(cause)}")
 
     # ---- what goes and comes
 
@@ -505,10 +543,22 @@ async def work(options: argparse.Namespace, tally: Tally) -> None:
             await session.give_back()
 
 
+async def work_or_follow(options: argparse.Namespace, tally: Tally) -> None:
+    """Does the work, with --follow at the server that the first one names: once."""
+    try:
+        await work(options, tally)
+    except Redirected as error:
+        if not options.follow:
+            raise
+        print(f"goes on with {shown(error.server)}", flush=True)
+        options.server = error.server
+        await work(options, tally)
+
+
 async def run(options: argparse.Namespace) -> int:
     tally, failed = Tally(options.count, options.size), None
     try:
-        await work(options, tally)
+        await work_or_follow(options, tally)
     except (Failure, TurnError, OSError) as error:
         failed = error.status if isinstance(error, Failure) else FAILED
         print(f"example: {error}", file=sys.stderr)
@@ -565,6 +615,7 @@ def read_options() -> argparse.Namespace:
     add("--seconds", type=bounded(0, MOST_COUNT), default=0, help="how long the address is kept at least, "
         "over which the payloads are spread; without it 0")
     add("--indications", action="store_true", help="no channel: each payload goes in an indication")
+    add("--follow", action="store_true", help="goes on at the server that this one names by an error 300, once")
     add("--sha256", action="store_true", help="requests are signed by HMAC-SHA256 alone; without it by that "
         "or HMAC-SHA1")
     options = parser.parse_args()

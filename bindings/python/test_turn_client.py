@@ -67,6 +67,12 @@ EVENTS = {
     "ChannelCreated": "TURN_CHANNEL_CREATED", "ChannelCreateFailed": "TURN_CHANNEL_FAILED",
     "TcpConnected": "TURN_TCP_CONNECTED", "TcpConnectFailed": "TURN_TCP_FAILED",
 }
+CAUSES = {
+    "NoneType": "TURN_CAUSE_NONE", "Rejected": "TURN_REJECTED", "Unanswered": "TURN_UNANSWERED",
+    "BadIntegrity": "TURN_INTEGRITY", "NoCommonAlgorithm": "TURN_NO_ALGORITHM", "OtherFamily": "TURN_OTHER_FAMILY",
+    "CauseLost": "TURN_CAUSE_MEMORY", "Deleted": "TURN_DELETED", "Expired": "TURN_EXPIRED",
+    "SocketClosed": "TURN_SOCKET_CLOSED", "Unusable": "TURN_UNUSABLE",
+}
 
 
 # ---- values as samples.py has them
@@ -232,6 +238,32 @@ class Walker:
             transport = "tcp" if kind.startswith("Tcp") else text_of(event.transport)
         return "TURN_OK", {"number": EVENTS[kind], "transport": transport, "peer": address}
 
+    # ---- why it happened, and what the server named
+
+    def cause(self, step: Step) -> Any:
+        cause, server, domain = self.client.cause(), self.client.alternate_server(), self.client.alternate_domain()
+        told: dict[str, Any] = {"number": CAUSES[type(cause).__name__]}
+        if isinstance(cause, self.module.Rejected):
+            told |= {"code": cause.code, "is_signed": cause.is_signed}
+            told |= {"size": len(cause.reason.encode())} if cause.reason else {}
+        told |= {"peer": shown(server)} if server else {}
+        return "TURN_OK", told | ({"domain_size": len(domain.encode())} if domain else {})
+
+    def reason(self, step: Step) -> Any:
+        cause = self.client.cause()
+        return self.text(cause.reason if isinstance(cause, self.module.Rejected) else None)
+
+    def domain(self, step: Step) -> Any:
+        return self.text(self.client.alternate_domain())
+
+    @staticmethod
+    def text(text: str | None) -> Any:
+        return ("TURN_NOTHING", {}) if text is None else ("TURN_OK", {"bytes": text.encode()})
+
+    def mapped(self, step: Step) -> Any:
+        address = self.client.mapped_address()
+        return ("TURN_NOTHING", {}) if address is None else ("TURN_OK", {"peer": shown(address)})
+
     # ---- what is asked for, and what was done
 
     def permit(self, step: Step) -> Any:
@@ -315,7 +347,8 @@ def many() -> Any:
 
 
 EXCHANGES = (samples.udp, samples.tcp, samples.connections, samples.both, samples.the_others, samples.unanswered,
-             samples.hidden, samples.lapsed, samples.strongest, samples.none_in_common, many)
+             samples.hidden, samples.lapsed, samples.strongest, samples.none_in_common, samples.rejected,
+             samples.redirected, samples.redirected_unsigned, samples.another_password, many)
 
 
 class Exchanges(unittest.TestCase):
@@ -334,6 +367,44 @@ class Exchanges(unittest.TestCase):
         for make in EXCHANGES[3:]:
             with self.subTest(make.__name__):
                 walk(self, make)
+
+
+class Causes(unittest.TestCase):
+    def test_with_its_event(self) -> None:
+        """Two responses came, and then the events of both are taken."""
+        settings, steps = recorded(samples.rejected)
+        walker = Walker(turn_client, settings)
+        for step in steps:
+            if "two permissions" in step.part and step.call == "event":
+                break
+            walker.told(step)
+        rejections = ((base.ONE, 403, "Forbidden"), (base.TWO, 508, "Insufficient Capacity"))
+        for peer, code, reason in rejections:
+            event = turn_client.PermissionCreateFailed(turn_client.Transport.UDP, read(peer)[0])
+            cause = turn_client.Rejected(code, reason, True)
+            self.assertEqual(walker.client.poll_event_with_cause(), (event, cause))
+            self.assertEqual(walker.client.cause(), cause)
+        self.assertIsNone(walker.client.poll_event_with_cause())
+
+    def test_each_has_its_class(self) -> None:
+        """In the order of the header, and no other."""
+        numbers = {name: NUMBERS[name] for name in CAUSES.values()}
+        kinds = re.search(r"enum turn_cause_kind {(.*?)^};", HEADER, re.DOTALL | re.MULTILINE)
+        assert kinds is not None
+        self.assertEqual(set(re.findall(r"TURN_\w+(?= =)", kinds[1])), set(numbers))
+        self.assertEqual(turn_client._REJECTED, numbers["TURN_REJECTED"])
+        for place, kind in enumerate(turn_client._OTHER_CAUSES):
+            self.assertEqual(numbers[CAUSES[type(kind()).__name__]], turn_client._REJECTED + 1 + place)
+        self.assertEqual(len(turn_client._OTHER_CAUSES), len(numbers) - 2)
+
+    def test_closed(self) -> None:
+        client, _ = allocated()
+        client.close()
+        calls: list[Callable[[], object]] = [client.cause, client.poll_event_with_cause, client.mapped_address,
+                                             client.alternate_server, client.alternate_domain]
+        for call in calls:
+            with self.subTest(call), self.assertRaises(turn_client.NoClient):
+                call()
 
 
 # ---- refusals

@@ -335,7 +335,7 @@ class AllocationCreated:
 
 @dataclass(frozen=True)
 class AllocationCreateFailed:
-    """No cause is told: it was refused, or nobody answered."""
+    """There is no relayed address of that family: the cause says why."""
 
     family: Families
 
@@ -381,6 +381,63 @@ class TcpConnectFailed:
 
 
 @dataclass(frozen=True)
+class Rejected:
+    """The server rejected the request, by an error response with this code, 300 to 699. The reason phrase is the
+    server's words, or those of whoever sent the response: remove control characters before it is printed. It is empty
+    if the response had none, or none that is UTF-8. A response that isn't signed, which means that it wasn't validated
+    under the password, may be anybody's."""
+
+    code: int
+    reason: str
+    is_signed: bool
+
+
+@dataclass(frozen=True)
+class Unanswered:
+    """No response came in time."""
+
+
+@dataclass(frozen=True)
+class BadIntegrity:
+    """The response didn't validate under the name and the password."""
+
+
+@dataclass(frozen=True)
+class NoCommonAlgorithm:
+    """The server's challenge names no algorithm that the client supports."""
+
+
+@dataclass(frozen=True)
+class OtherFamily:
+    """The server allocated addresses of other families only."""
+
+
+@dataclass(frozen=True)
+class CauseLost:
+    """Memory for the cause ran out, so it wasn't stored."""
+
+
+@dataclass(frozen=True)
+class Deleted:
+    """delete ended it."""
+
+
+@dataclass(frozen=True)
+class Expired:
+    """Its time was over."""
+
+
+@dataclass(frozen=True)
+class SocketClosed:
+    """A layer above ended the client. No call of this module does that."""
+
+
+@dataclass(frozen=True)
+class Unusable:
+    """The response was malformed, or lacked what the client needs of it."""
+
+
+@dataclass(frozen=True)
 class Channel:
     number: int
     peer: Address
@@ -400,6 +457,8 @@ TurnRecvRet = Union[Handled, Ignored, PeerData, PeerIcmp]
 TurnPollRet = Union[WaitUntil, AllocateTcpSocket, TcpClose, Closed]
 TurnEvent = Union[AllocationCreated, AllocationCreateFailed, PermissionCreated, PermissionCreateFailed, ChannelCreated,
                   ChannelCreateFailed, TcpConnected, TcpConnectFailed]
+TurnCause = Union[Rejected, Unanswered, BadIntegrity, NoCommonAlgorithm, OtherFamily, CauseLost, Deleted, Expired,
+                  SocketClosed, Unusable]
 
 
 # ---- the structs of turn_client.h
@@ -470,6 +529,19 @@ class _Event(ctypes.Structure):
     _fields_ = [("kind", ctypes.c_uint32), ("transport", ctypes.c_uint32), ("address", _Address)]
 
 
+class _Cause(ctypes.Structure):
+    kind: int
+    code: int
+    is_signed: bool
+    reason_size: int
+    alternate: _Address
+    domain_size: int
+    _fields_ = [
+        ("kind", ctypes.c_uint32), ("code", ctypes.c_uint32), ("is_signed", ctypes.c_bool),
+        ("reason_size", ctypes.c_size_t), ("alternate", _Address), ("domain_size", ctypes.c_size_t),
+    ]
+
+
 class _Relayed(ctypes.Structure):
     transport: int
     address: _Address
@@ -514,6 +586,10 @@ _CALLS: dict[str, tuple[Any, Sequence[Any]]] = {
     "send": (_STATUS, (_NUMBER, _AT, _BYTES, _SIZE, _MOMENT, _BYTES, _SIZE, ctypes.POINTER(_Transmit))),
     "poll": (_STATUS, (_MOMENT, ctypes.POINTER(_Wait))),
     "event": (_STATUS, (ctypes.POINTER(_Event),)),
+    "cause": (_STATUS, (ctypes.POINTER(_Cause),)),
+    "reason": (_STATUS, (_BYTES, _SIZE)),
+    "domain": (_STATUS, (_BYTES, _SIZE)),
+    "mapped": (_STATUS, (_AT,)),
     "permit": (_STATUS, (_NUMBER, _AT, _MOMENT)),
     "bind": (_STATUS, (_NUMBER, _AT, _MOMENT, ctypes.POINTER(_MOMENT))),
     "connect": (_STATUS, (_AT, _MOMENT)),
@@ -627,6 +703,12 @@ _EVENTS: tuple[Callable[[_Event], TurnEvent], ...] = (
     lambda it: ChannelCreateFailed(Transport(it.transport), _of_c(it.address)),
     lambda it: TcpConnected(_of_c(it.address)),
     lambda it: TcpConnectFailed(_of_c(it.address)),
+)
+
+_REJECTED = 1
+# the others, in the order of turn_cause_kind, which follow that one
+_OTHER_CAUSES: tuple[Callable[[], TurnCause], ...] = (
+    Unanswered, BadIntegrity, NoCommonAlgorithm, OtherFamily, CauseLost, Deleted, Expired, SocketClosed, Unusable,
 )
 
 _T = TypeVar("_T", bound=ctypes.Structure)
@@ -772,6 +854,59 @@ class TurnClient:
         """The event that has waited longest."""
         event = _Event()
         return None if self._status("event", event) == _NOTHING else _EVENTS[event.kind - 1](event)
+
+    def poll_event_with_cause(self) -> tuple[TurnEvent, TurnCause | None] | None:
+        """Takes the event that has waited longest, as poll_event does, with its cause: None for one that reports no
+        failure."""
+        event = _Event()
+        with self._lock:
+            if _checked(_CALL["event"](self._client, event)) == _NOTHING:
+                return None
+            return _EVENTS[event.kind - 1](event), self._cause()
+
+    def cause(self) -> TurnCause | None:
+        """Returns why the event happened that was taken last, until another is taken. None if it reports no failure, or
+        none was taken yet."""
+        with self._lock:
+            return self._cause()
+
+    def _cause(self) -> TurnCause | None:
+        """The same, by who holds the lock."""
+        cause = self._noted()
+        if cause.kind == _REJECTED:
+            return Rejected(cause.code, self._text("reason", cause.reason_size) or "", cause.is_signed)
+        return None if cause.kind == 0 else _OTHER_CAUSES[cause.kind - _REJECTED - 1]()
+
+    def _noted(self) -> _Cause:
+        cause = _Cause()
+        _checked(_CALL["cause"](self._client, cause))
+        return cause
+
+    def _text(self, name: str, size: int) -> str | None:
+        """A text of so many bytes that a call copies; None if there is no such text."""
+        out = ctypes.create_string_buffer(max(size, 1))
+        if _checked(_CALL[name](self._client, out, size)) == _NOTHING:
+            return None
+        return out.raw[:size].decode()
+
+    def mapped_address(self) -> Address | None:
+        """Returns the client's own address as the server saw it: the XOR-MAPPED-ADDRESS of the signed response that
+        allocated (RFC 8656, section 7.3). None before that, or if the response had no such address."""
+        mapped = _Address()
+        return None if self._status("mapped", mapped) == _NOTHING else _of_c(mapped)
+
+    def alternate_server(self) -> Address | None:
+        """Returns the server that a response 300 named which ended the client (RFC 8489, section 10); None if there was
+        none. cause() says whether that response was signed: if not, it may be anybody's. The client doesn't follow
+        it."""
+        with self._lock:
+            alternate = self._noted().alternate
+        return _of_c(alternate) if alternate.family else None
+
+    def alternate_domain(self) -> str | None:
+        """Returns the name of the domain of that server (RFC 8489, section 14.16); None if the response had none."""
+        with self._lock:
+            return self._text("domain", self._noted().domain_size)
 
     # ---- what the server is asked for: answers come by events
 
