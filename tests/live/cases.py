@@ -66,6 +66,9 @@ class Case:
     is_absent: bool = False  # there is no server
     password: str = ""  # another one
     logged: tuple = ()  # what is to stand in the server's log, and how often at least
+    says: tuple = ()  # what is to stand in the program's transcript
+    is_occupied: bool = False  # before it another client of the same user has an address
+    is_redirected: bool = False  # the server names another one
     during: object = None  # what is done to the server meanwhile
     lasts: tuple = (0, LIMIT)  # seconds, at least and at most
     is_idle: bool = False  # it waits more than it works, and runs beside others
@@ -88,8 +91,8 @@ def payloads():
 def settings():
     large = Case("100 of 8,000 bytes, UDP", count=100, size=8000, interval=20)
     return [
-        Case("HMAC-SHA1 and SHA-256 offered", algorithms="both"),
-        Case("SHA-256 alone: coturn has none", FAILED, algorithms="sha256"),
+        Case("HMAC-SHA1 and SHA-256 offered", algorithms="both", says=(r"public address: 127\.0\.0\.1:\d+",)),
+        Case("SHA-256 alone: coturn has none", FAILED, algorithms="sha256", says=("cause: no-algorithm",)),
         Case("both families asked for", family="both"),
         Case("IPv6 address of a server over IPv4", family="6"),
         Case("IPv4 address of a server over IPv6", host="::1"),
@@ -101,16 +104,32 @@ def settings():
 
 
 def refusals():
-    absent = Case("no server, UDP", NO_ANSWER, is_absent=True, lasts=(39, 42), is_idle=True)
+    absent = Case("no server, UDP", NO_ANSWER, is_absent=True, lasts=(39, 42), is_idle=True,
+                  says=("cause: unanswered",))
+    # nine challenges are answered, and the tenth is the cause
+    wrong = Case("a wrong password, UDP", FAILED, password="wrong", logged=(("error 401", 10),),
+                 says=("cause: rejected 401 unsigned",))
     return [
-        Case("a wrong password, UDP", FAILED, password="wrong", logged=(("error 401", 2),)),
-        Case("a wrong password, TCP", FAILED, transport="tcp", password="wrong", logged=(("error 401", 2),)),
+        wrong,
+        replace(wrong, name="a wrong password, TCP", transport="tcp"),
         Case("a peer that the server denies", FAILED, peer="none", options=("--peer", "192.0.2.1:9"),
-             server=("--denied-peer-ip=192.0.2.0-192.0.2.255",), logged=(("error 403", 1),)),
+             server=("--denied-peer-ip=192.0.2.0-192.0.2.255",), logged=(("error 403", 1),),
+             says=("cause: rejected 403 signed",)),
+        Case("a second address of a user who may have one", FAILED, peer="none", server=("--user-quota=1",),
+             is_occupied=True, logged=(("error 486", 1),), says=("cause: rejected 486 signed",)),
         Case("an option without a value", BAD_USAGE, peer="none", options=("--user",), is_absent=True),
         absent,
-        replace(absent, name="no server, TCP", transport="tcp", lasts=(0, 5)),
+        replace(absent, name="no server, TCP", transport="tcp", lasts=(0, 5), says=()),
     ]
+
+
+def redirections():
+    named = r"cause: rejected 300 (un)?signed.*\n.*alternate server: 127\.0\.0\.1:\d+"
+    refused = Case("a server that names another one, UDP", FAILED, peer="none", is_redirected=True, says=(named,))
+    followed = replace(refused, name="another server, which is followed, UDP", want=ALL_BACK, peer="run",
+                       options=("--follow",), says=(named, r"goes on with 127\.0\.0\.1:\d+", "public address: "))
+    return [refused, followed, *(replace(it, name=it.name.replace("UDP", "TCP"), transport="tcp")
+                                 for it in (refused, followed))]
 
 
 def troubles():
@@ -147,4 +166,5 @@ def renewals():
 
 
 def all_of_them(is_quick):
-    return [*([] if is_quick else renewals()), *troubles(), *refusals(), *payloads(), *settings(), *connections()]
+    return [*([] if is_quick else renewals()), *troubles(), *refusals(), *redirections(), *payloads(), *settings(),
+            *connections()]
