@@ -196,18 +196,19 @@ static void receive(struct run *run)
 
 typedef int32_t copy_text(turn_client *client, uint8_t *out, size_t out_len);
 
-/* A text of the server as it may be printed: of each byte that is no printable ASCII a question mark. It stays until
- * the next call. */
+/* A text of the server as it may be printed: without control characters, as the zeros by which coturn fills a phrase
+ * up, and with a question mark for each byte beyond ASCII. It stays until the next call. */
 static const char *printable(struct run *run, copy_text *copy, size_t size)
 {
     static uint8_t text[TEXT_MAX + 1];
+    size_t printed = 0;
     if (size > TEXT_MAX || copy(&run->client, text, size) != TURN_OK)
         size = 0;
     for (size_t i = 0; i < size; i++) {
-        if (text[i] < 0x20 || text[i] > 0x7e)
-            text[i] = '?';
+        if (text[i] >= 0x20 && text[i] != 0x7f)
+            text[printed++] = text[i] < 0x7f ? text[i] : '?';
     }
-    text[size] = '\0';
+    text[printed] = '\0';
     return (const char *)text;
 }
 
@@ -235,7 +236,7 @@ static turn_cause say_cause(struct run *run)
     if (cause.kind != TURN_CAUSE_NONE)
         say(run, "cause: %s", text_of_cause(run, &cause));
     if (cause.alternate.family != 0)
-        say(run, "alternate server: %s %s", text_of(&cause.alternate),
+        say(run, "alternate server: %s%s%s", text_of(&cause.alternate), cause.domain_size > 0 ? " " : "",
             printable(run, turn_client_domain, cause.domain_size));
     return cause;
 }

@@ -345,7 +345,7 @@ class Session:
     def failed_allocation(self, cause: TurnCause) -> Failure:
         """Why there is no address."""
         if (server := self.client.alternate_server()) is not None:
-            self.say(f"alternate server: {shown(server)} {printable(self.client.alternate_domain() or '')}")
+            self.say(f"alternate server: {shown(server)} {printable(self.client.alternate_domain() or '')}".rstrip())
             return Redirected(server)
         if not self.has_heard:
             return Failure(NO_ANSWER, "no answer from the server")

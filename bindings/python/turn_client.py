@@ -399,12 +399,13 @@ class Unanswered:
 
 @dataclass(frozen=True)
 class BadIntegrity:
-    """The response didn't validate under the name and the password."""
+    """The response wasn't signed, or not by the password."""
 
 
 @dataclass(frozen=True)
 class NoCommonAlgorithm:
-    """The server's challenge names no algorithm that the client supports."""
+    """The server's challenge names no algorithm that the client supports, or lacks what the settings require, as to hide
+    the name."""
 
 
 @dataclass(frozen=True)

@@ -265,8 +265,9 @@ enum turn_cause_kind {
     TURN_CAUSE_NONE = 0,          /* the event reports no failure, or no event was taken yet */
     TURN_REJECTED = 1,            /* the server rejected the request, by an error response */
     TURN_UNANSWERED = 2,          /* no response came in time */
-    TURN_INTEGRITY = 3,           /* the response did not validate under the name and the password */
-    TURN_NO_ALGORITHM = 4,        /* the server's challenge names no algorithm that the client supports */
+    TURN_INTEGRITY = 3,           /* the response was not signed, or not by the password */
+    TURN_NO_ALGORITHM = 4,        /* the server's challenge names no algorithm that the client supports, or lacks what
+                                   * the settings require, as to hide the name */
     TURN_OTHER_FAMILY = 5,        /* the server allocated addresses of other families only */
     TURN_CAUSE_MEMORY = 6,        /* malloc failed, and the cause was not stored */
     TURN_DELETED = 7,             /* turn_client_delete ended it */

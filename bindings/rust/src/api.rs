@@ -535,9 +535,10 @@ pub enum TurnCause {
     },
     /// No response came in time.
     Unanswered,
-    /// The response didn't validate under the name and the password.
+    /// The response wasn't signed, or not by the password.
     Integrity,
-    /// The server's challenge names no algorithm that the client supports.
+    /// The server's challenge names no algorithm that the client supports, or lacks what the settings require, as to
+    /// hide the name.
     NoCommonAlgorithm,
     /// The server allocated addresses of other families only.
     OtherFamily,

@@ -192,7 +192,8 @@ impl Run {
         }
         if let Some(server) = self.client.alternate_server() {
             let domain = self.client.alternate_domain().unwrap_or_default();
-            self.say(format_args!("alternate server: {server} {}", printable(&domain)));
+            let line = format!("alternate server: {server} {}", printable(&domain));
+            self.say(line.trim_end());
         }
     }
 
