@@ -404,8 +404,8 @@ class BadIntegrity:
 
 @dataclass(frozen=True)
 class NoCommonAlgorithm:
-    """The server's challenge names no algorithm that the client supports, or lacks what the settings require, as to hide
-    the name."""
+    """The server's challenge names no algorithm that the client supports, or lacks what the settings require, as to
+    hide the name."""
 
 
 @dataclass(frozen=True)
