@@ -2,7 +2,8 @@
 use Rattle.std.specs.Prelude.{◌≡◌, ℕ, ℤ, nat_lt, List, length, Option, Some, None, if◌then◌else◌}
 use Rattle.std.specs.declared.net.socket_addr.SocketAddr.{SocketAddr}
 use Rattle.turn_client_proto.specs.Clients.{noted_of}
-use Rattle.turn_client_proto.specs.Recv.Notes.{Notes}
+use Rattle.turn_client_proto.specs.Recv.Notes.{cause_taken}
+use Rattle.turn_client_proto.specs.Recv.declared.notes.Notes.{Notes}
 use Rattle.turn_client_c_calls.specs.Codes as code
 use Rattle.turn_client_c_calls.specs.Held.{Held}
 use Rattle.turn_client_c_calls.specs.Traffic.{written}
@@ -23,7 +24,7 @@ abbrev pub cause_status : Notes → ℤ
 cause_status noted = code.ok
 
 abbrev pub cause_noted : Notes → TurnClientCause → TurnClientCause
-cause_noted noted before = reported_cause noted.last noted.alternate noted.domain
+cause_noted noted before = reported_cause (cause_taken noted.causes) noted.alternate noted.domain
 
 -- A text, for a buffer of this size.
 abbrev pub text_status : ℕ → Option (List ℕ) → ℤ
@@ -36,10 +37,10 @@ text_written (Some text) out = written text out
 
 -- The reason phrase of the error response by which the server rejected the request (RFC 8489, section 14.8).
 abbrev pub reason_status : ℕ → Notes → ℤ
-reason_status room noted = text_status room (reason_of noted.last)
+reason_status room noted = text_status room (reason_of (cause_taken noted.causes))
 
 abbrev pub reason_written : Notes → List ℕ → List ℕ
-reason_written noted = text_written (reason_of noted.last)
+reason_written noted = text_written (reason_of (cause_taken noted.causes))
 
 -- The name of the domain of the server that a response 300 named (RFC 8489, section 14.16).
 abbrev pub domain_status : ℕ → Notes → ℤ
