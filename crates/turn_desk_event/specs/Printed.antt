@@ -11,6 +11,8 @@ use Rattle.stun_types_base.specs.declared.family.AddressFamily.{AddressFamily}
 use Rattle.stun_types_base.specs.declared.family.AddressFamily.TheVariants.{IPV4, IPV6}
 use Rattle.stun_types_base.specs.declared.transport.TransportType.{TransportType}
 use Rattle.stun_types_base.specs.declared.transport.TransportType.TheVariants.{Udp, Tcp}
+use Rattle.turn_client_proto_api.specs.declared.cause.TurnCause.{TurnCause}
+use Rattle.turn_client_proto_api.specs.declared.cause.TurnCause.TheVariants as Causes
 use Rattle.turn_client_proto_api.specs.declared.error.BindChannelError.{BindChannelError}
 use Rattle.turn_client_proto_api.specs.declared.error.BindChannelError.TheVariants as Binds
 use Rattle.turn_client_proto_api.specs.declared.error.TcpAllocateError.{TcpAllocateError}
@@ -170,3 +172,49 @@ answer_words Answers.OutOfRange = codes "out of range"
 -- The line for a result.
 abbrev pub answer_text : Answer → List ℕ
 answer_text answer = answer_words answer ++ codes "\n"
+
+-- ---- what is seen of a client
+
+-- The word for whether a response was signed.
+abbrev pub signed_text : Bool → List ℕ
+signed_text true = codes "signed"
+signed_text false = codes "unsigned"
+
+-- Why something failed or ended. A rejection has its code, whether the response was signed, and its reason
+-- phrase in hex.
+abbrev pub cause_text : TurnCause → List ℕ
+cause_text (Causes.Rejected code reason is_signed) = codes "rejected " ++ decimal code ++ codes " "
+    ++ signed_text is_signed ++ codes " " ++ hex_text reason
+cause_text Causes.Unanswered = codes "unanswered"
+cause_text Causes.Integrity = codes "integrity"
+cause_text Causes.NoCommonAlgorithm = codes "no-algorithm"
+cause_text Causes.OtherFamily = codes "other-family"
+cause_text Causes.OutOfMemory = codes "no-memory"
+cause_text Causes.Deleted = codes "deleted"
+cause_text Causes.Expired = codes "expired"
+cause_text Causes.SocketClosed = codes "socket-closed"
+cause_text Causes.Unusable = codes "unusable"
+
+-- The line for the cause of the event that was reported last.
+abbrev pub cause_line : Option TurnCause → List ℕ
+cause_line None = codes "cause none\n"
+cause_line (Some cause) = codes "cause " ++ cause_text cause ++ codes "\n"
+
+-- An address, or `none`.
+abbrev pub address_text : Option SocketAddr → List ℕ
+address_text None = codes "none"
+address_text (Some address) = socket_text address
+
+-- The line for the client's address as the server saw it.
+abbrev pub mapped_line : Option SocketAddr → List ℕ
+mapped_line mapped = codes "mapped " ++ address_text mapped ++ codes "\n"
+
+-- A domain in hex, or `-` if there is none.
+abbrev pub domain_text : Option (List ℕ) → List ℕ
+domain_text None = codes "-"
+domain_text (Some domain) = hex_text domain
+
+-- The line for the server that the client was redirected to, and its domain.
+abbrev pub alternate_line : Option SocketAddr → Option (List ℕ) → List ℕ
+alternate_line server domain = codes "alternate " ++ address_text server ++ codes " " ++ domain_text domain
+    ++ codes "\n"

@@ -2,9 +2,10 @@
 
 ghost use Rattle.std.specs.Prelude.{◌≡◌, ◌++◌, IfOk, OnOk, codes, decimal, string_bytes};
 ghost use Rattle.std.specs.List.{flat_map};
+ghost use Rattle.std.specs.Option.{option_map};
 ghost use Rattle.std.specs.Net.Text.{socket_text};
 ghost use Rattle.line_io.specs.LowerHex.{hex_text};
-ghost use Rattle.turn_desk_event.specs.Printed.{answer_text, answer_words, between_text, bind_error_text, channel_text, connection_text, delete_error_text, event_text, family_word, have_text, icmp_text, permission_error_text, permitted_text, placed_text, refusal_text, relayed_text, send_error_text, socket_error_text, transport_word, bound_text, connect_error_text};
+ghost use Rattle.turn_desk_event.specs.Printed.{address_text, alternate_line, answer_text, answer_words, between_text, bind_error_text, cause_line, cause_text, channel_text, connection_text, delete_error_text, domain_text, event_text, family_word, have_text, icmp_text, mapped_line, permission_error_text, permitted_text, placed_text, refusal_text, relayed_text, send_error_text, signed_text, socket_error_text, transport_word, bound_text, connect_error_text};
 
 use crate::answer::{Answer, Refusal};
 use line_io::lower_hex::write_hex;
@@ -13,6 +14,7 @@ use std::net::{IpAddr, SocketAddr};
 use stun_types_base::family::AddressFamily;
 use stun_types_base::transport::TransportType;
 use turn_client_proto_api::answer::Socket5Tuple;
+use turn_client_proto_api::cause::TurnCause;
 use turn_client_proto_api::error::{
     BindChannelError, CreatePermissionError, DeleteError, SendError, TcpAllocateError,
     TcpConnectError,
@@ -30,6 +32,57 @@ pub fn answer_line(alloc: Global, answer: &Answer) -> Result<String, AllocError>
     let mut text = print_words(alloc, answer)?;
     text.push_str("\n")?;
     Ok(text)
+}
+
+/// Returns the line that is printed for the cause of the event that was reported last, with its
+/// line feed.
+///
+/// # Errors
+///
+/// - `AllocError`: an allocation failed.
+pub fn cause_line(alloc: Global, cause: Option<&TurnCause>) -> Result<String, AllocError>
+    ensures { IfOk result (λ text. string_bytes text
+        ≡ cause_line (option_map (λ c. c.now) cause.entry)) }
+{
+    match cause {
+        Some(cause) => {
+            let words = print_cause(alloc, cause)?;
+            format!(in alloc; "cause {words}\n")
+        }
+        None => String::from_str(alloc, "cause none\n"),
+    }
+}
+
+/// Returns the line that is printed for the client's address as the server saw it, with its line
+/// feed.
+///
+/// # Errors
+///
+/// - `AllocError`: an allocation failed.
+pub fn mapped_line(alloc: Global, mapped: Option<SocketAddr>) -> Result<String, AllocError>
+    ensures { IfOk result (λ text. string_bytes text ≡ mapped_line mapped) }
+{
+    let address = print_address(alloc, mapped)?;
+    format!(in alloc; "mapped {address}\n")
+}
+
+/// Returns the line that is printed for the server that the client was redirected to and its
+/// domain, with its line feed.
+///
+/// # Errors
+///
+/// - `AllocError`: an allocation failed.
+pub fn alternate_line(
+    alloc: Global,
+    server: Option<SocketAddr>,
+    domain: Option<&str>,
+) -> Result<String, AllocError>
+    ensures { IfOk result (λ text. string_bytes text
+        ≡ alternate_line server (option_map (λ d. d.now) domain.entry)) }
+{
+    let address = print_address(alloc, server)?;
+    let digits = print_domain(alloc, domain)?;
+    format!(in alloc; "alternate {address} {digits}\n")
 }
 
 /// Returns the line that is printed for a result, without the line feed.
@@ -403,5 +456,70 @@ fn name_of_permission_error(error: CreatePermissionError) -> &'static str
         CreatePermissionError::AlreadyExists => "AlreadyExists",
         CreatePermissionError::NoAllocation => "NoAllocation",
         _ => "NoMemory",
+    }
+}
+
+/// Returns the words for a cause: its name; for a rejection also its code, whether it was signed,
+/// and its reason phrase in hex.
+fn print_cause(alloc: Global, cause: &TurnCause) -> Result<String, AllocError>
+    ensures { IfOk result (λ text. string_bytes text ≡ cause_text cause.now) }
+{
+    match cause {
+        TurnCause::Rejected {
+            code,
+            reason,
+            is_signed,
+        } => print_rejection(alloc, *code, reason.as_str(), *is_signed),
+        TurnCause::Unanswered => String::from_str(alloc, "unanswered"),
+        TurnCause::Integrity => String::from_str(alloc, "integrity"),
+        TurnCause::NoCommonAlgorithm => String::from_str(alloc, "no-algorithm"),
+        TurnCause::OtherFamily => String::from_str(alloc, "other-family"),
+        TurnCause::OutOfMemory => String::from_str(alloc, "no-memory"),
+        TurnCause::Deleted => String::from_str(alloc, "deleted"),
+        TurnCause::Expired => String::from_str(alloc, "expired"),
+        TurnCause::SocketClosed => String::from_str(alloc, "socket-closed"),
+        _ => String::from_str(alloc, "unusable"),
+    }
+}
+
+/// `rejected CODE signed HEX`, or `unsigned`.
+fn print_rejection(
+    alloc: Global,
+    code: u16,
+    reason: &str,
+    is_signed: bool,
+) -> Result<String, AllocError>
+    ensures { IfOk result (λ text. string_bytes text ≡ codes "rejected " ++ decimal code
+        ++ codes " " ++ signed_text is_signed ++ codes " " ++ hex_text reason.now) }
+{
+    let digits = write_hex(alloc, reason.as_bytes())?;
+    format!(in alloc; "rejected {code} {} {digits}", name_of_signed(is_signed))
+}
+
+/// Returns the word for whether a response was signed.
+fn name_of_signed(is_signed: bool) -> &'static str
+    ensures { result.now ≡ signed_text is_signed }
+{
+    if is_signed { "signed" } else { "unsigned" }
+}
+
+/// An address, or `none`.
+fn print_address(alloc: Global, address: Option<SocketAddr>) -> Result<String, AllocError>
+    ensures { IfOk result (λ text. string_bytes text ≡ address_text address) }
+{
+    match address {
+        Some(address) => format!(in alloc; "{address}"),
+        None => String::from_str(alloc, "none"),
+    }
+}
+
+/// A domain in hex, or `-` if there is none.
+fn print_domain(alloc: Global, domain: Option<&str>) -> Result<String, AllocError>
+    ensures { IfOk result (λ text. string_bytes text
+        ≡ domain_text (option_map (λ d. d.now) domain.entry)) }
+{
+    match domain {
+        Some(domain) => write_hex(alloc, domain.as_bytes()),
+        None => String::from_str(alloc, "-"),
     }
 }

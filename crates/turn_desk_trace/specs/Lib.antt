@@ -4,6 +4,7 @@ pub mod Answer
 pub mod Bytes
 pub mod Decision
 pub mod Event
+pub mod Look
 pub mod TraceLines
 pub mod TraceNumbers
 pub mod Setup

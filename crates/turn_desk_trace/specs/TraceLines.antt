@@ -3,13 +3,15 @@ use Rattle.std.specs.Prelude.{ℕ, ◌≡◌, ◌⊎◌, List, true}
 use Rattle.line_io.specs.Cut.{says_nothing}
 use Rattle.line_io.specs.LineWords.{AreWords}
 use Rattle.turn_desk_trace.specs.declared.line.Line.{Line}
-use Rattle.turn_desk_trace.specs.declared.line.Line.TheVariants.{Setup, Event}
+use Rattle.turn_desk_trace.specs.declared.line.Line.TheVariants.{Setup, Look, Event}
 use Rattle.turn_desk_trace.specs.Event.{IsEvent}
+use Rattle.turn_desk_trace.specs.Look.{IsLook}
 use Rattle.turn_desk_trace.specs.Setup.{IsSetup}
 
 -- The words spell the line, given these earlier results.
 abbrev pub IsLineOf : List (List ℕ) → List (List ℕ) → Line → Type 0
 IsLineOf answers words (Setup setup) = IsSetup words setup
+IsLineOf answers words (Look look) = IsLook words look
 IsLineOf answers words (Event event) = IsEvent answers words event
 
 -- The words of the text spell the line.

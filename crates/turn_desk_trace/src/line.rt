@@ -5,6 +5,7 @@ ghost use Rattle.turn_desk_trace.specs.declared.line.Line.{Line};
 ghost use Rattle.turn_desk_trace.specs.TraceLines.{IsLine, IsLineOf};
 
 use crate::event::read_event;
+use crate::look::{Look, read_look};
 use crate::named::Named;
 use crate::setup::{Setup, read_setup};
 use line_io::refusal::LineError;
@@ -17,7 +18,9 @@ use turn_desk_event::event::Event;
 pub enum Line<'a> {
     /// A line that comes before the events.
     Setup(Setup<'a>),
-    /// A line that has a result.
+    /// A line that looks at the client and changes nothing.
+    Look(Look),
+    /// A line at which something happens, whose result later lines can name.
     Event(Event),
 }
 
@@ -46,11 +49,14 @@ fn spell<'a>(alloc: Global, words: &[&'a str], answers: &[Named]) -> Result<Line
     ensures bad { result ≡ Err LineError.Bad → (read : Line)
         → ¬ (IsLineOf answers.entry.now (map (λ x. x.now) words.entry.now) read) }
 {
-    match read_setup(words) {
-        Some(setup) => Ok(Line::Setup(setup)),
-        None => match read_event(alloc, words, answers) {
-            Ok(event) => Ok(Line::Event(event)),
-            Err(error) => Err(error),
-        },
+    if let Some(setup) = read_setup(words) {
+        return Ok(Line::Setup(setup));
+    }
+    if let Some(look) = read_look(words) {
+        return Ok(Line::Look(look));
+    }
+    match read_event(alloc, words, answers) {
+        Ok(event) => Ok(Line::Event(event)),
+        Err(error) => Err(error),
     }
 }
