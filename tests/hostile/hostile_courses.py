@@ -12,7 +12,7 @@ own decides, and only a hardened one gets the moves of `BLIND`.
 
 import random
 
-from hostile_judge import BAD, CLIENT_END
+from hostile_judge import BAD, CLIENT_END, LOOKS
 from hostile_messages import BY, REQUEST, hash_of, key_of, read, written
 from hostile_spoiled import spoiled
 from traces_base import (
@@ -90,6 +90,7 @@ class Course:
 
     def learn(self, answers):
         """Takes up what the lines since the last time were answered."""
+        answers = [it for it in answers if it.split(" ")[0] not in LOOKS]
         for k, answer in enumerate(answers[self.known :], self.known + 1):
             words, told = self.events[k - 1], answer.split(" ")
             if told[0] == "transmit" and words[0] == "draw":
@@ -156,6 +157,7 @@ class Course:
     def follows(self):
         for _ in range(self.dice.randint(1, 3)):
             self.say("event")
+            self.lines.append("cause")
 
     def serves(self):
         """What the client sent goes to the desk, which mostly decides as fits, and the reply to the client: some are
@@ -293,6 +295,7 @@ class Course:
             self.say(line)
         for line in ("event", "event", f"poll {self.now}", f"draw {self.now + 50 * MS}", f"recv {self.now}", "relayed"):
             self.say(line)
+        self.lines += LOOKS
         if self.dice.random() < 0.02:
             self.lines[:1] = [self.lines[0], BAD]
             self.say(self.dice.choice(BAD_LINES))

@@ -30,6 +30,11 @@ CHANGED = {
     "the desk's success is signed otherwise": (r"todesk .*", r"(reply 010.*)(.{8})", r"\g<1>00000000"),
     "poll waits for ever": (r"poll .*", r"wait \d+", "wait 99999999999999999999"),
     "a socket is asked for a connection that nobody granted": (r"poll .*", r"socket \d+ (.*)", r"socket 4294967295 \1"),
+    "a cause is an error that nobody sent": (r"cause", r"cause .*", "cause rejected 599 unsigned -"),
+    "the server saw an address that nobody granted": (r"mapped", r"mapped .*", "mapped 198.51.100.66:6666"),
+    "the client is sent to a server that nobody named": (
+        r"alternate", r"alternate .*", "alternate 198.51.100.66:6666 -",
+    ),
     "an answer has a form of its own": (r"toclient .*", r"handled", "taken"),
 }
 

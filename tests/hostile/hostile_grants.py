@@ -6,7 +6,9 @@ the header that tell a length may be others, for a signature tells its own (RFC 
 """
 
 from hostile_messages import INDICATION, SUCCESS, REQUEST, address_in, header, host_of, is_signed, number_in, read
-from traces_base import ALLOCATE, CHANNEL, CHANNEL_BIND, CREATE_PERMISSION, MAGIC, PEER, RELAYED_KIND, TRANSPORT
+from traces_base import (
+    ALLOCATE, CHANNEL, CHANNEL_BIND, CREATE_PERMISSION, MAGIC, MAPPED, PEER, RELAYED_KIND, TRANSPORT,
+)
 
 CONNECT, CONNECTION_BIND, CONNECTION_ATTEMPT, CONNECTION_ID = 0x00A, 0x00B, 0x00C, 0x2A
 TRANSPORTS = {17: "udp", 6: "tcp"}
@@ -40,6 +42,7 @@ def held_by(request, source, reply, transport):
         told = TRANSPORTS.get(asked[0]) if asked else None
         for value in reply.all(RELAYED_KIND):
             yield "relayed", (told, address_in(value, reply.number))
+        yield "mapped", address_in(reply.first(MAPPED), reply.number)
     if method in (CREATE_PERMISSION, CHANNEL_BIND):
         for value in request.all(PEER):
             yield "permission", (transport, host_of(address_in(value, number)))

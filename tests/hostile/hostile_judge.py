@@ -8,11 +8,14 @@
 - The client's requests have the numbers of its seed, each of one text, and are signed under its key. Of what `poll`
   told to wait for nothing is sent before; a moment that has passed it tells where something is due.
 - The desk grants what a user has signed, as the decision says, and signs that under the same key.
+- A rejection that is a cause came, with this code and reason, and where it is said to be signed it is. The address that
+  the server saw is of a granted ALLOCATE, and another server is of a 300 that came.
 - What a hardened client never does is in `hostile_hardened.py`.
 """
 
 import re
 
+from hostile_errors import Errors
 from hostile_grants import CONNECTION_ATTEMPT, CONNECTION_ID, Grant, Grants, is_success, payload_in
 from hostile_hardened import Hardened
 from hostile_messages import (
@@ -48,9 +51,15 @@ FORMS = {
     "channels": r"channels( \d+ \S+)*",
     "connections": r"connections( \S+ \S+ \d+ (bound|waiting))*",
     "relayed": r"relayed( (udp|tcp) \S+)*",
+    "cause": r"cause (rejected [3-6]\d\d (signed|unsigned) (-|([0-9a-f]{2})+)|unanswered|integrity|no-algorithm"
+    r"|other-family|unusable|expired|deleted|socket-closed|none)",
+    "mapped": r"mapped \S+",
+    "alternate": r"alternate \S+ (-|([0-9a-f]{2})+)",
 }
 FORMS = {word: re.compile(form) for word, form in FORMS.items()}
 GETTERS = ("have", "permissions", "channels", "connections", "relayed", "event", "todesk")
+# the lines that look at the client: they aren't counted
+LOOKS = ("cause", "mapped", "alternate")
 
 
 class Wrong(Exception):
@@ -89,6 +98,7 @@ class Judge:
                 is_hardened = words[11:12] == ["hardened"]
         self.grants = Grants((self.name, self.realm, self.password), self.own == "tcp")
         self.hardened = Hardened(self.name, self.password, self.own == "tcp") if is_hardened else None
+        self.errors = Errors(self.name, self.password)
 
     def bytes_of(self, word):
         """What a word of bytes spells."""
@@ -103,6 +113,10 @@ class Judge:
     def take(self, words, answer):
         """One event, and its answer."""
         word, told = words[0], answer.split(" ")
+        if word in LOOKS:
+            check(FORMS[word].fullmatch(answer), "an answer of no lawful form")
+            getattr(self, f"on_{word}")(told)
+            return
         if word != "todesk" and moment_of(words) > CLIENT_END:
             check(answer == "out of range", "not out of range")
             self.bytes.append(b"")
@@ -217,6 +231,7 @@ class Judge:
             check(told == ["ignored"], "taken from or for another address")
         if is_servers:
             self.grants.hear(to, data)
+            self.errors.hear(self.grants.came[to], len(data))
             why = self.hardened and self.hardened.hear(to, data, " ".join(told), self.sent)
             check(not why, why)
         if told[0] in ("peer", "icmp"):
@@ -298,6 +313,16 @@ class Judge:
             check(local in self.sockets, "a socket that was never told")
             check(self.grants.has("connect", (int(number), peer)), "a connection that is not granted")
             check(how == "waiting" or self.grants.is_bound(local, peer, int(number)), "bound, and not granted")
+
+    def on_cause(self, told):
+        if told[1] == "rejected":
+            check(self.errors.has(*told[2:]), "a cause that no response had")
+
+    def on_mapped(self, told):
+        check(told[1] == "none" or self.grants.has("mapped", told[1]), "an address that no grant says")
+
+    def on_alternate(self, told):
+        check(told[1] == "none" or told[1] in self.errors.servers, "a server that no 300 names")
 
     def on_socket(self, words, told, value):
         if told[0] == "ok":

@@ -29,6 +29,8 @@ XMLNS = "{http://www.w3.org/2000/svg}"
 SETUP = ("desk", "user", "rto", "client")
 # the event lines whose second word is no moment
 TIMELESS = ("event", "have", "permissions", "channels", "connections", "error", "relayed")
+# the lines that look at the client: they aren't counted
+LOOKS = ("cause", "mapped", "alternate")
 SHOWN = {
     "ERROR-CODE", "UNKNOWN-ATTRIBUTES", "USERNAME", "REALM", "LIFETIME", "XOR-RELAYED-ADDRESS",
     "XOR-PEER-ADDRESS", "CHANNEL-NUMBER", "CONNECTION-ID", "DATA",
@@ -192,11 +194,23 @@ def of_desk(number, words, answers, arrives):
     return arrows, labels + stacked("far", 1, bytes_in_lines(bytes_of(reply)))
 
 
+def is_look(line):
+    """Whether a line looks at the client, and so isn't counted."""
+    return line.split(" ")[0] in LOOKS
+
+
 def wanted(lines, answers):
-    """What has to stand in the group of each event."""
-    arrive, last = arriving(lines), None
-    for number, (line, answer) in enumerate(zip(lines, answers), 1):
+    """What has to stand in the group of each event, and of each look."""
+    both = [*zip(lines, answers)]
+    arrive, last, number = arriving([it for it, _ in both if not is_look(it)]), None, 0
+    answers = [it for line, it in both if not is_look(line)]
+    for line, answer in both:
         words = line.split(" ")
+        if is_look(line):
+            labels = stacked("beside", 0, [line, shown_of(words, answer)])
+            yield Want(fit(line) + "\n" + fit(answer), [("left", "client")], labels, None)
+            continue
+        number += 1
         if words[0] == "toclient":
             arrows = [("network", "client")]
             labels = stacked("near", 0, handed_in_lines(handed(words), answers))

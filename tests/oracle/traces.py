@@ -10,7 +10,8 @@ Here are the handshake, renewal and end of an allocation, each pair of settings,
 `traces_permissions.py`, channels in `traces_channels.py` and `traces_channel_lifetimes.py`, payloads in
 `traces_payloads.py`, TCP in `traces_tcp.py`, connections in `traces_connections.py`, their sockets in
 `traces_connection_sockets.py`, what comes over these in `traces_bound_connections.py`, connections that peers begin in
-`traces_attempt_timing.py`, one that nobody answers in `traces_unanswered.py`, a hardened one in `traces_hardened.py`.
+`traces_attempt_timing.py`, one that nobody answers in `traces_unanswered.py`, a hardened one in `traces_hardened.py`,
+and why events happened in `traces_causes.py`.
 """
 
 import hashlib
@@ -570,6 +571,7 @@ def good_traces():
     from traces_attempt_limits import limited_traces
     from traces_attempt_timing import attempt_traces
     from traces_bound_connections import bound_traces
+    from traces_causes import cause_traces
     from traces_channel_lifetimes import channel_traces
     from traces_each_method import method_traces
     from traces_payloads import payload_traces
@@ -594,7 +596,7 @@ def good_traces():
         mismatched_deletion(), *each_setting(), *stranger_traces(), *address_traces(), *method_traces(),
         *permission_traces(), *channel_traces(), *payload_traces(), *stream_traces(), *connection_traces(),
         *socket_traces(), *bound_traces(), *attempt_traces(), *limited_traces(), *unanswered_traces(),
-        *hardened_traces(honest_traces()),
+        *hardened_traces(honest_traces()), *cause_traces(),
     )
 
 
@@ -747,11 +749,29 @@ def bad_traces():
     yield "What waits is named where there is none", DESK + TCP + named, "none\n", 6
 
 
+def bad_looks():
+    """Lines that look at a client, and that are bad."""
+    for word in ("cause", "mapped", "alternate"):
+        yield f"No client: {word}", f"{DESK}{word}\n", "", 4
+        yield f"Neither a desk nor a client: {word}", f"{word}\n", "", 2
+    yield from bad_events("""
+        A cause at a moment: cause 0
+        An address that the server saw, at a moment: mapped 0
+        Another server at a moment: alternate 0
+        A cause, spelled otherwise: Cause
+        An address that the server saw, with a letter less: mappe
+        Another server, with a letter more: alternates
+        A cause of an event: cause event
+    """)
+    named = f"todesk 0 {CLIENT} @1 0 grant\n"
+    yield "A look is no event: nothing has its number", f"{BOTH}cause\n{named}", "cause none\n", 6
+
+
 def all_traces():
     """Each as its lines, and what is printed, with the status."""
     for name, t in good_traces():
         yield f"# {name}\n{t.lines}", t.answers + "status 0\n"
-    for name, lines, front, at in bad_traces():
+    for name, lines, front, at in (*bad_traces(), *bad_looks()):
         yield f"# {name}\n{lines}", f"{front}bad trace: line {at}\nstatus 1\n"
 
 

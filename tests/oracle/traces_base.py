@@ -213,6 +213,24 @@ class Trace:
         self.events += 1
         return self.events
 
+    def sees(self, line, answer):
+        """The client is looked at: such a line isn't counted."""
+        self.lines += line + "\n"
+        self.answers += answer + "\n"
+
+    def cause(self, what="none"):
+        self.sees("cause", f"cause {what}")
+
+    def rejected(self, value, reason=b"", how="signed"):
+        """Why it happened was an error of this code and reason, and whether that was signed."""
+        self.cause(f"rejected {value} {how} {reason.hex() or '-'}")
+
+    def mapped(self, address="none"):
+        self.sees("mapped", f"mapped {address}")
+
+    def alternate(self, address="none", domain=b""):
+        self.sees("alternate", f"alternate {address} {domain.hex() or '-'}")
+
     def draw(self, now, text):
         sent = "none" if text is None else f"transmit {CLIENT} {SERVER} {text.hex()}"
         return self.say(f"draw {now}", sent)
