@@ -10,6 +10,7 @@ pub mod Exchanging
 pub mod Feeding
 pub mod Failing
 pub mod Loops
+pub mod Noting
 pub mod Received
 pub mod Steps
 pub mod Streamed

@@ -11,6 +11,8 @@ pub mod Pulls
 pub mod Receipts
 pub mod SocketChunks
 pub mod Waiting
+pub mod Reported
+pub mod Notes
 -- Re-exports for the crates above this one.
 pub use Rattle.turn_types_attributes.specs as TurnTypesAttributes
 pub use Rattle.turn_types_frame.specs as TurnTypesFrame

@@ -2,8 +2,10 @@
 
 ghost use Rattle.std.specs.Prelude.{◌≤◌, false, length, take, true};
 ghost use Rattle.turn_client_proto_recv.specs.Chunks.{IsAfter, IsFirstAnswered, IsPayloadAnswered, IsChunkTaken};
+ghost use Rattle.turn_client_proto_recv.specs.Notes.{AreNoted};
 
 use crate::handing::{Taken, dispatch, given};
+use crate::notes::Notes;
 use crate::pulling::{give_up, owned, pull};
 use std::convert::AsSlice;
 use std::fmt::Debug;
@@ -32,26 +34,28 @@ use turn_types_frame::tcp::{IncomingTcp, TurnTcpBuffer};
 ///   something, or for data that doesn't lie in the chunk.
 pub fn take_chunk<T: AsSlice<u8> + Debug + Drop>(
     protocol: &mut Protocol,
+    notes: &mut Notes,
     stream: &mut TurnTcpBuffer,
     transmit: Transmit<T>,
     now: Instant,
 ) -> TurnRecvRet<T>
-    ensures { IsChunkTaken T.items now stream.old protocol.old transmit result
+    ensures taken { IsChunkTaken T.items now stream.old protocol.old transmit result
         stream.new protocol.new }
+    ensures noted { AreNoted now protocol.old notes.old protocol.new notes.new }
 {
     match stream.incoming_tcp(transmit) {
         None => TurnRecvRet::Handled,
         Some(IncomingTcp::CompleteMessage(transmit, range)) => {
-            take_in_place(protocol, stream, transmit, range.end, now)
+            take_in_place(protocol, notes, stream, transmit, range.end, now)
         }
         Some(IncomingTcp::CompleteChannel(transmit, range)) => {
-            take_in_place(protocol, stream, transmit, range.end, now)
+            take_in_place(protocol, notes, stream, transmit, range.end, now)
         }
         Some(IncomingTcp::StoredMessage(frame, transmit)) => {
-            take_apart(protocol, stream, transmit, frame.as_slice(), now)
+            take_apart(protocol, notes, stream, transmit, frame.as_slice(), now)
         }
         Some(IncomingTcp::StoredChannel(frame, transmit)) => {
-            take_apart(protocol, stream, transmit, frame.as_slice(), now)
+            take_apart(protocol, notes, stream, transmit, frame.as_slice(), now)
         }
         Some(IncomingTcp::NoMemory(transmit)) => {
             give_up(protocol);
@@ -63,20 +67,22 @@ pub fn take_chunk<T: AsSlice<u8> + Debug + Drop>(
 /// Returns the result for a chunk whose first frame is its first `end` bytes.
 fn take_in_place<T: AsSlice<u8> + Debug + Drop>(
     protocol: &mut Protocol,
+    notes: &mut Notes,
     stream: &mut TurnTcpBuffer,
     transmit: Transmit<T>,
     end: usize,
     now: Instant,
 ) -> TurnRecvRet<T>
     requires { end ≤ length (T.items transmit.bytes) }
-    ensures { IsFirstAnswered now false (take end (T.items transmit.bytes))
+    ensures taken { IsFirstAnswered now false (take end (T.items transmit.bytes))
         stream.old protocol.old transmit result stream.new protocol.new }
+    ensures noted { AreNoted now protocol.old notes.old protocol.new notes.new }
 {
     let (frame, _) = transmit.bytes.as_slice().split_at(end);
-    match dispatch(protocol, frame, now) {
+    match dispatch(protocol, notes, frame, now) {
         Ok(Taken::Given(payload)) => given(transmit, payload),
-        Ok(Taken::Handled) => go_on(protocol, stream, transmit, true, now),
-        Ok(Taken::Ignored) => go_on(protocol, stream, transmit, false, now),
+        Ok(Taken::Handled) => go_on(protocol, notes, stream, transmit, true, now),
+        Ok(Taken::Ignored) => go_on(protocol, notes, stream, transmit, false, now),
         Ok(Taken::Garbled) => TurnRecvRet::Handled,
         Err(NoMemory) => TurnRecvRet::NoMemory(transmit),
     }
@@ -85,18 +91,20 @@ fn take_in_place<T: AsSlice<u8> + Debug + Drop>(
 /// Returns the result for a chunk whose first frame began in an earlier chunk.
 fn take_apart<T: AsSlice<u8> + Debug + Drop>(
     protocol: &mut Protocol,
+    notes: &mut Notes,
     stream: &mut TurnTcpBuffer,
     transmit: Transmit<T>,
     frame: &[u8],
     now: Instant,
 ) -> TurnRecvRet<T>
-    ensures { IsFirstAnswered now true frame.now
+    ensures taken { IsFirstAnswered now true frame.now
         stream.old protocol.old transmit result stream.new protocol.new }
+    ensures noted { AreNoted now protocol.old notes.old protocol.new notes.new }
 {
-    match dispatch(protocol, frame, now) {
+    match dispatch(protocol, notes, frame, now) {
         Ok(Taken::Given(payload)) => given_apart(protocol, frame, transmit, payload),
-        Ok(Taken::Handled) => go_on(protocol, stream, transmit, true, now),
-        Ok(Taken::Ignored) => go_on(protocol, stream, transmit, false, now),
+        Ok(Taken::Handled) => go_on(protocol, notes, stream, transmit, true, now),
+        Ok(Taken::Ignored) => go_on(protocol, notes, stream, transmit, false, now),
         Ok(Taken::Garbled) => TurnRecvRet::Handled,
         Err(NoMemory) => TurnRecvRet::NoMemory(transmit),
     }
@@ -129,15 +137,17 @@ fn given_apart<T: AsSlice<u8> + Debug + Drop>(
 /// whether the first frame was for the client.
 fn go_on<T: AsSlice<u8> + Debug + Drop>(
     protocol: &mut Protocol,
+    notes: &mut Notes,
     stream: &mut TurnTcpBuffer,
     transmit: Transmit<T>,
     is_handled: bool,
     now: Instant,
 ) -> TurnRecvRet<T>
-    ensures { IsAfter now is_handled stream.old protocol.old transmit result
+    ensures taken { IsAfter now is_handled stream.old protocol.old transmit result
         stream.new protocol.new }
+    ensures noted { AreNoted now protocol.old notes.old protocol.new notes.new }
 {
-    match pull(protocol, stream, now) {
+    match pull(protocol, notes, stream, now) {
         Ok(Some(data)) => TurnRecvRet::PeerData(data),
         Ok(None) => {
             if is_handled {

@@ -2,8 +2,10 @@
 
 ghost use Rattle.std.specs.Bool.{MatchBool};
 ghost use Rattle.turn_client_proto_recv.specs.Datagrams.{IsOfServer, IsTaken};
+ghost use Rattle.turn_client_proto_recv.specs.Notes.{AreNoted};
 
 use crate::handing::{Taken, dispatch, given};
+use crate::notes::Notes;
 use std::convert::AsSlice;
 use std::fmt::Debug;
 use stun_types_base::instant::Instant;
@@ -25,12 +27,14 @@ pub fn is_of_server<T>(protocol: &Protocol, transmit: &Transmit<T>) -> bool
 /// Handles a datagram from the server.
 pub fn take_datagram<T: AsSlice<u8> + Debug + Drop>(
     protocol: &mut Protocol,
+    notes: &mut Notes,
     transmit: Transmit<T>,
     now: Instant,
 ) -> TurnRecvRet<T>
-    ensures { IsTaken T.items protocol.old transmit now result protocol.new }
+    ensures taken { IsTaken T.items protocol.old transmit now result protocol.new }
+    ensures noted { AreNoted now protocol.old notes.old protocol.new notes.new }
 {
-    match dispatch(protocol, transmit.bytes.as_slice(), now) {
+    match dispatch(protocol, notes, transmit.bytes.as_slice(), now) {
         Ok(Taken::Given(payload)) => given(transmit, payload),
         Ok(Taken::Handled) => TurnRecvRet::Handled,
         Ok(Taken::Ignored) => TurnRecvRet::Ignored(transmit),

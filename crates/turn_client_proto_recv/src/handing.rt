@@ -1,13 +1,15 @@
 //! Handling of a message or a channel frame from the server.
 
-ghost use Rattle.std.specs.Prelude.{◌≡◌, IfOk, None, OnErr};
+ghost use Rattle.std.specs.Prelude.{◌≡◌, IfOk, MatchResult, None, OnErr};
 ghost use Rattle.stun_types_wire.specs.Grammar.{refusal};
 ghost use Rattle.turn_client_proto_core.specs.Ending.{HasFailed};
-ghost use Rattle.turn_client_proto_core.specs.Receiving.{MayGrow};
+ghost use Rattle.turn_client_proto_core.specs.Receiving.{IsProcessed, MayGrow};
 ghost use Rattle.turn_client_proto_payload.specs.Payloads.{payload_of};
 ghost use Rattle.turn_client_proto_recv.specs.HandingIn.{IsFrameTaken};
 ghost use Rattle.turn_client_proto_recv.specs.Datagrams.{IsDelivered};
+ghost use Rattle.turn_client_proto_recv.specs.Notes.{IsFrameNoted, IsNotedBy, before_of};
 
+use crate::notes::{Before, Notes};
 use std::convert::AsSlice;
 use std::fmt::Debug;
 use stun_types_base::instant::Instant;
@@ -33,20 +35,48 @@ pub enum Taken {
     Garbled,
 }
 
-/// Handles a message or a channel frame from the server.
+/// Handles a message from the server, and notes it.
+pub(crate) fn handle(
+    protocol: &mut Protocol,
+    notes: &mut Notes,
+    message: &Message<'_>,
+    now: Instant,
+) -> Result<bool, NoMemory>
+    ensures ok { IfOk result (λ handled.
+        IsProcessed protocol.old message.now now handled protocol.new) }
+    ensures err { OnErr result (HasFailed protocol.old protocol.new) }
+    ensures memory { OnErr result (MayGrow protocol.old message.now) }
+    ensures noted { MatchResult result
+        (λ _. IsNotedBy (before_of protocol.old message.now) message.now protocol.new
+        notes.old notes.new)
+        (λ _. notes.new ≡ notes.old) }
+{
+    let before = Before::of(protocol, message);
+    let is_handled = protocol.handle_message(message, now)?;
+    notes.note(before, message, protocol);
+    Ok(is_handled)
+}
+
+/// Handles a message or a channel frame from the server, and notes a message that it handles.
 #[tactic(auto, unfolding(crate::proofs::UsualHanding::opened))]
-pub fn dispatch(protocol: &mut Protocol, bytes: &[u8], now: Instant) -> Result<Taken, NoMemory>
+pub fn dispatch(
+    protocol: &mut Protocol,
+    notes: &mut Notes,
+    bytes: &[u8],
+    now: Instant,
+) -> Result<Taken, NoMemory>
     ensures ok { IfOk result (λ taken. IsFrameTaken protocol.old bytes.now now taken protocol.new) }
     ensures err { OnErr result ((payload_of protocol.old bytes.now ≡ None)
         × (refusal bytes.now ≡ None)
         × MayGrow protocol.old bytes.now × HasFailed protocol.old protocol.new) }
+    ensures noted { IsFrameNoted now protocol.old notes.old bytes.now protocol.new notes.new }
 {
     match Message::from_bytes(bytes) {
         Ok(message) => {
             if let Some(payload) = payload_in(protocol, &message) {
                 return Ok(Taken::Given(payload));
             }
-            match protocol.handle_message(&message, now) {
+            match handle(protocol, notes, &message, now) {
                 Ok(true) => Ok(Taken::Handled),
                 Ok(false) => Ok(Taken::Ignored),
                 Err(error) => Err(error),

@@ -4,10 +4,12 @@ ghost use Rattle.std.specs.Prelude.{◌≡◌, IfOk, OnErr};
 ghost use Rattle.turn_client_proto_core.specs.Ending.{HasFailed};
 ghost use Rattle.turn_client_proto_recv.specs.Chunks.{GivesData, Needs, data_given};
 ghost use Rattle.turn_client_proto_recv.specs.Chunks.{IsFrameHandled, IsLostOn, IsTakenOff};
+ghost use Rattle.turn_client_proto_recv.specs.Notes.{AreNoted};
 ghost use Rattle.turn_client_proto_recv.specs.Pulls.{IsPulled, frame_of};
 ghost use Rattle.turn_types_frame.specs.StreamAnswers.{IsNone, looked};
 
 use crate::handing::{Taken, dispatch};
+use crate::notes::Notes;
 use std::alloc::Global;
 use std::convert::AsSlice;
 use std::fmt::Debug;
@@ -66,6 +68,7 @@ pub(crate) fn owned<R: AsSlice<u8> + Debug + Drop>(
 /// Handles a frame, and returns the data that it carries from a peer.
 fn take_up<R: AsSlice<u8> + Debug + Drop>(
     protocol: &mut Protocol,
+    notes: &mut Notes,
     frame: &[u8],
     now: Instant,
 ) -> Result<Option<TurnPeerData<R>>, NoMemory>
@@ -73,8 +76,9 @@ fn take_up<R: AsSlice<u8> + Debug + Drop>(
         IsFrameHandled now protocol.old frame.now given protocol.new) }
     ensures err { OnErr result (Needs protocol.old frame.now
         × HasFailed protocol.old protocol.new) }
+    ensures noted { AreNoted now protocol.old notes.old protocol.new notes.new }
 {
-    match dispatch(protocol, frame, now) {
+    match dispatch(protocol, notes, frame, now) {
         Ok(Taken::Given(payload)) => match owned(protocol.alloc, frame, payload) {
             Ok(given) => Ok(given),
             Err(error) => {
@@ -91,6 +95,7 @@ fn take_up<R: AsSlice<u8> + Debug + Drop>(
 /// Returns `None` if no frame is complete.
 fn take_off<R: AsSlice<u8> + Debug + Drop>(
     protocol: &mut Protocol,
+    notes: &mut Notes,
     stream: &mut TurnTcpBuffer,
     now: Instant,
 ) -> Result<Option<Option<TurnPeerData<R>>>, NoMemory>
@@ -98,9 +103,10 @@ fn take_off<R: AsSlice<u8> + Debug + Drop>(
         IsTakenOff now stream.old protocol.old found stream.new protocol.new) }
     ensures err { OnErr result ((¬ IsNone (looked stream.old))
         × Needs protocol.old (frame_of stream.old) × HasFailed protocol.old protocol.new) }
+    ensures noted { AreNoted now protocol.old notes.old protocol.new notes.new }
 {
     let found = match stream.head() {
-        Some(frame) => Some(take_up(protocol, frame, now)?),
+        Some(frame) => Some(take_up(protocol, notes, frame, now)?),
         None => None,
     };
     stream.drop_head();
@@ -115,14 +121,16 @@ fn take_off<R: AsSlice<u8> + Debug + Drop>(
 /// - `NoMemory`: a memory allocation failed, and the client has failed.
 pub fn pull<R: AsSlice<u8> + Debug + Drop>(
     protocol: &mut Protocol,
+    notes: &mut Notes,
     stream: &mut TurnTcpBuffer,
     now: Instant,
 ) -> Result<Option<TurnPeerData<R>>, NoMemory>
     ensures ok { IfOk result (λ given.
         IsPulled (IsFrameHandled now) stream.old protocol.old given stream.new protocol.new) }
     ensures err { OnErr result (IsLostOn now stream.old protocol.old protocol.new) }
+    ensures noted { AreNoted now protocol.old notes.old protocol.new notes.new }
 {
-    while let Some(given) = take_off(protocol, stream, now)? {
+    while let Some(given) = take_off(protocol, notes, stream, now)? {
         if given.is_some() {
             return Ok(given);
         }

@@ -5,6 +5,8 @@ ghost use Rattle.std.specs.Prelude.{◌≡◌, ◌≢◌, ◌≤◌, [], false, 
 ghost use Rattle.stun_types_wire.specs.Headers.{AreBytes};
 ghost use Rattle.stun_types_base.specs.declared.transport.TransportType.TheVariants.{Tcp};
 ghost use Rattle.turn_client_proto_recv.specs.Datagrams.{IsHandledAs};
+ghost use Rattle.turn_client_proto_recv.specs.Notes.{AreNoted, IsFrameNoted, IsNotedAt};
+ghost use Rattle.turn_client_proto_recv.specs.Processing.{IsProcessedAt, may_bind};
 ghost use Rattle.turn_client_proto_recv.specs.Pulls.{frame_of};
 ghost use Rattle.turn_client_proto_recv.specs.SocketChunks.{IsEnded, IsFed, IsFrameProcessed, IsHeadTaken, IsLostAt, IsLostFrom, IsMessageProcessed, IsNextTaken, IsChunkFed, IsRawTaken, IsReceivedAt, IsTakenFor, IsTakenFrom, IsWaitingTaken, MayGrowAt, MayGrowBy, is_joining, raw_waiting, socket_of, with_stored};
 ghost use Rattle.turn_client_proto_allocation.specs.declared.connection.Connection.{Connection as Joined};
@@ -14,6 +16,8 @@ ghost use Rattle.turn_client_proto_core.specs.Ending.{HasFailed};
 ghost use Rattle.turn_types_frame.specs.StreamAnswers.{IsNone, looked};
 
 use crate::closing::tcp_closed;
+use crate::handing::handle;
+use crate::notes::Notes;
 use crate::processing::{awaited_at, process_at};
 use crate::pulling::give_up;
 use std::convert::AsSlice;
@@ -39,10 +43,33 @@ fn proof_are_bytes(bytes: &[u8])
     ensures { AreBytes bytes.now }
 {}
 
+/// Handles a message on the socket of a connection that is being bound, and notes it.
+fn handle_at(
+    protocol: &mut Protocol,
+    notes: &mut Notes,
+    here: SocketAddr,
+    message: &Message<'_>,
+    now: Instant,
+) -> Result<(), NoMemory>
+    ensures ok { OnOk result (IsProcessedAt here protocol.old message.now now protocol.new) }
+    ensures err { OnErr result (HasFailed protocol.old protocol.new) }
+    ensures memory { OnErr result (may_bind here protocol.old message.now ≡ true) }
+    ensures noted { MatchResult result
+        (λ _. IsNotedAt (length protocol.old.events) message.now protocol.new
+        notes.old notes.new)
+        (λ _. notes.new ≡ notes.old) }
+{
+    let before = protocol.events.len();
+    process_at(protocol, here, message, now)?;
+    notes.note_at(before, message, protocol);
+    Ok(())
+}
+
 /// Handles a message on the socket with a local address. On a socket with the client's own address
 /// it is handled as a message of the control connection.
 fn process_message(
     protocol: &mut Protocol,
+    notes: &mut Notes,
     here: SocketAddr,
     message: &Message<'_>,
     now: Instant,
@@ -50,20 +77,22 @@ fn process_message(
     ensures ok { OnOk result (IsMessageProcessed here now protocol.old message.now protocol.new) }
     ensures err { OnErr result (MayGrowBy here protocol.old message.now
         × HasFailed protocol.old protocol.new) }
+    ensures noted { IsFrameNoted now protocol.old notes.old message.now protocol.new notes.new }
 {
     if here == protocol.agent.local_addr() {
-        match protocol.handle_message(message, now) {
+        match handle(protocol, notes, message, now) {
             Ok(_) => Ok(()),
             Err(error) => Err(error),
         }
     } else {
-        process_at(protocol, here, message, now)
+        handle_at(protocol, notes, here, message, now)
     }
 }
 
 /// Handles a frame on the socket with a local address.
 fn take_frame(
     protocol: &mut Protocol,
+    notes: &mut Notes,
     here: SocketAddr,
     frame: &[u8],
     now: Instant,
@@ -71,10 +100,11 @@ fn take_frame(
     ensures ok { OnOk result (IsFrameProcessed here now protocol.old frame.now protocol.new) }
     ensures err { OnErr result (MayGrowAt here protocol.old frame.now
         × HasFailed protocol.old protocol.new) }
+    ensures noted { IsFrameNoted now protocol.old notes.old frame.now protocol.new notes.new }
 {
     proof_are_bytes(frame);
     match Message::from_bytes(frame) {
-        Ok(message) => process_message(protocol, here, &message, now),
+        Ok(message) => process_message(protocol, notes, here, &message, now),
         Err(_) => Ok(()),
     }
 }
@@ -90,6 +120,7 @@ fn is_joining(protocol: &Protocol, here: SocketAddr) -> bool
 /// bound. Returns whether it did.
 fn take_next(
     protocol: &mut Protocol,
+    notes: &mut Notes,
     here: SocketAddr,
     stream: &mut TurnTcpBuffer,
     now: Instant,
@@ -100,13 +131,14 @@ fn take_next(
         × (¬ IsNone (looked stream.old))
         × MayGrowAt here protocol.old (frame_of stream.old)
         × HasFailed protocol.old protocol.new) }
+    ensures noted { AreNoted now protocol.old notes.old protocol.new notes.new }
 {
     if !is_joining(protocol, here) {
         return Ok(false);
     }
     let is_whole = match stream.head() {
         Some(frame) => {
-            take_frame(protocol, here, frame, now)?;
+            take_frame(protocol, notes, here, frame, now)?;
             true
         }
         None => false,
@@ -122,20 +154,23 @@ fn take_next(
 /// - `NoMemory`: a memory allocation failed, and the client has failed.
 fn feed(
     protocol: &mut Protocol,
+    notes: &mut Notes,
     here: SocketAddr,
     stream: &mut TurnTcpBuffer,
     now: Instant,
 ) -> Result<(), NoMemory>
     ensures ok { OnOk result (IsFed here now stream.old protocol.old stream.new protocol.new) }
     ensures err { OnErr result (IsLostAt here now stream.old protocol.old protocol.new) }
+    ensures noted { AreNoted now protocol.old notes.old protocol.new notes.new }
 {
-    while take_next(protocol, here, stream, now)? {}
+    while take_next(protocol, notes, here, stream, now)? {}
     Ok(())
 }
 
 /// Handles a frame, and then the complete frames after it.
 fn take_from(
     protocol: &mut Protocol,
+    notes: &mut Notes,
     here: SocketAddr,
     stream: &mut TurnTcpBuffer,
     frame: &[u8],
@@ -145,9 +180,10 @@ fn take_from(
         stream.new protocol.new) }
     ensures err { OnErr result (IsLostFrom here now frame.now stream.old protocol.old
         protocol.new) }
+    ensures noted { AreNoted now protocol.old notes.old protocol.new notes.new }
 {
-    take_frame(protocol, here, frame, now)?;
-    feed(protocol, here, stream, now)
+    take_frame(protocol, notes, here, frame, now)?;
+    feed(protocol, notes, here, stream, now)
 }
 
 /// Returns the result for a chunk whose frames have been handled.
@@ -175,6 +211,7 @@ fn reported<T: AsSlice<u8> + Debug + Drop>(
 /// whether that frame is a message.
 fn take_in_place<T: AsSlice<u8> + Debug + Drop>(
     protocol: &mut Protocol,
+    notes: &mut Notes,
     stream: &mut TurnTcpBuffer,
     transmit: Transmit<T>,
     end: usize,
@@ -182,11 +219,12 @@ fn take_in_place<T: AsSlice<u8> + Debug + Drop>(
     now: Instant,
 ) -> TurnRecvRet<T>
     requires { end ≤ length (T.items transmit.bytes) }
-    ensures { IsHeadTaken transmit.to now is_message (take end (T.items transmit.bytes))
+    ensures taken { IsHeadTaken transmit.to now is_message (take end (T.items transmit.bytes))
         stream.old protocol.old transmit result stream.new protocol.new }
+    ensures noted { AreNoted now protocol.old notes.old protocol.new notes.new }
 {
     let (frame, _) = transmit.bytes.as_slice().split_at(end);
-    let done = take_from(protocol, transmit.to, stream, frame, now);
+    let done = take_from(protocol, notes, transmit.to, stream, frame, now);
     reported(done, transmit, is_message)
 }
 
@@ -194,16 +232,18 @@ fn take_in_place<T: AsSlice<u8> + Debug + Drop>(
 /// whether that frame is a message.
 fn take_apart<T: AsSlice<u8> + Debug + Drop>(
     protocol: &mut Protocol,
+    notes: &mut Notes,
     stream: &mut TurnTcpBuffer,
     transmit: Transmit<T>,
     frame: &[u8],
     is_message: bool,
     now: Instant,
 ) -> TurnRecvRet<T>
-    ensures { IsHeadTaken transmit.to now is_message frame.now
+    ensures taken { IsHeadTaken transmit.to now is_message frame.now
         stream.old protocol.old transmit result stream.new protocol.new }
+    ensures noted { AreNoted now protocol.old notes.old protocol.new notes.new }
 {
-    let done = take_from(protocol, transmit.to, stream, frame, now);
+    let done = take_from(protocol, notes, transmit.to, stream, frame, now);
     reported(done, transmit, is_message)
 }
 
@@ -211,27 +251,45 @@ fn take_apart<T: AsSlice<u8> + Debug + Drop>(
 /// `stream` has the bytes buffered before it.
 fn take_frames<T: AsSlice<u8> + Debug + Drop>(
     protocol: &mut Protocol,
+    notes: &mut Notes,
     stream: &mut TurnTcpBuffer,
     transmit: Transmit<T>,
     now: Instant,
 ) -> TurnRecvRet<T>
     requires { is_joining transmit.to protocol.old ≡ true }
-    ensures { IsChunkFed T.items transmit.to now stream.old protocol.old transmit result
+    ensures taken { IsChunkFed T.items transmit.to now stream.old protocol.old transmit result
         stream.new protocol.new }
+    ensures noted { AreNoted now protocol.old notes.old protocol.new notes.new }
 {
     match stream.incoming_tcp(transmit) {
         None => TurnRecvRet::Handled,
         Some(IncomingTcp::CompleteMessage(transmit, range)) => {
-            take_in_place(protocol, stream, transmit, range.end, true, now)
+            take_in_place(protocol, notes, stream, transmit, range.end, true, now)
         }
         Some(IncomingTcp::CompleteChannel(transmit, range)) => {
-            take_in_place(protocol, stream, transmit, range.end, false, now)
+            take_in_place(protocol, notes, stream, transmit, range.end, false, now)
         }
         Some(IncomingTcp::StoredMessage(frame, transmit)) => {
-            take_apart(protocol, stream, transmit, frame.as_slice(), true, now)
+            take_apart(
+                protocol,
+                notes,
+                stream,
+                transmit,
+                frame.as_slice(),
+                true,
+                now,
+            )
         }
         Some(IncomingTcp::StoredChannel(frame, transmit)) => {
-            take_apart(protocol, stream, transmit, frame.as_slice(), false, now)
+            take_apart(
+                protocol,
+                notes,
+                stream,
+                transmit,
+                frame.as_slice(),
+                false,
+                now,
+            )
         }
         Some(IncomingTcp::NoMemory(transmit)) => {
             give_up(protocol);
@@ -256,19 +314,21 @@ fn exchange(
 /// moved out of the client while its frames are handled.
 fn take_joining<T: AsSlice<u8> + Debug + Drop>(
     protocol: &mut Protocol,
+    notes: &mut Notes,
     transmit: Transmit<T>,
     now: Instant,
 ) -> TurnRecvRet<T>
     requires { is_joining transmit.to protocol.old ≡ true }
-    ensures { (c : Joined) → from transmit.to protocol.old.allocations ≡ Some c
+    ensures taken { (c : Joined) → from transmit.to protocol.old.allocations ≡ Some c
         → IsTakenFor T.items c now protocol.old transmit result protocol.new }
+    ensures noted { AreNoted now protocol.old notes.old protocol.new notes.new }
 {
     let here = transmit.to;
     let fresh = TurnTcpBuffer::new(protocol.alloc);
     let Some(mut stream) = exchange(protocol, here, fresh) else {
         return TurnRecvRet::Ignored(transmit);
     };
-    let answer = take_frames(protocol, &mut stream, transmit, now);
+    let answer = take_frames(protocol, notes, &mut stream, transmit, now);
     let _ = exchange(protocol, here, stream);
     answer
 }
@@ -353,10 +413,13 @@ fn end<T: AsSlice<u8> + Debug + Drop>(
 /// socket are given back; an empty chunk ends a connection.
 pub fn receive_at<T: AsSlice<u8> + Debug + Drop>(
     protocol: &mut Protocol,
+    notes: &mut Notes,
     transmit: Transmit<T>,
     now: Instant,
 ) -> TurnRecvRet<T>
-    ensures { IsReceivedAt T.items now protocol.old transmit result protocol.new }
+    ensures taken { IsReceivedAt T.items now protocol.old transmit result protocol.new }
+    ensures noted { AreNoted now protocol.old notes.old protocol.new notes.new }
+    ensures elsewhere { transmit.from ≢ protocol.old.server → notes.new ≡ notes.old }
 {
     let Some(connection) = socket_of(protocol, &transmit) else {
         return TurnRecvRet::Ignored(transmit);
@@ -365,7 +428,7 @@ pub fn receive_at<T: AsSlice<u8> + Debug + Drop>(
         return end(protocol, transmit);
     }
     if connection.awaited.is_some() {
-        return take_joining(protocol, transmit, now);
+        return take_joining(protocol, notes, transmit, now);
     }
     let peer = connection.peer;
     if connection.stream.is_empty() {

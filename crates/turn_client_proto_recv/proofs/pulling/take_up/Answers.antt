@@ -1,0 +1,14 @@
+use Rattle.turn_client_proto_recv.proofs.Noting.{once, then_failed}
+use Rattle.turn_client_proto_recv.proofs.pulling.take_up.Goals as goal
+
+pub returns-in-Ok-Given-Ok-clause-noted : goal.returns-in-Ok-Given-Ok-clause-noted
+returns-in-Ok-Given-Ok-clause-noted g c =
+    once c.args.now c.args.protocol.now c.args.notes.now _ c.dispatch.new.protocol c.dispatch.new.notes c.dispatch.ensures.noted
+
+pub returns-in-Ok-Given-Err-clause-noted : goal.returns-in-Ok-Given-Err-clause-noted
+returns-in-Ok-Given-Err-clause-noted g c =
+    then_failed c.args.now c.args.protocol.now c.args.notes.now c.dispatch.new.protocol c.dispatch.new.notes (once c.args.now c.args.protocol.now c.args.notes.now _ c.dispatch.new.protocol c.dispatch.new.notes c.dispatch.ensures.noted) c.give_up.new.protocol c.give_up.ensures
+
+pub returns-in-Err-clause-noted : goal.returns-in-Err-clause-noted
+returns-in-Err-clause-noted g c =
+    once c.args.now c.args.protocol.now c.args.notes.now _ c.dispatch.new.protocol c.dispatch.new.notes c.dispatch.ensures.noted

@@ -1,0 +1,354 @@
+//! What a client notes of the messages that it handles: why its events happened, its own address
+//! as the server saw it, and the server to which it was redirected. What it notes changes nothing
+//! that it does otherwise.
+
+ghost use Rattle.std.specs.Option.{option_copied};
+ghost use Rattle.std.specs.Prelude.{◌≡◌, IfOk, length};
+ghost use Rattle.stun_types_wire.specs.Attributes.{kind_at};
+ghost use Rattle.stun_types_wire.specs.Types.{class_of};
+ghost use Rattle.turn_client_proto_core.specs.Responding.{is_error_class};
+ghost use Rattle.turn_client_proto_recv.specs.Notes.{IsNotedAt, IsNotedBy, IsPushed, IsRedirectNoted, advanced, before_of, cause_of, cause_signed, cause_taken, cause_unended, cause_unsigned, has_ended, is_allocated, is_challenge, is_failure, is_redirected, no_notes, rejected_or};
+
+use crate::reported::{
+    alternate_reported, domain_reported, is_relaying, mapped_reported, reason_reported,
+};
+use std::alloc::Global;
+use std::net::SocketAddr;
+use stun_types_base::memory::NoMemory;
+use stun_types_message::parsed::Message;
+use stun_types_wire::class::MessageClass;
+use stun_types_wire::registry::{NONCE, REALM, STALE_NONCE, TRY_ALTERNATE, UNAUTHORIZED};
+use turn_client_proto_api::cause::{MessageText, TurnCause};
+use turn_client_proto_api::event::TurnEvent;
+use turn_client_proto_api::queue::QueueOf;
+use turn_client_proto_core::protocol::{Phase, Protocol};
+use turn_client_proto_messages::reported::{first_code, lifetime_reported};
+
+/// What is noted of a client before it handles a message.
+#[derive(Clone, Copy, Debug)]
+pub struct Before {
+    /// An ALLOCATE was sent without credentials, and none with them.
+    pub is_unsigned: bool,
+    /// An ALLOCATE was sent with credentials, and the server has not allocated.
+    pub is_allocating: bool,
+    /// A request with the message's transaction ID is outstanding.
+    pub is_awaited: bool,
+    /// The number of queued events.
+    pub events: usize,
+}
+
+impl Before {
+    /// Returns what is noted before a message is handled.
+    pub fn of(protocol: &Protocol, message: &Message<'_>) -> Before
+        ensures { result ≡ before_of protocol.now message.now }
+    {
+        Before {
+            is_unsigned: matches!(protocol.phase, Phase::InitialSent(_)),
+            is_allocating: matches!(protocol.phase, Phase::Authenticating(_)),
+            is_awaited: protocol.is_awaited(message),
+            events: protocol.events.len(),
+        }
+    }
+}
+
+/// The cause of the events that one message or one call queued.
+#[derive(Debug, Drop)]
+pub struct Run {
+    /// How many events it queued, at least one.
+    pub count: usize,
+    /// The cause of those that report that something failed or ended.
+    pub cause: TurnCause,
+}
+
+/// The causes of a client's queued events, and of the event that was polled last.
+///
+/// The causes are those of the oldest events: if memory for a cause runs out, it and those of later
+/// events are not noted, until no event is queued.
+#[derive(Debug, Drop)]
+pub struct Causes {
+    /// The causes, in the order of the events. There are no more than queued events.
+    pub runs: QueueOf<Run>,
+    /// How many of the queued events, from the oldest, have their cause here or in `last`.
+    pub covered: usize,
+    /// How many of the queued events, from the oldest, have the cause `last`.
+    pub left: usize,
+    /// The cause of the event that was polled last, and of those queued with it.
+    pub last: TurnCause,
+    /// Whether the event that was polled last reports that something failed or ended.
+    pub is_failure: bool,
+}
+
+impl Causes {
+    /// Notes the cause of the events that were queued since `before` were, if there are some now
+    /// that there are `events`. If memory runs out, or the cause of an earlier event is not noted,
+    /// nothing changes.
+    pub fn push(&mut self, before: usize, events: usize, cause: TurnCause)
+        ensures { IsPushed before events cause self.old self.new }
+    {
+        if self.covered != before || before >= events {
+            return;
+        }
+        let run = Run {
+            count: events - before,
+            cause,
+        };
+        if self.runs.push_back(run).is_ok() {
+            self.covered = events;
+        }
+    }
+}
+
+impl Causes {
+    /// Goes on to the cause of the oldest queued event, which is taken from the queue now.
+    pub fn advance(&mut self, event: TurnEvent)
+        ensures { self.new ≡ advanced event self.old }
+    {
+        self.is_failure = is_failure(event);
+        self.covered = self.covered.saturating_sub(1);
+        if self.left > 0 {
+            self.left -= 1;
+            return;
+        }
+        match self.runs.pop_front() {
+            Some(run) => {
+                self.left = run.count.saturating_sub(1);
+                self.last = run.cause;
+            }
+            None => {
+                self.last = TurnCause::OutOfMemory;
+            }
+        }
+    }
+
+    /// Returns the cause of the event that was taken last, or `None` if that reports a success, or
+    /// if none was taken.
+    pub fn cause(&self) -> Option<&TurnCause>
+        ensures { option_copied result ≡ cause_taken self.now }
+    {
+        if self.is_failure {
+            Some(&self.last)
+        } else {
+            None
+        }
+    }
+}
+
+/// Returns whether an event reports that something failed or ended.
+fn is_failure(event: TurnEvent) -> bool
+    ensures { result ≡ is_failure event }
+{
+    match event {
+        TurnEvent::AllocationCreateFailed(_)
+        | TurnEvent::PermissionCreateFailed(..)
+        | TurnEvent::ChannelCreateFailed(..)
+        | TurnEvent::TcpConnectFailed(_) => true,
+        TurnEvent::AllocationCreated(..)
+        | TurnEvent::PermissionCreated(..)
+        | TurnEvent::ChannelCreated(..)
+        | TurnEvent::TcpConnected(_) => false,
+    }
+}
+
+/// What a client notes.
+#[derive(Debug, Drop)]
+pub struct Notes {
+    /// Why its events happened.
+    pub causes: Causes,
+    /// The client's own address as the server saw it: the XOR-MAPPED-ADDRESS of the signed response
+    /// that allocated (RFC 8656, section 7.3).
+    pub mapped: Option<SocketAddr>,
+    /// The ALTERNATE-SERVER of the response 300 that ended the client (RFC 8489, section 10).
+    pub alternate: Option<SocketAddr>,
+    /// The ALTERNATE-DOMAIN of that response; `None` too if memory for it ran out.
+    pub domain: Option<MessageText>,
+}
+
+impl Notes {
+    /// Creates notes of nothing, which hold no memory.
+    pub fn new(alloc: Global) -> Notes
+        ensures { result ≡ no_notes }
+    {
+        Notes {
+            causes: Causes {
+                runs: QueueOf::new(alloc),
+                covered: 0,
+                left: 0,
+                last: TurnCause::OutOfMemory,
+                is_failure: false,
+            },
+            mapped: None,
+            alternate: None,
+            domain: None,
+        }
+    }
+
+    /// Notes a message that the client handled. `protocol` is the client afterwards.
+    pub fn note(&mut self, before: Before, message: &Message<'_>, protocol: &Protocol)
+        ensures { IsNotedBy before message.now protocol.now self.old self.new }
+    {
+        if is_allocated(before, protocol) {
+            self.mapped = mapped_reported(message);
+        }
+        if is_redirected(before, message, protocol) {
+            self.note_redirect(message, protocol.alloc);
+        }
+        if protocol.events.len() <= before.events {
+            return;
+        }
+        if let Ok(cause) = cause_of(protocol.alloc, before, message, protocol) {
+            self.causes
+                .push(before.events, protocol.events.len(), cause);
+        }
+    }
+
+    /// Notes the other server that a message names.
+    fn note_redirect(&mut self, message: &Message<'_>, alloc: Global)
+        ensures { IsRedirectNoted message.now self.old self.new }
+    {
+        self.alternate = alternate_reported(message);
+        self.domain = match domain_reported(alloc, message) {
+            Ok(domain) => domain,
+            Err(NoMemory) => None,
+        };
+    }
+
+    /// Notes a message that the client handled on the socket of a connection that is being bound.
+    /// There were `before` events, and `protocol` is the client afterwards.
+    pub fn note_at(&mut self, before: usize, message: &Message<'_>, protocol: &Protocol)
+        ensures { IsNotedAt before message.now protocol.now self.old self.new }
+    {
+        if protocol.events.len() <= before {
+            return;
+        }
+        let otherwise = TurnCause::Unusable;
+        if let Ok(cause) = rejected_or(protocol.alloc, message, false, otherwise) {
+            self.causes.push(before, protocol.events.len(), cause);
+        }
+    }
+}
+
+/// Returns whether the message ended an outstanding transaction.
+fn has_ended(before: Before, message: &Message<'_>, protocol: &Protocol) -> bool
+    ensures { result ≡ has_ended before message.now protocol.now }
+{
+    before.is_awaited && !protocol.is_awaited(message)
+}
+
+/// Returns whether the server allocated by the message.
+fn is_allocated(before: Before, protocol: &Protocol) -> bool
+    ensures { result ≡ is_allocated before protocol.now }
+{
+    before.is_allocating && protocol.is_authenticated()
+}
+
+/// Returns whether a message is an error response with code 300 that ended the client.
+fn is_redirected(before: Before, message: &Message<'_>, protocol: &Protocol) -> bool
+    ensures { result ≡ is_redirected before message.now protocol.now }
+{
+    has_ended(before, message, protocol)
+        && matches!(protocol.phase, Phase::Ended)
+        && is_error(message)
+        && first_code(message) == Some(TRY_ALTERNATE)
+}
+
+/// Returns whether a message is an error response.
+fn is_error(message: &Message<'_>) -> bool
+    ensures { result ≡ is_error_class (class_of (kind_at message.now)) }
+{
+    match message.class() {
+        MessageClass::Error => true,
+        MessageClass::Success | MessageClass::Request | MessageClass::Indication => false,
+    }
+}
+
+/// Returns whether a message is an error response with code 401 or 438 (RFC 8489, section 9.2.5).
+fn is_challenge(message: &Message<'_>) -> bool
+    ensures { result ≡ is_challenge message.now }
+{
+    match first_code(message) {
+        Some(code) => is_error(message) && (code == UNAUTHORIZED || code == STALE_NONCE),
+        None => false,
+    }
+}
+
+/// Returns why a message that the client handled queued events that report that something failed.
+/// `protocol` is the client afterwards. Fails with `NoMemory` if an allocation fails.
+fn cause_of(
+    alloc: Global,
+    before: Before,
+    message: &Message<'_>,
+    protocol: &Protocol,
+) -> Result<TurnCause, NoMemory>
+    ensures { IfOk result (λ cause. cause ≡ cause_of before message.now protocol.now) }
+{
+    if !has_ended(before, message, protocol) {
+        return cause_unended(alloc, message);
+    }
+    if before.is_unsigned {
+        return cause_unsigned(alloc, message);
+    }
+    cause_signed(alloc, before.is_allocating, message)
+}
+
+/// Returns the cause if no transaction ended.
+fn cause_unended(alloc: Global, message: &Message<'_>) -> Result<TurnCause, NoMemory>
+    ensures { IfOk result (λ cause. cause ≡ cause_unended message.now) }
+{
+    if is_challenge(message) {
+        rejected_or(alloc, message, false, TurnCause::Unusable)
+    } else {
+        Ok(TurnCause::Integrity)
+    }
+}
+
+/// Returns the cause if the response to a request without credentials ended its transaction.
+fn cause_unsigned(alloc: Global, message: &Message<'_>) -> Result<TurnCause, NoMemory>
+    ensures { IfOk result (λ cause. cause ≡ cause_unsigned message.now) }
+{
+    if is_challenge(message) && message.has_attribute(REALM) && message.has_attribute(NONCE) {
+        return Ok(TurnCause::NoCommonAlgorithm);
+    }
+    rejected_or(alloc, message, false, TurnCause::Unusable)
+}
+
+/// Returns the cause if a validated response ended its transaction. `is_allocating` says whether it
+/// is the response to an ALLOCATE.
+fn cause_signed(
+    alloc: Global,
+    is_allocating: bool,
+    message: &Message<'_>,
+) -> Result<TurnCause, NoMemory>
+    ensures { IfOk result (λ cause. cause ≡ cause_signed is_allocating message.now) }
+{
+    if is_error(message) {
+        return rejected_or(alloc, message, true, TurnCause::Unusable);
+    }
+    if is_allocating && lifetime_reported(message).is_some() && is_relaying(message) {
+        return Ok(TurnCause::OtherFamily);
+    }
+    Ok(TurnCause::Unusable)
+}
+
+/// Returns that the server rejected the request, if the message is an error response with a code,
+/// else another cause.
+fn rejected_or(
+    alloc: Global,
+    message: &Message<'_>,
+    is_signed: bool,
+    otherwise: TurnCause,
+) -> Result<TurnCause, NoMemory>
+    ensures { IfOk result (λ cause. cause ≡ rejected_or is_signed otherwise message.now) }
+{
+    if !is_error(message) {
+        return Ok(otherwise);
+    }
+    let Some(code) = first_code(message) else {
+        return Ok(otherwise);
+    };
+    let reason = reason_reported(alloc, message)?;
+    Ok(TurnCause::Rejected {
+        code,
+        reason,
+        is_signed,
+    })
+}
