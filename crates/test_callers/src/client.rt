@@ -40,7 +40,7 @@ pub(crate) fn process(
     from: SocketAddr,
     now: Instant,
 ) -> Result<bool, NoMemory>
-    ensures { from ≢ client.old.server → (result ≡ Ok false) × (client.new ≡ client.old) }
+    ensures { from ≢ client.old.0.server → (result ≡ Ok false) × (client.new ≡ client.old) }
 {
     let came = Transmit::new(bytes, client.transport(), from, client.local_addr());
     match client.recv(came, now) {

@@ -32,10 +32,10 @@ pub(crate) fn send(
     bytes: &[u8],
     now: Instant,
 ) -> Result<Option<Transmit<Vec<u8>>>, NoMemory>
-    ensures refused { has_permission Udp (socket_ip peer) client.old ≡ false
+    ensures refused { has_permission Udp (socket_ip peer) client.old.0 ≡ false
         → (result ≡ Ok None) × (client.new ≡ client.old) }
     ensures sent { IfOk result (λ sent. is_some sent
-        ≡ is_none (send_refusal Udp client.old peer bytes.now)) }
+        ≡ is_none (send_refusal Udp client.old.0 peer bytes.now)) }
 {
     match client.send_to(TransportType::Udp, peer, bytes, now) {
         Ok(Some(carrier)) => Ok(Some(carrier.build(alloc)?)),
@@ -52,7 +52,7 @@ pub(crate) fn take(
     bytes: &[u8],
     now: Instant,
 ) -> Result<Option<(SocketAddr, Vec<u8>)>, NoMemory>
-    ensures { payload_of client.old bytes.now ≡ None → IfOk result IsNone }
+    ensures { payload_of client.old.0 bytes.now ≡ None → IfOk result IsNone }
 {
     let came = Transmit::new(
         bytes,

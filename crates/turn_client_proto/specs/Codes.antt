@@ -6,9 +6,14 @@ use Rattle.turn_client_proto_core.specs.contracts.protocol.Protocol as protocol
 use Rattle.turn_client_proto_core.specs.declared.protocol.Protocol.{Protocol}
 use Rattle.turn_client_proto_recv.specs.Control.{Control, Datagrams, Open, Closed}
 use Rattle.turn_client_proto_recv.specs.ClientState.{ClientState}
+use Rattle.turn_client_proto_recv.specs.contracts.notes.Notes as notes
+use Rattle.turn_client_proto_recv.specs.declared.notes.Notes.{Notes}
 
 abbrev pub protocol_code : Coded Protocol
 protocol_code = protocol.the_row.coded
+
+abbrev pub notes_code : Coded Notes
+notes_code = notes.the_row.coded
 
 abbrev pub stream_code : Coded Stream
 stream_code = code_by (List ℕ × Bool) (coded× (coded_list coded_ℕ) coded_bool)

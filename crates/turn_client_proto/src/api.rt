@@ -2,7 +2,7 @@
 //! events, errors, and what is sent and received.
 
 ghost use Rattle.std.specs.Prelude.{◌≡◌, ◌≢◌, ◌<◌, ◌^◌, ◌++◌, [], length, true, IfNone, IfOk, OnErr, OnOk, option_to_list};
-ghost use Rattle.std.specs.Option.{option_map};
+ghost use Rattle.std.specs.Option.{option_copied, option_map};
 ghost use Rattle.turn_client_proto_recv.specs.Closing.{after_close, is_joined};
 ghost use Rattle.turn_client_proto_recv.specs.Connecting.{IsConnectAnswered};
 ghost use Rattle.turn_client_proto_core.specs.Binding.{IsBindAnswered};
@@ -14,8 +14,11 @@ ghost use Rattle.turn_client_proto_core.specs.Permitting.{IsPermissionAnswered};
 ghost use Rattle.turn_client_proto_timers.specs.Polling.{IsPolled};
 ghost use Rattle.turn_client_proto_payload.specs.Sending.{IsSendAnswered, answered_as};
 ghost use Rattle.turn_client_proto.specs.Getters.{channels_of, connections_of, has_permission, permissions_of, relayed_of};
+ghost use Rattle.turn_client_proto.specs.Notes.{IsClosed, IsPollNoted, after_event};
 ghost use Rattle.turn_client_proto_recv.specs.ClientState.{ClientState, Leaves};
+ghost use Rattle.turn_client_proto_recv.specs.Notes.{AreNoted, cause_taken};
 ghost use Rattle.turn_client_proto_recv.specs.Receipts.{IsReceived, IsWaitingGiven, IsWaitingLost};
+ghost use Rattle.turn_client_proto_recv.specs.declared.notes.Notes.{Notes};
 ghost use Rattle.turn_client_proto.specs.SocketsReported.{IsSocketReported};
 
 pub use crate::getters::{
@@ -30,6 +33,7 @@ use stun_types_base::memory::NoMemory;
 pub use stun_types_base::transmit::Transmit;
 use stun_types_base::transport::TransportType;
 pub use turn_client_proto_api::answer::{Socket5Tuple, TurnPollRet, TurnRecvRet};
+pub use turn_client_proto_api::cause::{MessageText, TurnCause};
 pub use turn_client_proto_api::config::TurnConfig;
 pub use turn_client_proto_api::data::{DataRangeOrOwned, TurnPeerData};
 pub use turn_client_proto_api::error::{
@@ -114,6 +118,8 @@ pub const CLIENT_END: u64 = 1 << 62;
 pub trait TurnClientApi: Debug + Send {
     ghost stored: { Self → ClientState };
 
+    ghost noted: { Self → Notes };
+
     /// Returns the transport of the connection to the server.
     fn transport(&self) -> TransportType
         ensures { result ≡ (stored self.now).core.agent.transport };
@@ -143,8 +149,9 @@ pub trait TurnClientApi: Debug + Send {
     /// - `NoMemory`: an allocation failed. Nothing has changed, except that the generator of
     ///   transaction IDs has advanced.
     fn delete(&mut self, now: Instant) -> Result<(), DeleteError>
-        ensures { Leaves (λ old new. IsDeleteAnswered old now result new)
-            (stored self.old) (stored self.new) };
+        ensures deleted { Leaves (λ old new. IsDeleteAnswered old now result new)
+            (stored self.old) (stored self.new) }
+        ensures noted { noted self.new ≡ noted self.old };
 
     /// Requests a permission for a peer's IP address (RFC 8656, section 10.1), in the first
     /// allocation of this transport whose relayed address is of the same family.
@@ -170,8 +177,9 @@ pub trait TurnClientApi: Debug + Send {
         peer_addr: IpAddr,
         now: Instant,
     ) -> Result<(), CreatePermissionError>
-        ensures { Leaves (λ old new. IsPermissionAnswered old transport peer_addr now result new)
-            (stored self.old) (stored self.new) };
+        ensures permitted { Leaves (λ old new. IsPermissionAnswered old transport peer_addr now result new)
+            (stored self.old) (stored self.new) }
+        ensures noted { noted self.new ≡ noted self.old };
 
     /// Returns whether there is a permission for this IP address in an allocation of this transport
     /// that is not marked as expired. A permission that has expired counts until `poll` removes it.
@@ -223,8 +231,9 @@ pub trait TurnClientApi: Debug + Send {
         peer_addr: SocketAddr,
         now: Instant,
     ) -> Result<(), BindChannelError>
-        ensures { Leaves (λ old new. IsBindAnswered old transport peer_addr now result new)
-            (stored self.old) (stored self.new) };
+        ensures bound { Leaves (λ old new. IsBindAnswered old transport peer_addr now result new)
+            (stored self.old) (stored self.new) }
+        ensures noted { noted self.new ≡ noted self.old };
 
     /// Returns the numbers and the peers of the channels that are bound, in the order in which they
     /// were granted, one allocation after another. Allocations that are marked as expired are left
@@ -255,8 +264,9 @@ pub trait TurnClientApi: Debug + Send {
     /// Otherwise nothing has changed, except that after `NoMemory` the generator of transaction IDs
     /// has advanced.
     fn tcp_connect(&mut self, peer_addr: SocketAddr, now: Instant) -> Result<(), TcpConnectError>
-        ensures { Leaves (λ old new. IsConnectAnswered old peer_addr now result new)
-            (stored self.old) (stored self.new) };
+        ensures connected { Leaves (λ old new. IsConnectAnswered old peer_addr now result new)
+            (stored self.old) (stored self.new) }
+        ensures noted { noted self.new ≡ noted self.old };
 
     /// Reports the socket that was opened for a connection to a peer, or that none was (RFC 6062,
     /// section 4.3). Call it after `poll` has returned `AllocateTcpSocket`.
@@ -299,8 +309,9 @@ pub trait TurnClientApi: Debug + Send {
         local_addr: Option<SocketAddr>,
         now: Instant,
     ) -> Result<(), TcpAllocateError>
-        ensures { IsSocketReported (stored self.old) id five_tuple peer_addr local_addr now result
-            (stored self.new) };
+        ensures reported { IsSocketReported (stored self.old) id five_tuple peer_addr local_addr now result
+            (stored self.new) }
+        ensures noted { noted self.new ≡ noted self.old };
 
     /// Reports that the socket of a data connection was closed, by its own address and the
     /// server's.
@@ -324,7 +335,8 @@ pub trait TurnClientApi: Debug + Send {
             (stored self.old) (stored self.new)) }
         ensures err { OnErr result (stored self.new ≡ stored self.old) }
         ensures memory { OnErr result
-            (is_joined local_addr remote_addr (stored self.old).core ≡ true) };
+            (is_joined local_addr remote_addr (stored self.old).core ≡ true) }
+        ensures noted { noted self.new ≡ noted self.old };
 
     /// Returns the data connections that have a socket, one allocation after another, in the order
     /// in which their sockets were reported. Each has its own address, its peer's, the ID by which
@@ -363,9 +375,10 @@ pub trait TurnClientApi: Debug + Send {
         data: T,
         now: Instant,
     ) -> Result<Option<TransmitBuild<DelayedMessageOrChannelSend<T>>>, SendError>
-        ensures { Leaves (λ old new.
+        ensures sent { Leaves (λ old new.
             IsSendAnswered old transport to (T.items «data») now (answered_as T.items result) new)
-            (stored self.old) (stored self.new) };
+            (stored self.old) (stored self.new) }
+        ensures noted { noted self.new ≡ noted self.old };
 
     /// Returns the next buffered data of a peer that arrived over TCP, or `None`. Over UDP there is
     /// no stream, and it returns `None`.
@@ -384,7 +397,9 @@ pub trait TurnClientApi: Debug + Send {
     fn poll_recv(&mut self, now: Instant) -> Result<Option<TurnPeerData<Vec<u8>>>, NoMemory>
         ensures ok { IfOk result (λ given.
             IsWaitingGiven (stored self.old) now given (stored self.new)) }
-        ensures err { OnErr result (IsWaitingLost (stored self.old) now (stored self.new)) };
+        ensures err { OnErr result (IsWaitingLost (stored self.old) now (stored self.new)) }
+        ensures noted { AreNoted now (stored self.old).core (noted self.old)
+            (stored self.new).core (noted self.new) };
 
     /// Handles received bytes: over UDP a datagram; over TCP a chunk of the stream, or of what
     /// arrived over the socket of a connection to a peer.
@@ -497,7 +512,11 @@ pub trait TurnClientApi: Debug + Send {
         transmit: Transmit<T>,
         now: Instant,
     ) -> TurnRecvRet<T>
-        ensures { IsReceived T.items (stored self.old) transmit now result (stored self.new) };
+        ensures received { IsReceived T.items (stored self.old) transmit now result (stored self.new) }
+        ensures noted { AreNoted now (stored self.old).core (noted self.old)
+            (stored self.new).core (noted self.new) }
+        ensures elsewhere { transmit.from ≢ (stored self.old).core.server
+            → noted self.new ≡ noted self.old };
 
     /// Does what is due at `now`, and returns what the caller is to do next.
     ///
@@ -533,8 +552,9 @@ pub trait TurnClientApi: Debug + Send {
     /// `NoMemory`: an allocation failed, and the client has failed. Memory is needed only if no
     /// event is queued, no socket is requested, and an event has to be queued.
     fn poll(&mut self, now: Instant) -> TurnPollRet
-        ensures { Leaves (λ old new. IsPolled old now result new) (stored self.old)
-            (stored self.new) };
+        ensures polled { Leaves (λ old new. IsPolled old now result new) (stored self.old)
+            (stored self.new) }
+        ensures noted { IsPollNoted (noted self.old) (noted self.new) };
 
     /// Returns what is to be sent at `now`, or `None`. Call it again until it returns `None`.
     ///
@@ -559,7 +579,8 @@ pub trait TurnClientApi: Debug + Send {
             IsTransmitted old now (option_map sent_of answer) new)) (stored self.old) (stored
             self.new) }
         ensures err { OnErr result (Leaves HasFailed (stored self.old) (stored self.new)) }
-        ensures memory { OnErr result (HasToSend (stored self.old).core now) };
+        ensures memory { OnErr result (HasToSend (stored self.old).core now) }
+        ensures noted { noted self.new ≡ noted self.old };
 
     /// Returns the oldest queued event, and removes it from the queue. Needs no memory.
     fn poll_event(&mut self) -> Option<TurnEvent>
@@ -567,7 +588,41 @@ pub trait TurnClientApi: Debug + Send {
             ≡ option_to_list result ++ (stored self.new).core.events }
         ensures none { IfNone result ((stored self.old).core.events ≡ []) }
         ensures others { Leaves (λ old new. new ≡ record old { events = new.events })
-            (stored self.old) (stored self.new) };
+            (stored self.old) (stored self.new) }
+        ensures noted { noted self.new ≡ after_event result (noted self.old) };
+
+    /// Returns why the event that `poll_event` returned last reports that something failed or
+    /// ended. It is `None` if that event reports a success, or if there was none yet.
+    ///
+    /// - `Rejected`: by the message whose handling queued the event, never by an earlier or a later
+    ///   one. If `is_signed` is set, that message validated, and its request was outstanding.
+    ///   Otherwise it may be anybody's who can send from the server's address.
+    /// - `OutOfMemory`: memory for the cause ran out. Nothing else of the client fails by that.
+    ///
+    /// A call of `poll_event` that returns `None` leaves it.
+    fn cause(&self) -> Option<&TurnCause>
+        ensures { option_copied result ≡ cause_taken (noted self.now).causes };
+
+    /// Returns the client's own address as the server saw it, which an ICE agent calls its
+    /// server-reflexive candidate: the XOR-MAPPED-ADDRESS of the signed response that allocated
+    /// (RFC 8656, section 7.3). It is `None` before, or if that response had none that is well
+    /// formed.
+    fn mapped_address(&self) -> Option<SocketAddr>
+        ensures { result ≡ (noted self.now).mapped };
+
+    /// Returns the server that the response 300 (Try Alternate) named which ended the client, by
+    /// its ALTERNATE-SERVER (RFC 8489, section 10). It is `None` if no such response came, or if it
+    /// named none.
+    ///
+    /// The client does not follow it: create another client there, with a limit on how often you do
+    /// so. If `cause` says that the response was not signed, it may be anybody's.
+    fn alternate_server(&self) -> Option<SocketAddr>
+        ensures { result ≡ (noted self.now).alternate };
+
+    /// Returns the domain that this response named by its ALTERNATE-DOMAIN (RFC 8489, section
+    /// 14.16). It is `None` as well if memory for it ran out.
+    fn alternate_domain(&self) -> Option<&str>
+        ensures { option_map (λ t. t.now) result ≡ (noted self.now).domain };
 
     /// Ends the client, because a layer above has met an error and has no use for it any more. For
     /// each requested address family an event `AllocationCreateFailed` is queued.
@@ -580,5 +635,8 @@ pub trait TurnClientApi: Debug + Send {
         ensures ok { OnOk result (Leaves (λ old new. new ≡ ended old)
             (stored self.old) (stored self.new)) }
         ensures err { OnErr result (stored self.new ≡ stored self.old) }
-        ensures memory { OnErr result ((stored self.old).core.families ≢ []) };
+        ensures memory { OnErr result ((stored self.old).core.families ≢ []) }
+        ensures noted { OnOk result (IsClosed (stored self.old).core (noted self.old)
+            (stored self.new).core (noted self.new)) }
+        ensures unnoted { OnErr result (noted self.new ≡ noted self.old) };
 }

@@ -1,6 +1,6 @@
 //! A TURN client over UDP or TCP, as one type.
 
-ghost use Rattle.turn_client_proto.specs.Clients.{stored_of};
+ghost use Rattle.turn_client_proto.specs.Clients.{noted_of, stored_of};
 
 use crate::api::TurnClientApi;
 use crate::getters::{
@@ -17,6 +17,7 @@ use stun_types_base::memory::NoMemory;
 use stun_types_base::transmit::Transmit;
 use stun_types_base::transport::TransportType;
 use turn_client_proto_api::answer::{Socket5Tuple, TurnPollRet, TurnRecvRet};
+use turn_client_proto_api::cause::TurnCause;
 use turn_client_proto_api::data::TurnPeerData;
 use turn_client_proto_api::error::{
     BindChannelError, CreatePermissionError, DeleteError, SendError, TcpAllocateError,
@@ -58,9 +59,11 @@ impl From<TurnClientTcp> for TurnClient {
 }
 
 impl TurnClientApi for TurnClient {
-    ghost use Rattle.turn_client_proto.specs.Clients.{stored_of};
+    ghost use Rattle.turn_client_proto.specs.Clients.{noted_of, stored_of};
 
     ghost stored = { stored_of };
+
+    ghost noted = { noted_of };
 
     fn transport(&self) -> TransportType {
         match self {
@@ -246,6 +249,34 @@ impl TurnClientApi for TurnClient {
         match self {
             TurnClient::Udp(client) => client.protocol_error(),
             TurnClient::Tcp(client) => client.protocol_error(),
+        }
+    }
+
+    fn cause(&self) -> Option<&TurnCause> {
+        match self {
+            TurnClient::Udp(client) => client.cause(),
+            TurnClient::Tcp(client) => client.cause(),
+        }
+    }
+
+    fn mapped_address(&self) -> Option<SocketAddr> {
+        match self {
+            TurnClient::Udp(client) => client.mapped_address(),
+            TurnClient::Tcp(client) => client.mapped_address(),
+        }
+    }
+
+    fn alternate_server(&self) -> Option<SocketAddr> {
+        match self {
+            TurnClient::Udp(client) => client.alternate_server(),
+            TurnClient::Tcp(client) => client.alternate_server(),
+        }
+    }
+
+    fn alternate_domain(&self) -> Option<&str> {
+        match self {
+            TurnClient::Udp(client) => client.alternate_domain(),
+            TurnClient::Tcp(client) => client.alternate_domain(),
         }
     }
 }

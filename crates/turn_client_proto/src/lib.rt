@@ -14,6 +14,7 @@ pub mod api;
 pub mod client;
 mod getters;
 pub mod laws;
+mod notes;
 pub mod prelude;
 pub mod tcp;
 pub mod udp;

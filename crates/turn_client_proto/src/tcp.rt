@@ -5,6 +5,7 @@ ghost use Rattle.turn_client_proto_allocation.specs.StunTypesWire.Registry.{long
 ghost use Rattle.stun_types_base.specs.declared.transport.TransportType.TheVariants.{Tcp};
 ghost use Rattle.turn_types_frame.specs.Streams.{alive};
 ghost use Rattle.turn_client_proto_core.specs.Beginning.{IsNew};
+ghost use Rattle.turn_client_proto_recv.specs.Notes.{no_notes};
 ghost use Rattle.turn_client_proto_recv.specs.Control.{Open};
 ghost use Rattle.turn_client_proto_recv.specs.Receipts.{over_tcp};
 ghost use Rattle.turn_client_proto.specs.SocketsReported.{IsSocketReported};
@@ -13,6 +14,7 @@ use crate::api::TurnClientApi;
 use crate::getters::{
     ChannelsIter, ConnectionsIter, PermissionAddressesIter, RelayedAddressesIter,
 };
+use crate::notes::{Requested, domain_of, note_close, note_event, note_poll};
 use std::alloc::Global;
 use std::convert::AsSlice;
 use std::fmt::Debug;
@@ -24,6 +26,7 @@ use stun_types_base::memory::NoMemory;
 use stun_types_base::transmit::Transmit;
 use stun_types_base::transport::TransportType;
 use turn_client_proto_api::answer::{Socket5Tuple, TurnPollRet, TurnRecvRet};
+use turn_client_proto_api::cause::TurnCause;
 use turn_client_proto_api::config::TurnConfig;
 use turn_client_proto_api::data::TurnPeerData;
 use turn_client_proto_api::error::{
@@ -37,6 +40,7 @@ use turn_client_proto_core::{binding, calls, ending, permitting};
 use turn_client_proto_payload::sending;
 use turn_client_proto_peers::permission::asking::permits_any;
 use turn_client_proto_peers::permission::visible::permissions_at;
+use turn_client_proto_recv::notes::Notes;
 use turn_client_proto_recv::stream::{ask, receive};
 use turn_client_proto_recv::{closing, connecting, socket};
 use turn_client_proto_timers::{deleting, drawing, polling};
@@ -48,23 +52,27 @@ use turn_types_frame::tcp::TurnTcpBuffer;
 /// Its connection to the server carries messages and channel frames one after another (RFC 8656,
 /// section 12.5). With an allocation over TCP it has connections to peers, each with a socket of
 /// its own (RFC 6062, section 4). In contracts it is the record `ClientState`: the protocol core,
-/// which has the connections, and what is buffered of the stream while the stream is open.
+/// which has the connections, and what is buffered of the stream while the stream is open; and what
+/// the client notes.
 #[derive(Debug, Drop)]
 pub struct TurnClientTcp {
     protocol: Protocol,
     control: Option<TurnTcpBuffer>,
+    notes: Notes,
 }
 
 impl Model for TurnClientTcp {
     ghost use Rattle.turn_client_proto_recv.specs.ClientState.{ClientState};
     ghost use Rattle.turn_client_proto_recv.specs.Receipts.{over_tcp};
-    ghost use Rattle.turn_client_proto.specs.Codes.{stored_code};
+    ghost use Rattle.std.specs.Coded.{coded×};
+    ghost use Rattle.turn_client_proto_recv.specs.declared.notes.Notes.{Notes};
+    ghost use Rattle.turn_client_proto.specs.Codes.{notes_code, stored_code};
 
-    ghost Value = { ClientState };
+    ghost Value = { ClientState × Notes };
 
-    ghost coded = { stored_code };
+    ghost coded = { coded× stored_code notes_code };
 
-    ghost view = { λ c. over_tcp c.protocol c.control };
+    ghost view = { λ c. (over_tcp c.protocol c.control, c.notes) };
 }
 
 impl TurnClientTcp {
@@ -84,13 +92,15 @@ impl TurnClientTcp {
         seed: [u8; 32],
     ) -> Result<TurnClientTcp, NoMemory>
         requires { length config.credentials.username ≤ longest_username }
-        ensures { IsOkAnd result (λ client. IsNew Tcp local remote config seed client.core
-            × (client.control ≡ Open (alive []))) }
+        ensures client { IsOkAnd result (λ client. IsNew Tcp local remote config seed client.0.core
+            × (client.0.control ≡ Open (alive []))) }
+        ensures noted { IsOkAnd result (λ client. client.1 ≡ no_notes) }
     {
         let protocol = Protocol::new(alloc, TransportType::Tcp, local, remote, config, seed);
         Ok(TurnClientTcp {
             protocol,
             control: Some(TurnTcpBuffer::new(alloc)),
+            notes: Notes::new(alloc),
         })
     }
 }
@@ -121,7 +131,9 @@ fn take_socket(
 }
 
 impl TurnClientApi for TurnClientTcp {
-    ghost stored = { λ client. client };
+    ghost stored = { λ client. client.0 };
+
+    ghost noted = { λ client. client.1 };
 
     fn transport(&self) -> TransportType {
         self.protocol.agent.transport()
@@ -221,7 +233,7 @@ impl TurnClientApi for TurnClientTcp {
     }
 
     fn poll_recv(&mut self, now: Instant) -> Result<Option<TurnPeerData<Vec<u8>>>, NoMemory> {
-        ask(&mut self.protocol, &mut self.control, now)
+        ask(&mut self.protocol, &mut self.notes, &mut self.control, now)
     }
 
     fn recv<T: AsSlice<u8> + Debug + Drop>(
@@ -229,11 +241,21 @@ impl TurnClientApi for TurnClientTcp {
         transmit: Transmit<T>,
         now: Instant,
     ) -> TurnRecvRet<T> {
-        receive(&mut self.protocol, &mut self.control, transmit, now)
+        receive(
+            &mut self.protocol,
+            &mut self.notes,
+            &mut self.control,
+            transmit,
+            now,
+        )
     }
 
     fn poll(&mut self, now: Instant) -> TurnPollRet {
-        polling::poll(&mut self.protocol, now)
+        let events = self.protocol.events.len();
+        let before = Requested::of(self.protocol.allocations.as_slice());
+        let answer = polling::poll(&mut self.protocol, now);
+        note_poll(&mut self.notes, events, before, &self.protocol);
+        answer
     }
 
     fn poll_transmit(&mut self, now: Instant) -> Result<Option<Transmit<Data<'static>>>, NoMemory> {
@@ -241,10 +263,31 @@ impl TurnClientApi for TurnClientTcp {
     }
 
     fn poll_event(&mut self) -> Option<TurnEvent> {
-        calls::poll_event(&mut self.protocol)
+        let event = calls::poll_event(&mut self.protocol);
+        note_event(&mut self.notes, event);
+        event
     }
 
     fn protocol_error(&mut self) -> Result<(), NoMemory> {
-        ending::end(&mut self.protocol)
+        let events = self.protocol.events.len();
+        ending::end(&mut self.protocol)?;
+        note_close(&mut self.notes, events, &self.protocol);
+        Ok(())
+    }
+
+    fn cause(&self) -> Option<&TurnCause> {
+        self.notes.causes.cause()
+    }
+
+    fn mapped_address(&self) -> Option<SocketAddr> {
+        self.notes.mapped
+    }
+
+    fn alternate_server(&self) -> Option<SocketAddr> {
+        self.notes.alternate
+    }
+
+    fn alternate_domain(&self) -> Option<&str> {
+        domain_of(&self.notes)
     }
 }

@@ -4,11 +4,13 @@ ghost use Rattle.std.specs.Prelude.{◌≡◌, ◌≤◌, IsOkAnd, length};
 ghost use Rattle.turn_client_proto_allocation.specs.StunTypesWire.Registry.{longest_username};
 ghost use Rattle.stun_types_base.specs.declared.transport.TransportType.TheVariants.{Udp};
 ghost use Rattle.turn_client_proto_core.specs.Beginning.{IsNew};
+ghost use Rattle.turn_client_proto_recv.specs.Notes.{no_notes};
 
 use crate::api::TurnClientApi;
 use crate::getters::{
     ChannelsIter, ConnectionsIter, PermissionAddressesIter, RelayedAddressesIter,
 };
+use crate::notes::{Requested, domain_of, note_close, note_event, note_poll};
 use std::alloc::Global;
 use std::convert::AsSlice;
 use std::fmt::Debug;
@@ -20,6 +22,7 @@ use stun_types_base::memory::NoMemory;
 use stun_types_base::transmit::Transmit;
 use stun_types_base::transport::TransportType;
 use turn_client_proto_api::answer::{Socket5Tuple, TurnPollRet, TurnRecvRet};
+use turn_client_proto_api::cause::TurnCause;
 use turn_client_proto_api::config::TurnConfig;
 use turn_client_proto_api::data::TurnPeerData;
 use turn_client_proto_api::error::{
@@ -34,26 +37,30 @@ use turn_client_proto_payload::sending;
 use turn_client_proto_peers::permission::asking::permits_any;
 use turn_client_proto_peers::permission::visible::permissions_at;
 use turn_client_proto_recv::datagram::{is_of_server, take_datagram};
+use turn_client_proto_recv::notes::Notes;
 use turn_client_proto_recv::{closing, connecting, socket};
 use turn_client_proto_timers::{deleting, drawing, polling};
 use turn_types_frame::build::TransmitBuild;
 
 /// A TURN client over UDP: it exchanges datagrams with the server, and has an allocation over UDP.
-/// In contracts it is the state of the protocol core.
+/// In contracts it is the state of the protocol core, and what the client notes.
 #[derive(Debug, Drop)]
 pub struct TurnClientUdp {
     protocol: Protocol,
+    notes: Notes,
 }
 
 impl Model for TurnClientUdp {
+    ghost use Rattle.std.specs.Coded.{coded×};
     ghost use Rattle.turn_client_proto_core.specs.declared.protocol.Protocol.{Protocol};
-    ghost use Rattle.turn_client_proto.specs.Codes.{protocol_code};
+    ghost use Rattle.turn_client_proto_recv.specs.declared.notes.Notes.{Notes};
+    ghost use Rattle.turn_client_proto.specs.Codes.{notes_code, protocol_code};
 
-    ghost Value = { Protocol };
+    ghost Value = { Protocol × Notes };
 
-    ghost coded = { protocol_code };
+    ghost coded = { coded× protocol_code notes_code };
 
-    ghost view = { λ c. c.protocol };
+    ghost view = { λ c. (c.protocol, c.notes) };
 }
 
 impl TurnClientUdp {
@@ -74,17 +81,23 @@ impl TurnClientUdp {
     ) -> Result<TurnClientUdp, NoMemory>
         requires transport { config.transport ≡ Udp }
         requires name { length config.credentials.username ≤ longest_username }
-        ensures { IsOkAnd result (λ client. IsNew Udp local remote config seed client) }
+        ensures client { IsOkAnd result (λ client. IsNew Udp local remote config seed client.0) }
+        ensures noted { IsOkAnd result (λ client. client.1 ≡ no_notes) }
     {
         let protocol = Protocol::new(alloc, TransportType::Udp, local, remote, config, seed);
-        Ok(TurnClientUdp { protocol })
+        Ok(TurnClientUdp {
+            protocol,
+            notes: Notes::new(alloc),
+        })
     }
 }
 
 impl TurnClientApi for TurnClientUdp {
     ghost use Rattle.turn_client_proto_recv.specs.ClientState.{over_udp};
 
-    ghost stored = { λ client. over_udp client };
+    ghost stored = { λ client. over_udp client.0 };
+
+    ghost noted = { λ client. client.1 };
 
     fn transport(&self) -> TransportType {
         self.protocol.agent.transport()
@@ -192,11 +205,15 @@ impl TurnClientApi for TurnClientUdp {
         if !is_of_server(&self.protocol, &transmit) {
             return TurnRecvRet::Ignored(transmit);
         }
-        take_datagram(&mut self.protocol, transmit, now)
+        take_datagram(&mut self.protocol, &mut self.notes, transmit, now)
     }
 
     fn poll(&mut self, now: Instant) -> TurnPollRet {
-        polling::poll(&mut self.protocol, now)
+        let events = self.protocol.events.len();
+        let before = Requested::of(self.protocol.allocations.as_slice());
+        let answer = polling::poll(&mut self.protocol, now);
+        note_poll(&mut self.notes, events, before, &self.protocol);
+        answer
     }
 
     fn poll_transmit(&mut self, now: Instant) -> Result<Option<Transmit<Data<'static>>>, NoMemory> {
@@ -204,10 +221,31 @@ impl TurnClientApi for TurnClientUdp {
     }
 
     fn poll_event(&mut self) -> Option<TurnEvent> {
-        calls::poll_event(&mut self.protocol)
+        let event = calls::poll_event(&mut self.protocol);
+        note_event(&mut self.notes, event);
+        event
     }
 
     fn protocol_error(&mut self) -> Result<(), NoMemory> {
-        ending::end(&mut self.protocol)
+        let events = self.protocol.events.len();
+        ending::end(&mut self.protocol)?;
+        note_close(&mut self.notes, events, &self.protocol);
+        Ok(())
+    }
+
+    fn cause(&self) -> Option<&TurnCause> {
+        self.notes.causes.cause()
+    }
+
+    fn mapped_address(&self) -> Option<SocketAddr> {
+        self.notes.mapped
+    }
+
+    fn alternate_server(&self) -> Option<SocketAddr> {
+        self.notes.alternate
+    }
+
+    fn alternate_domain(&self) -> Option<&str> {
+        domain_of(&self.notes)
     }
 }

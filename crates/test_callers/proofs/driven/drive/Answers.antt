@@ -42,7 +42,7 @@ loop-2-init g c = λ early.
           let is = subst (λ (o : Option (Transmit Data)). IsTransmitted p.core c.args.now (option_map sent_of o) q.core) w.in_default.is ok.0 in
           subst (λ (x : _). IsDrawOf c.args.now old (stored x)) (sym w.client-is) (up_to_nothing c.args.now c.loop.counter old p q early so (is, ok.1))
     ] in
-    polls c.args.now c.poll-answer.result old (stored c.loop-test.client) (stored c.poll-answer.new.self) early by_draw c.poll-answer.ensures
+    polls c.args.now c.poll-answer.result old (stored c.loop-test.client) (stored c.poll-answer.new.self) early by_draw c.poll-answer.ensures.polled
 
 pub returns-in_default-poll_event-clause-turn : goal.returns-in_default-poll_event-clause-turn
 returns-in_default-poll_event-clause-turn g c = λ other early.

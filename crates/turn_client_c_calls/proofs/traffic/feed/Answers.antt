@@ -12,5 +12,5 @@ returns c =
     is_fed c.recv-answer.result c.args.bytes c.args.from c.args.to c.args.now _ c.args.payload.now c.report.new.payload c.args.whole.now (record { client = c.recv-answer.new.self; joined = c.report.new.joined })
     (search rules)
     (subst (λ (t : Transmit (Bor (List ℕ))). IsReceived (λ (b : Bor (List ℕ)). b.now) (stored_of c.args.whole.now.client) t c.args.now c.recv-answer.result (stored_of c.recv-answer.new.self))
-    (c.new-came.ensures ∙ ap (λ (t : TransportType). record came { transport = t }) c.transport.ensures) c.recv-answer.ensures)
+    (c.new-came.ensures ∙ ap (λ (t : TransportType). record came { transport = t }) c.transport.ensures) c.recv-answer.ensures.received)
     (search rules) c.report.ensures.reported c.report.ensures.joined

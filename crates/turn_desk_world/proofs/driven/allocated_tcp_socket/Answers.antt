@@ -26,4 +26,4 @@ returns-in-Ok c =
     let old = stored_of c.args.client.now in
     let new = stored_of c.allocated_tcp_socket.new.self in
     subst (λ (answer : Result (Unit {0}) TcpAllocateError). IsSocketReported old c.args.id (own_tuple old.core) c.args.peer c.args.local c.args.now answer new) c.in-Ok.is
-    (reported_of_own old c.args.id c.transport.result c.local_addr.result c.remote_addr.result c.args.peer c.args.local c.args.now c.allocated_tcp_socket.result new c.transport.ensures c.local_addr.ensures c.remote_addr.ensures c.allocated_tcp_socket.ensures)
+    (reported_of_own old c.args.id c.transport.result c.local_addr.result c.remote_addr.result c.args.peer c.args.local c.args.now c.allocated_tcp_socket.result new c.transport.ensures c.local_addr.ensures c.remote_addr.ensures c.allocated_tcp_socket.ensures.reported)

@@ -1,0 +1,7 @@
+use Rattle.turn_client_proto_recv.specs.declared.notes.Causes.{Causes}
+use Rattle.turn_client_proto.specs.Notes.{AreTimed}
+use Rattle.turn_client_proto.proofs.notes.note_timed.Given as goal
+
+-- Whatever was noted before, the events so far were noted after it.
+abbrev pub invariant-loop-event : goal.invariant-loop-event
+invariant-loop-event l = (old : Causes) → AreTimed old l.fn.causes → AreTimed old l.causes

@@ -1,0 +1,151 @@
+//! What a client notes of calls that handle no message: why `poll` and `protocol_error` queued
+//! events, and which cause belongs to the event that `poll_event` returned.
+
+ghost use Rattle.std.specs.Prelude.{◌≡◌, ◌⊎◌, ◌<◌, length};
+ghost use Rattle.std.specs.Option.{option_map};
+ghost use Rattle.turn_client_proto_api.specs.declared.cause.TurnCause.TheVariants.{Expired, SocketClosed, Unanswered};
+ghost use Rattle.turn_client_proto_recv.specs.Notes.{IsPushed};
+ghost use Rattle.turn_client_proto_recv.specs.declared.notes.Causes.{Causes as Noted};
+ghost use Rattle.turn_client_proto.specs.Notes.{AreTimed, IsPollNoted, after_event};
+
+use std::net::IpAddr;
+use turn_client_proto_allocation::allocation::Allocation;
+use turn_client_proto_api::cause::TurnCause;
+use turn_client_proto_api::event::TurnEvent;
+use turn_client_proto_core::protocol::Protocol;
+use turn_client_proto_recv::notes::{Causes, Notes};
+
+/// Returns the domain of the server that a response 300 named.
+pub(crate) fn domain_of(notes: &Notes) -> Option<&str>
+    ensures { option_map (λ t. t.now) result ≡ notes.now.domain }
+{
+    match &notes.domain {
+        Some(text) => Some(text.as_str()),
+        None => None,
+    }
+}
+
+/// Notes that `poll_event` returned an event, or none.
+pub(crate) fn note_event(notes: &mut Notes, event: Option<TurnEvent>)
+    ensures { notes.new ≡ after_event event notes.old }
+{
+    if let Some(event) = event {
+        notes.causes.advance(event);
+    }
+}
+
+/// Notes that `protocol_error` ended the client. There were `before` events.
+pub(crate) fn note_close(notes: &mut Notes, before: usize, protocol: &Protocol)
+    ensures causes { IsPushed before (length protocol.now.events) SocketClosed notes.old.causes
+        notes.new.causes }
+    ensures others { notes.new ≡ record notes.old { causes = notes.new.causes } }
+{
+    notes
+        .causes
+        .push(before, protocol.events.len(), TurnCause::SocketClosed);
+}
+
+/// How many permissions and channels are requested and not granted yet, by the family of the
+/// relayed address: IPv4, then IPv6.
+#[derive(Clone, Copy, Debug)]
+pub(crate) struct Requested {
+    permissions: [usize; 2],
+    channels: [usize; 2],
+}
+
+/// Returns the index of an address family.
+fn index_of(address: &IpAddr) -> usize
+    ensures { result < 2 }
+{
+    match address {
+        IpAddr::V4(_) => 0,
+        IpAddr::V6(_) => 1,
+    }
+}
+
+impl Requested {
+    /// Returns how many these allocations have.
+    pub(crate) fn of(allocations: &[Allocation]) -> Requested {
+        let mut permissions = [0_usize; 2];
+        let mut channels = [0_usize; 2];
+        for allocation in allocations {
+            let at = index_of(&allocation.address.ip());
+            permissions[at] = permissions[at].saturating_add(allocation.pending_permissions.len());
+            channels[at] = channels[at].saturating_add(allocation.pending_channels.len());
+        }
+        Requested {
+            permissions,
+            channels,
+        }
+    }
+
+    /// Returns how many more there were than there are.
+    fn gone(self, left: Requested) -> Requested {
+        Requested {
+            permissions: gone(self.permissions, left.permissions),
+            channels: gone(self.channels, left.channels),
+        }
+    }
+
+    /// Returns why `poll` queued an event: no response to its request came in time, or its time
+    /// was over. Of the permissions and channels of an allocation the requested ones come first
+    /// (`report_failures`); `self` has how many of these are left, and counts down.
+    fn cause_of(&mut self, event: &TurnEvent) -> TurnCause
+        ensures { (result ≡ Unanswered) ⊎ (result ≡ Expired) }
+    {
+        match event {
+            TurnEvent::PermissionCreateFailed(_, ip) => {
+                by_count(&mut self.permissions[index_of(ip)])
+            }
+            TurnEvent::ChannelCreateFailed(_, peer) => {
+                by_count(&mut self.channels[index_of(&peer.ip())])
+            }
+            _ => TurnCause::Unanswered,
+        }
+    }
+}
+
+/// Returns `Unanswered` and counts down; or `Expired`, if the count is 0.
+fn by_count(count: &mut usize) -> TurnCause
+    ensures { (result ≡ Unanswered) ⊎ (result ≡ Expired) }
+{
+    if *count == 0 {
+        return TurnCause::Expired;
+    }
+    *count -= 1;
+    TurnCause::Unanswered
+}
+
+fn gone(before: [usize; 2], left: [usize; 2]) -> [usize; 2] {
+    [
+        before[0].saturating_sub(left[0]),
+        before[1].saturating_sub(left[1]),
+    ]
+}
+
+/// Notes what `poll` did. There were `events` events before, and these requests. Only a poll that
+/// finds no event queues some.
+pub(crate) fn note_poll(notes: &mut Notes, events: usize, before: Requested, protocol: &Protocol)
+    ensures { IsPollNoted notes.old notes.new }
+{
+    if events > 0 {
+        return;
+    }
+    let mut gone = before.gone(Requested::of(protocol.allocations.as_slice()));
+    let (first, second) = protocol.events.as_slices();
+    note_timed(&mut notes.causes, &mut gone, first, 0);
+    note_timed(&mut notes.causes, &mut gone, second, first.len());
+}
+
+/// Notes events that `poll` queued. There were `before` events before them.
+fn note_timed(causes: &mut Causes, gone: &mut Requested, events: &[TurnEvent], before: usize)
+    ensures { (old : Noted) → AreTimed old causes.old → AreTimed old causes.new }
+{
+    let mut at = before;
+    for event in events {
+        let cause = gone.cause_of(event);
+        let next = at.saturating_add(1);
+        causes.push(at, next, cause);
+        at = next;
+    }
+}
