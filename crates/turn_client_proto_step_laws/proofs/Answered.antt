@@ -92,7 +92,7 @@ can_while c (Authenticating numbers) going can = can
 can_while c Authenticated going can = can
 can_while c Ended going can = absurd (Prim.cc (going (Some (record { realm = []; nonce = []; offered = None; choice = Sha1 }))))
 
-signed_by : (c : Client) (bytes : List ℕ) → IsSound c → AreBytes bytes → IsAcceptedBy c.core bytes → IsSignedFor c bytes
+pub signed_by : (c : Client) (bytes : List ℕ) → IsSound c → AreBytes bytes → IsAcceptedBy c.core bytes → IsSignedFor c bytes
 signed_by c bytes sound are_bytes is = validated_own c is.signer bytes is.algorithm are_bytes (can_while c c.core.phase is.going sound.can_ask) is.going is.valid
 
 comes_adds : (c : Client) (bytes : List ℕ) (new : Protocol) → IsSound c → AreBytes bytes → IsReceiving c bytes new → Comes (IsAcceptedBy c.core bytes) bytes c.core.allocations c.core.agent c.core.rng new → AddsAnswered c bytes new

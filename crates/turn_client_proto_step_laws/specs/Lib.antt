@@ -4,6 +4,7 @@ pub mod ClientWords
 pub mod Sound
 pub mod Beginning
 pub mod Bounds
+pub mod Causes
 pub mod RunSteps
 pub mod Adding
 pub mod Cuts

@@ -59,6 +59,7 @@
 
 pub mod added;
 pub mod bounds;
+pub mod causes;
 pub mod definite;
 pub mod framed;
 pub mod reported;
