@@ -44,7 +44,7 @@ both_of _ _ = None
 unfoldable pub transports_of : TurnSettings → Option (TransportType × TransportType)
 transports_of s =
     if nat_lt 3 s.families || (nat_lt 7 s.integrity || (nat_lt 2 s.anonymous
-        || (nat_lt 1 s.compatible || nat_lt 1 s.ignore_short_lifetimes))) then None
+    || (nat_lt 1 s.compatible || nat_lt 1 s.ignore_short_lifetimes))) then None
     else both_of (transport_set s.transport) (transport_set s.peers)
 
 -- The requested families, by the bits of families; by default IPv4.
