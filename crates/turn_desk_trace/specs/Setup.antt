@@ -96,33 +96,30 @@ abbrev pub IsLimit : List ℕ → Option ℕ → Type 0
 IsLimit word None = ⊥
 IsLimit word (Some limit) = IsU32 word limit
 
--- The word is `hardened` or `short`, and says one of the two.
-abbrev pub IsOption : List ℕ → (hardened short : Bool) → Type 0
-IsOption word hardened short = ((word ≡ codes "hardened") × (hardened ≡ true) × (short ≡ false))
-    ⊎ ((word ≡ codes "short") × (hardened ≡ false) × (short ≡ true))
+-- The only word spells the limit on connections of peers.
+abbrev pub IsAlone : List (List ℕ) → (attempts : Option ℕ) → Type 0
+IsAlone (limit ∷ []) attempts = IsLimit limit attempts
+IsAlone words attempts = ⊥
 
--- The two words are `hardened` and `short`, and say both.
-abbrev pub AreBoth : List ℕ → List ℕ → (hardened short : Bool) → Type 0
-AreBoth first second hardened short =
-    (first ≡ codes "hardened") × (second ≡ codes "short") × (hardened ≡ true) × (short ≡ true)
+-- The words behind `short`: `attempts` and the limit on connections of peers, or none.
+abbrev pub AreBehindShort : List (List ℕ) → (attempts : Option ℕ) → Type 0
+AreBehindShort [] attempts = attempts ≡ None
+AreBehindShort (word ∷ rest) attempts = (word ≡ codes "attempts") × IsAlone rest attempts
 
--- The word is `attempts`, and the next one spells the limit on connections of peers.
-abbrev pub AreAttempts : List ℕ → List ℕ → (attempts : Option ℕ) → Type 0
-AreAttempts word limit attempts = (word ≡ codes "attempts") × IsLimit limit attempts
+-- The words behind `hardened`: `short` or not, and behind it the limit or not.
+abbrev pub AreBehindHardened : List (List ℕ) → (short : Bool) → (attempts : Option ℕ) → Type 0
+AreBehindHardened [] short attempts = (short ≡ false) × (attempts ≡ None)
+AreBehindHardened (word ∷ rest) short attempts =
+    ((word ≡ codes "short") × (short ≡ true) × AreBehindShort rest attempts)
+    ⊎ ((word ≡ codes "attempts") × (short ≡ false) × IsAlone rest attempts)
 
 -- The words after the seed: `hardened` or not, behind it `short` or not, and behind that `attempts` and the limit
 -- on connections of peers, or not.
 abbrev pub AreOptions : List (List ℕ) → (hardened short : Bool) → (attempts : Option ℕ) → Type 0
-AreOptions [] hardened short attempts = (hardened ≡ false) × (short ≡ false) × (attempts ≡ None)
-AreOptions (word ∷ []) hardened short attempts = IsOption word hardened short × (attempts ≡ None)
-AreOptions (first ∷ second ∷ []) hardened short attempts =
-    (AreBoth first second hardened short × (attempts ≡ None))
-    ⊎ ((hardened ≡ false) × (short ≡ false) × AreAttempts first second attempts)
-AreOptions (first ∷ word ∷ limit ∷ []) hardened short attempts =
-    IsOption first hardened short × AreAttempts word limit attempts
-AreOptions (first ∷ second ∷ word ∷ limit ∷ []) hardened short attempts =
-    AreBoth first second hardened short × AreAttempts word limit attempts
-AreOptions words hardened short attempts = ⊥
+AreOptions [] hardened short attempts = (hardened ≡ false) × AreBehindHardened [] short attempts
+AreOptions (word ∷ rest) hardened short attempts =
+    ((word ≡ codes "hardened") × (hardened ≡ true) × AreBehindHardened rest short attempts)
+    ⊎ ((hardened ≡ false) × AreBehindHardened (word ∷ rest) short attempts)
 
 -- The words spell the settings of a client with those addresses.
 pub record IsClientOf (local remote families algorithms anonymity name password seed : List ℕ)
