@@ -101,25 +101,25 @@ abbrev pub IsAlone : List (List ℕ) → (attempts : Option ℕ) → Type 0
 IsAlone (limit ∷ []) attempts = IsLimit limit attempts
 IsAlone words attempts = ⊥
 
--- The words behind `short`: `attempts` and the limit on connections of peers, or none.
-abbrev pub AreBehindShort : List (List ℕ) → (attempts : Option ℕ) → Type 0
-AreBehindShort [] attempts = attempts ≡ None
-AreBehindShort (word ∷ rest) attempts = (word ≡ codes "attempts") × IsAlone rest attempts
+-- The words after `short`: `attempts` and the limit on connections of peers, or none.
+abbrev pub AreAfterShort : List (List ℕ) → (attempts : Option ℕ) → Type 0
+AreAfterShort [] attempts = attempts ≡ None
+AreAfterShort (word ∷ rest) attempts = (word ≡ codes "attempts") × IsAlone rest attempts
 
--- The words behind `hardened`: `short` or not, and behind it the limit or not.
-abbrev pub AreBehindHardened : List (List ℕ) → (short : Bool) → (attempts : Option ℕ) → Type 0
-AreBehindHardened [] short attempts = (short ≡ false) × (attempts ≡ None)
-AreBehindHardened (word ∷ rest) short attempts =
-    ((word ≡ codes "short") × (short ≡ true) × AreBehindShort rest attempts)
+-- The words after `hardened`: `short` or not, and after it the limit or not.
+abbrev pub AreAfterHardened : List (List ℕ) → (short : Bool) → (attempts : Option ℕ) → Type 0
+AreAfterHardened [] short attempts = (short ≡ false) × (attempts ≡ None)
+AreAfterHardened (word ∷ rest) short attempts =
+    ((word ≡ codes "short") × (short ≡ true) × AreAfterShort rest attempts)
     ⊎ ((word ≡ codes "attempts") × (short ≡ false) × IsAlone rest attempts)
 
--- The words after the seed: `hardened` or not, behind it `short` or not, and behind that `attempts` and the limit
+-- The words after the seed: `hardened` or not, after it `short` or not, and after that `attempts` and the limit
 -- on connections of peers, or not.
 abbrev pub AreOptions : List (List ℕ) → (hardened short : Bool) → (attempts : Option ℕ) → Type 0
-AreOptions [] hardened short attempts = (hardened ≡ false) × AreBehindHardened [] short attempts
+AreOptions [] hardened short attempts = (hardened ≡ false) × AreAfterHardened [] short attempts
 AreOptions (word ∷ rest) hardened short attempts =
-    ((word ≡ codes "hardened") × (hardened ≡ true) × AreBehindHardened rest short attempts)
-    ⊎ ((hardened ≡ false) × AreBehindHardened (word ∷ rest) short attempts)
+    ((word ≡ codes "hardened") × (hardened ≡ true) × AreAfterHardened rest short attempts)
+    ⊎ ((hardened ≡ false) × AreAfterHardened (word ∷ rest) short attempts)
 
 -- The words spell the settings of a client with those addresses.
 pub record IsClientOf (local remote families algorithms anonymity name password seed : List ℕ)

@@ -7,7 +7,7 @@ ghost use Rattle.stun_types_base.specs.declared.transport.TransportType.{Transpo
 ghost use Rattle.turn_desk_trace.specs.declared.setup.Client.{Client};
 ghost use Rattle.turn_desk_trace.specs.declared.setup.Families.{Families};
 ghost use Rattle.turn_desk_trace.specs.declared.setup.Setup.{Setup};
-ghost use Rattle.turn_desk_trace.specs.Setup.{anonymity_word, AreBehindHardened, AreBehindShort, AreDeskOptions, AreOptions, AreTransports, families_word, IsAddressLimit, IsAlone, IsClient, IsClientAt, IsClientOf, IsClientWith, IsDesk, IsMillis, IsRto, IsRtoOf, IsRtoWith, IsSetup, IsUser};
+ghost use Rattle.turn_desk_trace.specs.Setup.{anonymity_word, AreAfterHardened, AreAfterShort, AreDeskOptions, AreOptions, AreTransports, families_word, IsAddressLimit, IsAlone, IsClient, IsClientAt, IsClientOf, IsClientWith, IsDesk, IsMillis, IsRto, IsRtoOf, IsRtoWith, IsSetup, IsUser};
 
 use crate::address::{read_address, read_transport};
 use crate::algorithms::read_algorithms;
@@ -350,37 +350,37 @@ fn read_options(words: &[&str]) -> Option<(bool, bool, Option<u32>)>
     match words {
         [] => Some((false, false, None)),
         ["hardened", rest @ ..] => {
-            let (short, attempts) = read_behind_hardened(rest)?;
+            let (short, attempts) = read_after_hardened(rest)?;
             Some((true, short, attempts))
         }
-        ["short", rest @ ..] => Some((false, true, read_behind_short(rest)?)),
+        ["short", rest @ ..] => Some((false, true, read_after_short(rest)?)),
         ["attempts", rest @ ..] => Some((false, false, read_alone(rest)?)),
         _ => None,
     }
 }
 
-/// Reads the words behind `hardened`: `short` or nothing, then `attempts` and a limit or nothing.
+/// Reads the words after `hardened`: `short` or nothing, then `attempts` and a limit or nothing.
 /// Returns whether a REFRESH may shorten the client's allocations, and its limit on connections of
 /// peers; `None` for any other words.
-fn read_behind_hardened(words: &[&str]) -> Option<(bool, Option<u32>)>
+fn read_after_hardened(words: &[&str]) -> Option<(bool, Option<u32>)>
     ensures { MatchOption result ((s : Bool) (a : Option ℕ)
-        → ¬ (AreBehindHardened (map (λ x. x.now) words.entry.now) s a))
-        (λ read. AreBehindHardened (map (λ x. x.now) words.entry.now) read.0 read.1) }
+        → ¬ (AreAfterHardened (map (λ x. x.now) words.entry.now) s a))
+        (λ read. AreAfterHardened (map (λ x. x.now) words.entry.now) read.0 read.1) }
 {
     match words {
         [] => Some((false, None)),
-        ["short", rest @ ..] => Some((true, read_behind_short(rest)?)),
+        ["short", rest @ ..] => Some((true, read_after_short(rest)?)),
         ["attempts", rest @ ..] => Some((false, read_alone(rest)?)),
         _ => None,
     }
 }
 
-/// Reads the words behind `short`: `attempts` and a limit on connections of peers, which it
+/// Reads the words after `short`: `attempts` and a limit on connections of peers, which it
 /// returns, or nothing. Returns `None` for any other words.
-fn read_behind_short(words: &[&str]) -> Option<Option<u32>>
+fn read_after_short(words: &[&str]) -> Option<Option<u32>>
     ensures { MatchOption result ((a : Option ℕ)
-        → ¬ (AreBehindShort (map (λ x. x.now) words.entry.now) a))
-        (AreBehindShort (map (λ x. x.now) words.entry.now)) }
+        → ¬ (AreAfterShort (map (λ x. x.now) words.entry.now) a))
+        (AreAfterShort (map (λ x. x.now) words.entry.now)) }
 {
     match words {
         [] => Some(None),
