@@ -112,7 +112,9 @@ pub const CLIENT_END: u64 = 1 << 62;
 ///
 /// - An allocation that expires is removed without an event: look at `relayed_addresses`.
 /// - If a REFRESH is granted less than 600 seconds, the allocation keeps its earlier end, no
-///   further REFRESH is sent, and the allocation expires then.
+///   further REFRESH is sent, and the allocation expires then; unless the settings say otherwise
+///   (`TurnConfig::set_short_lifetimes`).
+/// - A client doesn't follow a response 300: `alternate_server` has the server that it names.
 /// - New requests are sent at least 50 ms apart. Retransmissions are sent without that pause.
 /// - A client that `protocol_error` has ended still lists what it held.
 pub trait TurnClientApi: Debug + Send {
