@@ -105,12 +105,13 @@ fn take_off<R: AsSlice<u8> + Debug + Drop>(
         × Needs protocol.old (frame_of stream.old) × HasFailed protocol.old protocol.new) }
     ensures noted { AreNoted now protocol.old notes.old protocol.new notes.new }
 {
-    let found = match stream.head() {
-        Some(frame) => Some(take_up(protocol, notes, frame, now)?),
-        None => None,
+    let Some(frame) = stream.head() else {
+        stream.drop_head();
+        return Ok(None);
     };
+    let given = take_up(protocol, notes, frame, now)?;
     stream.drop_head();
-    Ok(found)
+    Ok(Some(given))
 }
 
 /// Handles the complete frames of a stream until one carries data from a peer, and returns the

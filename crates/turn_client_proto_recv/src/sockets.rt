@@ -136,15 +136,13 @@ fn take_next(
     if !is_joining(protocol, here) {
         return Ok(false);
     }
-    let is_whole = match stream.head() {
-        Some(frame) => {
-            take_frame(protocol, notes, here, frame, now)?;
-            true
-        }
-        None => false,
+    let Some(frame) = stream.head() else {
+        stream.drop_head();
+        return Ok(false);
     };
+    take_frame(protocol, notes, here, frame, now)?;
     stream.drop_head();
-    Ok(is_whole)
+    Ok(true)
 }
 
 /// Handles the complete frames of a stream while the connection is still to be bound.

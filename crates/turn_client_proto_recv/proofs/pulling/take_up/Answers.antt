@@ -1,14 +1,22 @@
+use Rattle.std.proofs.Common.{rules}
 use Rattle.turn_client_proto_recv.proofs.Noting.{once, then_failed}
 use Rattle.turn_client_proto_recv.proofs.pulling.take_up.Goals as goal
 
-pub returns-in-Ok-Given-Ok-clause-noted : goal.returns-in-Ok-Given-Ok-clause-noted
-returns-in-Ok-Given-Ok-clause-noted g c =
+pub returns-in-Ok-clause-noted : goal.returns-in-Ok-clause-noted
+returns-in-Ok-clause-noted g c =
     once c.args.now c.args.protocol.now c.args.notes.now _ c.dispatch.new.protocol c.dispatch.new.notes c.dispatch.ensures.noted
 
-pub returns-in-Ok-Given-Err-clause-noted : goal.returns-in-Ok-Given-Err-clause-noted
-returns-in-Ok-Given-Err-clause-noted g c =
-    then_failed c.args.now c.args.protocol.now c.args.notes.now c.dispatch.new.protocol c.dispatch.new.notes (once c.args.now c.args.protocol.now c.args.notes.now _ c.dispatch.new.protocol c.dispatch.new.notes c.dispatch.ensures.noted) c.give_up.new.protocol c.give_up.ensures
+pub returns-in-Ok-Handled : goal.returns-in-Ok-Handled
+returns-in-Ok-Handled g c = record {
+  ok = search rules;
+  err = search rules;
+  noted = once c.args.now c.args.protocol.now c.args.notes.now _ c.dispatch.new.protocol c.dispatch.new.notes c.dispatch.ensures.noted;
+}
 
 pub returns-in-Err-clause-noted : goal.returns-in-Err-clause-noted
 returns-in-Err-clause-noted g c =
     once c.args.now c.args.protocol.now c.args.notes.now _ c.dispatch.new.protocol c.dispatch.new.notes c.dispatch.ensures.noted
+
+pub returns-in-Err-owned-clause-noted : goal.returns-in-Err-owned-clause-noted
+returns-in-Err-owned-clause-noted g c =
+    then_failed c.args.now c.args.protocol.now c.args.notes.now c.dispatch.new.protocol c.dispatch.new.notes (once c.args.now c.args.protocol.now c.args.notes.now _ c.dispatch.new.protocol c.dispatch.new.notes c.dispatch.ensures.noted) c.give_up.new.protocol c.give_up.ensures
