@@ -14,9 +14,10 @@ ghost use Rattle.turn_client_proto_core.specs.Permitting.{IsPermissionAnswered};
 ghost use Rattle.turn_client_proto_timers.specs.Polling.{IsPolled};
 ghost use Rattle.turn_client_proto_payload.specs.Sending.{IsSendAnswered, answered_as};
 ghost use Rattle.turn_client_proto.specs.Getters.{channels_of, connections_of, has_permission, permissions_of, relayed_of};
-ghost use Rattle.turn_client_proto.specs.Notes.{IsClosed, IsPollNoted, after_event};
+ghost use Rattle.turn_client_proto.specs.Notes.{IsPollNoted};
+ghost use Rattle.turn_client_proto_api.specs.declared.cause.TurnCause.TheVariants.{SocketClosed};
 ghost use Rattle.turn_client_proto_recv.specs.ClientState.{ClientState, Leaves};
-ghost use Rattle.turn_client_proto_recv.specs.Notes.{AreNoted, cause_taken};
+ghost use Rattle.turn_client_proto_recv.specs.Notes.{AreNoted, IsCallNoted, after_event, cause_taken};
 ghost use Rattle.turn_client_proto_recv.specs.Receipts.{IsReceived, IsWaitingGiven, IsWaitingLost};
 ghost use Rattle.turn_client_proto_recv.specs.declared.notes.Notes.{Notes};
 ghost use Rattle.turn_client_proto.specs.SocketsReported.{IsSocketReported};
@@ -624,7 +625,7 @@ pub trait TurnClientApi: Debug + Send {
     /// Returns the domain that this response named by its ALTERNATE-DOMAIN (RFC 8489, section
     /// 14.16). It is `None` as well if memory for it ran out.
     fn alternate_domain(&self) -> Option<&str>
-        ensures { option_map (λ t. t.now) result ≡ (noted self.now).domain };
+        ensures { option_copied result ≡ (noted self.now).domain };
 
     /// Ends the client, because a layer above has met an error and has no use for it any more. For
     /// each requested address family an event `AllocationCreateFailed` is queued.
@@ -638,7 +639,7 @@ pub trait TurnClientApi: Debug + Send {
             (stored self.old) (stored self.new)) }
         ensures err { OnErr result (stored self.new ≡ stored self.old) }
         ensures memory { OnErr result ((stored self.old).core.families ≢ []) }
-        ensures noted { OnOk result (IsClosed (stored self.old).core (noted self.old)
-            (stored self.new).core (noted self.new)) }
+        ensures noted { OnOk result (IsCallNoted SocketClosed (stored self.old).core
+            (noted self.old) (stored self.new).core (noted self.new)) }
         ensures unnoted { OnErr result (noted self.new ≡ noted self.old) };
 }

@@ -1,12 +1,9 @@
-//! What a client notes of calls that handle no message: why `poll` and `protocol_error` queued
-//! events, and which cause belongs to the event that `poll_event` returned.
+//! What a client notes of `poll`: why it queued events.
 
-ghost use Rattle.std.specs.Prelude.{◌≡◌, ◌⊎◌, ◌<◌, length};
-ghost use Rattle.std.specs.Option.{option_map};
-ghost use Rattle.turn_client_proto_api.specs.declared.cause.TurnCause.TheVariants.{Expired, SocketClosed, Unanswered};
-ghost use Rattle.turn_client_proto_recv.specs.Notes.{IsPushed};
+ghost use Rattle.std.specs.Prelude.{◌≡◌, ◌⊎◌, ◌<◌};
+ghost use Rattle.turn_client_proto_api.specs.declared.cause.TurnCause.TheVariants.{Expired, Unanswered};
 ghost use Rattle.turn_client_proto_recv.specs.declared.notes.Causes.{Causes as Noted};
-ghost use Rattle.turn_client_proto.specs.Notes.{AreTimed, IsPollNoted, after_event};
+ghost use Rattle.turn_client_proto.specs.Notes.{AreTimed, IsPollNoted};
 
 use std::net::IpAddr;
 use turn_client_proto_allocation::allocation::Allocation;
@@ -14,36 +11,6 @@ use turn_client_proto_api::cause::TurnCause;
 use turn_client_proto_api::event::TurnEvent;
 use turn_client_proto_core::protocol::Protocol;
 use turn_client_proto_recv::notes::{Causes, Notes};
-
-/// Returns the domain of the server that a response 300 named.
-pub(crate) fn domain_of(notes: &Notes) -> Option<&str>
-    ensures { option_map (λ t. t.now) result ≡ notes.now.domain }
-{
-    match &notes.domain {
-        Some(text) => Some(text.as_str()),
-        None => None,
-    }
-}
-
-/// Notes that `poll_event` returned an event, or none.
-pub(crate) fn note_event(notes: &mut Notes, event: Option<TurnEvent>)
-    ensures { notes.new ≡ after_event event notes.old }
-{
-    if let Some(event) = event {
-        notes.causes.advance(event);
-    }
-}
-
-/// Notes that `protocol_error` ended the client. There were `before` events.
-pub(crate) fn note_close(notes: &mut Notes, before: usize, protocol: &Protocol)
-    ensures causes { IsPushed before (length protocol.now.events) SocketClosed notes.old.causes
-        notes.new.causes }
-    ensures others { notes.new ≡ record notes.old { causes = notes.new.causes } }
-{
-    notes
-        .causes
-        .push(before, protocol.events.len(), TurnCause::SocketClosed);
-}
 
 /// How many permissions and channels are requested and not granted yet, by the family of the
 /// relayed address: IPv4, then IPv6.

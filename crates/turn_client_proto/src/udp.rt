@@ -10,7 +10,7 @@ use crate::api::TurnClientApi;
 use crate::getters::{
     ChannelsIter, ConnectionsIter, PermissionAddressesIter, RelayedAddressesIter,
 };
-use crate::notes::{Requested, domain_of, note_close, note_event, note_poll};
+use crate::notes::{Requested, note_poll};
 use std::alloc::Global;
 use std::convert::AsSlice;
 use std::fmt::Debug;
@@ -222,14 +222,15 @@ impl TurnClientApi for TurnClientUdp {
 
     fn poll_event(&mut self) -> Option<TurnEvent> {
         let event = calls::poll_event(&mut self.protocol);
-        note_event(&mut self.notes, event);
+        self.notes.note_event(event);
         event
     }
 
     fn protocol_error(&mut self) -> Result<(), NoMemory> {
         let events = self.protocol.events.len();
         ending::end(&mut self.protocol)?;
-        note_close(&mut self.notes, events, &self.protocol);
+        self.notes
+            .note_call(events, &self.protocol, TurnCause::SocketClosed);
         Ok(())
     }
 
@@ -246,6 +247,6 @@ impl TurnClientApi for TurnClientUdp {
     }
 
     fn alternate_domain(&self) -> Option<&str> {
-        domain_of(&self.notes)
+        self.notes.domain()
     }
 }

@@ -122,6 +122,11 @@ not_nothing : (l : List ℕ) → eqb (length l) 0 ≡ false → l ≢ []
 not_nothing [] is none = Prim.cc is
 not_nothing (b ∷ l) is none = Prim.cc none
 
+-- What is known of the connection on whose socket bytes came, if bytes were buffered.
+pub raw_joined : {T : Type 0} (items : T → List ℕ) (old new : Protocol) (came : Transmit T) (answer : TurnRecvRet T) (k : Connection) → socket_of old came ≡ Some k
+    → eqb (length k.stream.stored) 0 ≡ false → ((c : Connection) → from came.to old.allocations ≡ Some c → c.stream.stored ≢ [] → c.peer ≡ k.peer → IsRawTaken items c old came answer new) → IsRawTaken items k old came answer new
+raw_joined items old new came answer k found waits gives = gives k (found_from old came k found) (not_nothing k.stream.stored waits) refl
+
 pub given_joined : {T : Type 0} (items : T → List ℕ) (now : ℕ) (old new : Protocol) (came : Transmit T) (answer : TurnRecvRet T) (k : Connection) → socket_of old came ≡ Some k → eqb (length (items came.bytes)) 0 ≡ false → is_some k.awaited ≡ false
     → eqb (length k.stream.stored) 0 ≡ false → ((c : Connection) → from came.to old.allocations ≡ Some c → c.stream.stored ≢ [] → c.peer ≡ k.peer → IsRawTaken items c old came answer new) → IsReceivedAt items now old came answer new
 given_joined items now old new came answer k found some bound waits gives =

@@ -46,6 +46,10 @@ module _ (now : ℕ) (old : Protocol) (before : Notes) (p : Protocol) (n : Notes
   then_noted _ _ (Moves q k rest allocations closing) = Moves q k (then_noted q k rest) allocations closing
   then_noted _ _ (Fails q k rest new failed) = Fails q k (then_noted q k rest) new failed
 
+  pub same_then : (new : Protocol) (after : Notes) → new ≡ p → after ≡ n → AreNoted now old before new after
+  same_then new after same unnoted =
+      subst (λ (q : Protocol). AreNoted now old before q after) (sym same) (subst (λ (k : Notes). AreNoted now old before p k) (sym unnoted) first)
+
   -- A memory allocation failed afterwards.
   pub then_failed : (new : Protocol) → HasFailed p new → AreNoted now old before new n
   then_failed new failed = Fails p n first new failed

@@ -6,7 +6,7 @@ use Rattle.std.specs.declared.net.socket_addr.SocketAddr.{SocketAddr}
 use Rattle.stun_types_wire.specs.Attributes.{kind_at}
 use Rattle.stun_types_wire.specs.Registry.{nonce_kind, realm_kind, stale_nonce_code, try_alternate_code, unauthorized_code}
 use Rattle.stun_types_wire.specs.Types.{class_of}
-use Rattle.turn_types_peer.specs.TurnShows.{first_visible}
+use Rattle.turn_client_proto_messages.specs.TurnTypesPeer.TurnShows.{first_visible}
 use Rattle.turn_client_proto_api.specs.StunProtoAgent.Handling.{is_awaited}
 use Rattle.turn_client_proto_allocation.specs.declared.allocation.Allocation.{Allocation}
 use Rattle.turn_client_proto_api.specs.declared.event.TurnEvent.{TurnEvent}
@@ -207,10 +207,24 @@ pub record IsNotedBy (before : Before) (bytes : List ℕ) (p : Protocol) (old ne
   pub mapped : new.mapped ≡ mapped_after before bytes p old.mapped
   pub redirect : IsRedirected before bytes p old new
 
--- A message that the client handled on the socket of a connection that is being bound was noted.
-pub record IsNotedAt (before : ℕ) (bytes : List ℕ) (p : Protocol) (old new : Notes) : Type 0 where
-  pub cause : IsPushed before (length p.events) (cause_at bytes) old.causes new.causes
+-- This cause was noted for the events that were queued since there were `before`, and nothing else. `p` is the
+-- client afterwards.
+pub record IsCaused (before : ℕ) (cause : TurnCause) (p : Protocol) (old new : Notes) : Type 0 where
+  pub noted : IsPushed before (length p.events) cause old.causes new.causes
   pub others : new ≡ record old { causes = new.causes }
+
+-- A message that the client handled on the socket of a connection that is being bound was noted.
+abbrev pub IsNotedAt : (before : ℕ) → List ℕ → Protocol → Notes → Notes → Type 0
+IsNotedAt before bytes p old new = IsCaused before (cause_at bytes) p old new
+
+-- A call turned the client `old` into `new`, and its cause was noted for the events that it queued.
+abbrev pub IsCallNoted : TurnCause → (old : Protocol) → Notes → (new : Protocol) → Notes → Type 0
+IsCallNoted cause old before new after = IsCaused (length old.events) cause new before after
+
+-- The notes after an event was taken from the queue, or none was there.
+abbrev pub after_event : Option TurnEvent → Notes → Notes
+after_event None n = n
+after_event (Some event) n = record n { causes = advanced event n.causes }
 
 -- ---- frames
 

@@ -7,7 +7,7 @@ ghost use Rattle.std.specs.Prelude.{◌≡◌, IfOk, length};
 ghost use Rattle.stun_types_wire.specs.Attributes.{kind_at};
 ghost use Rattle.stun_types_wire.specs.Types.{class_of};
 ghost use Rattle.turn_client_proto_core.specs.Responding.{is_error_class};
-ghost use Rattle.turn_client_proto_recv.specs.Notes.{IsNotedAt, IsNotedBy, IsPushed, IsRedirectNoted, advanced, before_of, cause_of, cause_signed, cause_taken, cause_unended, cause_unsigned, has_ended, is_allocated, is_challenge, is_failure, is_redirected, no_notes, rejected_or};
+ghost use Rattle.turn_client_proto_recv.specs.Notes.{IsCaused, IsNotedAt, IsNotedBy, IsPushed, IsRedirectNoted, advanced, after_event, before_of, cause_of, cause_signed, cause_taken, cause_unended, cause_unsigned, has_ended, is_allocated, is_challenge, is_failure, is_redirected, no_notes, rejected_or};
 
 use crate::reported::{
     alternate_reported, domain_reported, is_relaying, mapped_reported, reason_reported,
@@ -210,6 +210,33 @@ impl Notes {
             Ok(domain) => domain,
             Err(NoMemory) => None,
         };
+    }
+
+    /// Notes the cause of the events that a call queued. There were `before` events, and `protocol`
+    /// is the client afterwards.
+    pub fn note_call(&mut self, before: usize, protocol: &Protocol, cause: TurnCause)
+        ensures { IsCaused before cause protocol.now self.old self.new }
+    {
+        self.causes.push(before, protocol.events.len(), cause);
+    }
+
+    /// Goes on to the cause of the event that was taken from the queue, if there was one.
+    pub fn note_event(&mut self, event: Option<TurnEvent>)
+        ensures { self.new ≡ after_event event self.old }
+    {
+        if let Some(event) = event {
+            self.causes.advance(event);
+        }
+    }
+
+    /// Returns the ALTERNATE-DOMAIN that is noted.
+    pub fn domain(&self) -> Option<&str>
+        ensures { option_copied result ≡ self.now.domain }
+    {
+        match &self.domain {
+            Some(domain) => Some(domain.as_str()),
+            None => None,
+        }
     }
 
     /// Notes a message that the client handled on the socket of a connection that is being bound.

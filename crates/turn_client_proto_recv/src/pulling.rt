@@ -86,7 +86,9 @@ fn take_up<R: AsSlice<u8> + Debug + Drop>(
                 Err(error)
             }
         },
-        Ok(Taken::Handled | Taken::Ignored | Taken::Garbled) => Ok(None),
+        Ok(Taken::Handled) => Ok(None),
+        Ok(Taken::Ignored) => Ok(None),
+        Ok(Taken::Garbled) => Ok(None),
         Err(error) => Err(error),
     }
 }
@@ -105,13 +107,12 @@ fn take_off<R: AsSlice<u8> + Debug + Drop>(
         × Needs protocol.old (frame_of stream.old) × HasFailed protocol.old protocol.new) }
     ensures noted { AreNoted now protocol.old notes.old protocol.new notes.new }
 {
-    let Some(frame) = stream.head() else {
-        stream.drop_head();
-        return Ok(None);
+    let found = match stream.head() {
+        Some(frame) => Some(take_up(protocol, notes, frame, now)?),
+        None => None,
     };
-    let given = take_up(protocol, notes, frame, now)?;
     stream.drop_head();
-    Ok(Some(given))
+    Ok(found)
 }
 
 /// Handles the complete frames of a stream until one carries data from a peer, and returns the

@@ -136,13 +136,15 @@ fn take_next(
     if !is_joining(protocol, here) {
         return Ok(false);
     }
-    let Some(frame) = stream.head() else {
-        stream.drop_head();
-        return Ok(false);
+    let is_whole = match stream.head() {
+        Some(frame) => {
+            take_frame(protocol, notes, here, frame, now)?;
+            true
+        }
+        None => false,
     };
-    take_frame(protocol, notes, here, frame, now)?;
     stream.drop_head();
-    Ok(true)
+    Ok(is_whole)
 }
 
 /// Handles the complete frames of a stream while the connection is still to be bound.

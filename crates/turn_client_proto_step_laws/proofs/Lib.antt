@@ -14,7 +14,7 @@ pub mod Binding
 pub mod Binds
 pub mod Chaining
 pub mod Changing
-pub mod Causes
+pub mod SignedCauses
 pub mod Channels
 pub mod Closed
 pub mod Connecting

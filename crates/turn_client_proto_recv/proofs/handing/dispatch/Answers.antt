@@ -1,13 +1,14 @@
-use Rattle.std.proofs.Common.{List, subst, ℕ}
-use Rattle.turn_client_proto_recv.specs.Notes.{IsFrameNoted, OfControl}
+use Rattle.std.proofs.Common.{subst}
+use Rattle.turn_client_proto_recv.specs.Notes.{IsFrameNoted}
+use Rattle.turn_client_proto_recv.proofs.Noting.{control_noted}
 use Rattle.turn_client_proto_recv.proofs.handing.dispatch.Goals as goal
 
 pub returns-in-Ok-true-clause-noted : goal.returns-in-Ok-true-clause-noted
 returns-in-Ok-true-clause-noted c =
-    subst (λ (b : List ℕ). IsFrameNoted c.args.now c.args.protocol.now c.args.notes.now b c.handle.new.protocol c.handle.new.notes) c.in-Ok.ensures.0
-    (OfControl c.in-Ok-true.field-0 c.in-Ok-true.ensures.ok c.in-Ok-true.ensures.noted)
+    subst (λ l. IsFrameNoted c.args.now c.args.protocol.now c.args.notes.now l c.handle.new.protocol c.handle.new.notes) c.in-Ok.ensures.0
+    (control_noted c.args.now c.args.protocol.now c.args.notes.now _ c.handle.new.protocol c.handle.new.notes c.handle.result c.handle.ensures.ok c.handle.ensures.err c.handle.ensures.noted)
 
 pub returns-in-Ok-false-clause-noted : goal.returns-in-Ok-false-clause-noted
 returns-in-Ok-false-clause-noted c =
-    subst (λ (b : List ℕ). IsFrameNoted c.args.now c.args.protocol.now c.args.notes.now b c.handle.new.protocol c.handle.new.notes) c.in-Ok.ensures.0
-    (OfControl c.in-Ok-false.field-0 c.in-Ok-false.ensures.ok c.in-Ok-false.ensures.noted)
+    subst (λ l. IsFrameNoted c.args.now c.args.protocol.now c.args.notes.now l c.handle.new.protocol c.handle.new.notes) c.in-Ok.ensures.0
+    (control_noted c.args.now c.args.protocol.now c.args.notes.now _ c.handle.new.protocol c.handle.new.notes c.handle.result c.handle.ensures.ok c.handle.ensures.err c.handle.ensures.noted)

@@ -1,8 +1,8 @@
 use Rattle.std.proofs.Common.{subst, sym, ◌∙◌}
 use Rattle.turn_client_proto_recv.specs.Chunks.{IsTakenOff}
 use Rattle.turn_client_proto_recv.proofs.Loops.{ends, gives, goes, less, lost, on_err}
-use Rattle.turn_client_proto_recv.specs.Notes.{Start}
 use Rattle.turn_client_proto_recv.proofs.Noting.{then_noted}
+use Rattle.turn_client_proto_recv.specs.Notes.{Start}
 use Rattle.turn_client_proto_recv.proofs.pulling.pull.Goals as goal
 
 pub returns-in_err-given-clause-err : goal.returns-in_err-given-clause-err
@@ -47,4 +47,5 @@ returns-clause-noted g c =
     then_noted c.args.now c.args.protocol.now c.args.notes.now c.loop-given.protocol c.loop-given.notes c.loop-given.invariant.1 c.take_off.new.protocol c.take_off.new.notes c.take_off.ensures.noted
 
 pub loop-given-init : goal.loop-given-init
-loop-given-init g c = (record { ok = λ given left after is. is; err = λ after is. is }, Start)
+loop-given-init g c =
+    (record { ok = λ given left after is. is; err = λ after is. is }, Start)

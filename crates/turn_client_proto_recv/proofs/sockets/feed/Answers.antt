@@ -2,8 +2,8 @@ use Rattle.std.proofs.Common.{subst}
 use Rattle.turn_client_proto_recv.specs.SocketChunks.{IsNextTaken}
 use Rattle.turn_client_proto_recv.proofs.Feeding.{ends_here, goes_less, continues, lost_here}
 use Rattle.turn_client_proto_recv.proofs.Loops.{on_err}
-use Rattle.turn_client_proto_recv.specs.Notes.{Start}
 use Rattle.turn_client_proto_recv.proofs.Noting.{then_noted}
+use Rattle.turn_client_proto_recv.specs.Notes.{Start}
 use Rattle.turn_client_proto_recv.proofs.sockets.feed.Goals as goal
 
 pub returns-in_err-take_next-clause-err : goal.returns-in_err-take_next-clause-err
@@ -37,4 +37,5 @@ returns-clause-noted c =
     then_noted c.args.now c.args.protocol.now c.args.notes.now c.loop.protocol c.loop.notes c.loop.invariant.1 c.take_next.new.protocol c.take_next.new.notes c.take_next.ensures.noted
 
 pub loop-init : goal.loop-init
-loop-init c = (record { ok = λ left after is. is; err = λ after is. is }, Start)
+loop-init c =
+    (record { ok = λ left after is. is; err = λ after is. is }, Start)

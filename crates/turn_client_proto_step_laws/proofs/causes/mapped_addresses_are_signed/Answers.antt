@@ -1,4 +1,4 @@
-use Rattle.turn_client_proto_step_laws.proofs.Causes.{signed_address}
+use Rattle.turn_client_proto_step_laws.proofs.SignedCauses.{signed_address}
 use Rattle.turn_client_proto_step_laws.proofs.causes.mapped_addresses_are_signed.Goals as goal
 
 pub returns : goal.returns

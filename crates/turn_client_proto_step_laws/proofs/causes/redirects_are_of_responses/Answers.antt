@@ -1,4 +1,4 @@
-use Rattle.turn_client_proto_step_laws.proofs.Causes.{redirect_waited, signed_redirect, waited_spent}
+use Rattle.turn_client_proto_step_laws.proofs.SignedCauses.{redirect_waited, signed_redirect, waited_spent}
 use Rattle.turn_client_proto_step_laws.proofs.causes.redirects_are_of_responses.Goals as goal
 
 pub returns : goal.returns

@@ -1,4 +1,4 @@
-use Rattle.turn_client_proto_step_laws.proofs.Causes.{signed_cause}
+use Rattle.turn_client_proto_step_laws.proofs.SignedCauses.{signed_cause}
 use Rattle.turn_client_proto_step_laws.proofs.causes.signed_causes_are_of_responses.Goals as goal
 
 pub returns : goal.returns

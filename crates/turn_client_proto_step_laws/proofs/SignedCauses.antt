@@ -1,6 +1,7 @@
 -- A message that both ends a transaction and queues an event was validated, once an ALLOCATE was sent with
 -- credentials; and so was the one by which the server allocated.
-use Rattle.std.proofs.Common.{◌≡◌, ◌⊎◌, ℕ, ◌==◌, Bool, true, false, not, ◌&&◌, ◌++◌, List, [], length, nat_lt, Option, Some, None, is_some, Ok, Err, if◌then◌else◌, refl, sym, ap, ◌∙◌, subst, cases_Bool, arith, inl, inr}
+use Rattle.std.proofs.Common.{◌≡◌, ◌⊎◌, ℕ, ◌<◌, Bool, true, false, not, ◌&&◌, List, length, nat_lt, Option, Some, None, is_some, Ok, Err, if◌then◌else◌, refl, sym, ap, ◌∙◌, subst, arith, inl, inr}
+use Rattle.std.proofs.lemmas.Bool.{cases_Bool, ltb-true}
 use Rattle.std.specs.Bool.{MatchBool}
 use Rattle.turn_client_proto_timers.specs.StunTypesWire.Attributes.{kind_at}
 use Rattle.turn_client_proto_timers.specs.StunTypesWire.Grammar.{number_at}
@@ -35,7 +36,7 @@ use Rattle.turn_client_proto_timers.specs.Core.declared.protocol.Phase.TheVarian
 use Rattle.turn_client_proto_timers.specs.Core.declared.protocol.Protocol.{Protocol}
 use Rattle.turn_client_proto_recv.specs.Notes.{before_of, cause_of, cause_signed, cause_unended, cause_unsigned, has_end, has_ended, is_allocated, is_allocating, is_challenge, is_redirected, is_unsigned, rejected_in, rejected_or}
 use Rattle.turn_client_proto_step_laws.specs.Adding.{IsSignedFor}
-use Rattle.turn_client_proto_step_laws.specs.Causes.{IsErrorTo, IsSignedErrorTo}
+use Rattle.turn_client_proto_step_laws.specs.Causes.{IsSignedErrorTo}
 use Rattle.turn_client_proto_step_laws.specs.RunClient.{Client}
 use Rattle.turn_client_proto_step_laws.specs.Sound.{IsSound}
 use Rattle.turn_client_proto_step_laws.proofs.Answered.{signed_by}
@@ -282,7 +283,9 @@ not_so true h = absurd (Prim.cc h)
 not_so false h = refl
 
 never_less : (n : ℕ) → nat_lt n n ≡ true → ⊥
-never_less n h = omega (arith, h)
+never_less n h =
+    let less : n < n = ltb-true n n h in
+    omega (arith, less)
 
 module _ (old : Protocol) (bytes : List ℕ) (new : Protocol) where
   abbrev HasEnded : Type 0
