@@ -3,7 +3,7 @@ use Rattle.std.specs.Prelude.{ℕ, ◌≡◌, ◌≢◌, ◌⊎◌, ◌||◌, Bo
 use Rattle.line_io.specs.Cut.{says_nothing}
 use Rattle.line_io.specs.LineWords.{AreWords}
 use Rattle.trace_picture.specs.declared.kind.Kind.{Kind}
-use Rattle.trace_picture.specs.declared.kind.Kind.TheVariants.{Setup, ToDesk, ToClient, Drawing, Sending, Calling}
+use Rattle.trace_picture.specs.declared.kind.Kind.TheVariants.{Setup, ToDesk, ToClient, Drawing, Sending, Looking, Calling}
 use Rattle.trace_picture.specs.declared.row.Arrow.{Arrow}
 use Rattle.trace_picture.specs.declared.row.Arrow.TheVariants.{Called, Sent, SentLost, Processed, Reached, Replied, ReplyLost}
 use Rattle.trace_picture.specs.declared.row.Row.{Row}
@@ -16,6 +16,7 @@ IsKind word ToDesk = word ≡ codes "todesk"
 IsKind word ToClient = word ≡ codes "toclient"
 IsKind word Drawing = word ≡ codes "draw"
 IsKind word Sending = word ≡ codes "send"
+IsKind word Looking = (word ≡ codes "cause") ⊎ (word ≡ codes "mapped") ⊎ (word ≡ codes "alternate")
 IsKind word Calling = (word ≡ codes "recv") ⊎ (word ≡ codes "poll") ⊎ (word ≡ codes "event") ⊎ (word ≡ codes "delete")
     ⊎ (word ≡ codes "permission") ⊎ (word ≡ codes "have") ⊎ (word ≡ codes "permissions") ⊎ (word ≡ codes "bind")
     ⊎ (word ≡ codes "channels") ⊎ (word ≡ codes "connect") ⊎ (word ≡ codes "socket") ⊎ (word ≡ codes "closed")
@@ -35,6 +36,7 @@ arrows_of ToDesk carries lost =
 arrows_of ToClient carries lost = Processed ∷ []
 arrows_of Drawing carries lost = (if carries then if lost then SentLost else Sent else Called) ∷ []
 arrows_of Sending carries lost = (if carries then Sent else Called) ∷ []
+arrows_of Looking carries lost = Called ∷ []
 arrows_of Calling carries lost = Called ∷ []
 
 -- The kind of a line with these words, by the first of them.

@@ -6,7 +6,7 @@ use line_io::refusal::LineError;
 use std::alloc::{AllocError, Global};
 
 /// The first words of lines that have no time.
-const WITHOUT_TIME: [&str; 7] = [
+const WITHOUT_TIME: [&str; 10] = [
     "event",
     "have",
     "permissions",
@@ -14,6 +14,9 @@ const WITHOUT_TIME: [&str; 7] = [
     "connections",
     "error",
     "relayed",
+    "cause",
+    "mapped",
+    "alternate",
 ];
 
 /// An event line and its result.
@@ -36,6 +39,11 @@ impl<'w, 'l, 't, 'a> Event<'w, 'l, 't, 'a> {
             [first, now, ..] if reports_time(first) => now.parse::<u64>().ok(),
             _ => None,
         }
+    }
+
+    /// Returns whether the line is counted: a look at the client is not.
+    pub(crate) fn is_counted(&self) -> bool {
+        self.kind != Kind::Looking
     }
 
     /// Returns the word for the bytes that the line delivers to the client or to the server core.

@@ -21,6 +21,8 @@ pub enum Kind {
     /// The client is given data for a peer. The result goes to its server; no later line has to
     /// deliver it.
     Sending,
+    /// The client is looked at, which changes nothing. The result has no number.
+    Looking,
     /// Any other call of the client.
     Calling,
 }
@@ -46,6 +48,7 @@ fn kind_of_word(word: &str) -> Option<Kind>
         "toclient" => Some(Kind::ToClient),
         "draw" => Some(Kind::Drawing),
         "send" => Some(Kind::Sending),
+        "cause" | "mapped" | "alternate" => Some(Kind::Looking),
         "recv"
         | "poll"
         | "event"
@@ -93,7 +96,7 @@ pub(crate) fn marks_of(
         Kind::ToClient => Arrow::Processed,
         Kind::Drawing if carries && lost => Arrow::SentLost,
         Kind::Drawing | Kind::Sending if carries => Arrow::Sent,
-        Kind::Drawing | Kind::Sending | Kind::Calling => Arrow::Called,
+        Kind::Drawing | Kind::Sending | Kind::Looking | Kind::Calling => Arrow::Called,
     };
     let mut marks = Vec::new(alloc);
     marks.push(Mark { arrow, at: first })?;

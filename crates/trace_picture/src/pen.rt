@@ -133,8 +133,8 @@ impl Pen {
         })
     }
 
-    /// Adds the labels of a row, stores the bytes of its result and the height of its bottom, and
-    /// returns the heights of its arrows.
+    /// Adds the labels of a row, stores the bytes of its result if it is counted, and the height of
+    /// its bottom, and returns the heights of its arrows.
     fn lay(
         &mut self,
         labels: &mut Labels,
@@ -144,7 +144,9 @@ impl Pen {
         let number = self.answers.len().saturating_add(1);
         let answered = event.answered(self.alloc)?;
         let (reply, foot) = self.describe(labels, event, answered.as_slice(), top)?;
-        self.answers.push(answered)?;
+        if event.is_counted() {
+            self.answers.push(answered)?;
+        }
         self.down = foot;
         Ok(Laid {
             lost: !self.delivered.has(number),
@@ -153,8 +155,8 @@ impl Pen {
         })
     }
 
-    /// Begins a row: adds its number, and its time if this differs from the last one. Returns the
-    /// height of the row's top.
+    /// Begins a row: adds its number if it is counted, and its time if this differs from the last
+    /// one. Returns the height of the row's top.
     fn begin(
         &mut self,
         labels: &mut Labels,
@@ -166,7 +168,9 @@ impl Pen {
             gap = gap_between(self.time, now);
         }
         let top = self.down.saturating_add(gap);
-        self.put_number(labels, top.saturating_add(ARROW))?;
+        if event.is_counted() {
+            self.put_number(labels, top.saturating_add(ARROW))?;
+        }
         if let Some(now) = time {
             if self.time != time {
                 self.put_time(labels, top.saturating_add(TIME), now)?;
