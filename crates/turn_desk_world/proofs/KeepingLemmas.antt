@@ -13,7 +13,7 @@ use Rattle.line_io.specs.declared.stop.Stop.{Stop}
 use Rattle.line_io.specs.declared.stop.Stop.TheVariants as stop
 use Rattle.turn_desk_trace.specs.Answer.{named_by}
 use Rattle.turn_desk_trace.specs.declared.line.Line.{Line}
-use Rattle.turn_desk_trace.specs.declared.line.Line.TheVariants.{Setup, Event}
+use Rattle.turn_desk_trace.specs.declared.line.Line.TheVariants.{Setup, Look, Event}
 use Rattle.turn_desk_trace.specs.declared.setup.Setup.{Setup as SettingUp}
 use Rattle.turn_desk_trace.specs.declared.setup.Setup.TheVariants.{Desk, User, Rto, Client}
 use Rattle.turn_desk_event.specs.declared.answer.Answer.{Answer}
@@ -21,7 +21,7 @@ use Rattle.turn_desk_event.specs.declared.event.Event.{Event as Happening}
 use Rattle.turn_desk_world.specs.Keeping.{IsHappenedStored, IsLineDoneStored}
 use Rattle.turn_desk_world.specs.Keeping as keeping
 use Rattle.turn_desk_world.specs.Progress.{IsHappened, IsSetUp, Progress}
-use Rattle.turn_desk_world.specs.Replay.{Answered, IsLineDone, IsReplay, IsStopped, SetUp, Skipped, can_stand, start}
+use Rattle.turn_desk_world.specs.Replay.{Answered, IsLineDone, IsReplay, IsStopped, Looked, SetUp, Skipped, can_stand, start}
 use Rattle.turn_desk_world.specs.Wanted.{IsCovered, cut, is_wanted, stored_if, stored_of}
 use Rattle.turn_desk_world.proofs.StoredLemmas.{stored_more, length-stored, line_stored, line_read}
 use Rattle.turn_desk_world.proofs.Replays.{IsReachable, ends_after, continues_after, stops}
@@ -70,6 +70,8 @@ done_stored flags p line printed q covered (keeping.SetUp setup read possible is
     possible_of (User name password) e = e
     possible_of (Rto initial max count last) e = e
     possible_of (Client by over settings) e = e
+done_stored flags p line printed q covered (keeping.Looked look read possible seen same) =
+    (p, Looked look (line_read flags p.named line (Look look) covered read) possible seen refl, same)
 done_stored flags p line printed q covered (keeping.Answered event read reported) =
     let so = happened flags p event reported.answer q reported.happened in (
       so.0,
@@ -83,6 +85,7 @@ same_standing flags p (Setup (Desk realm algorithms anonymity clients)) = refl
 same_standing flags p (Setup (User name password)) = refl
 same_standing flags p (Setup (Rto initial max count last)) = refl
 same_standing flags p (Setup (Client by over settings)) = refl
+same_standing flags p (Look look) = refl
 same_standing flags p (Event event) = refl
 
 -- A line that stops a replay with the stored results stops it with all of them.

@@ -11,7 +11,7 @@ use Rattle.turn_desk_trace.specs.Event.{IsEvent, IsSend, IsToClient, IsToDesk}
 use Rattle.turn_desk_trace.specs.TraceLines.{IsLine, IsLineOf}
 use Rattle.turn_desk_trace.specs.TraceNumbers.{number}
 use Rattle.turn_desk_trace.specs.declared.line.Line.{Line}
-use Rattle.turn_desk_trace.specs.declared.line.Line.TheVariants.{Setup, Event}
+use Rattle.turn_desk_trace.specs.declared.line.Line.TheVariants.{Setup, Look, Event}
 use Rattle.turn_desk_event.specs.declared.event.ClientCall.{ClientCall}
 use Rattle.turn_desk_event.specs.declared.event.ClientCall.TheVariants.{SendTo}
 use Rattle.turn_desk_event.specs.declared.event.Event.{Event as Happening}
@@ -142,6 +142,7 @@ same_event some others (name ∷ rest) (ToDesk t f n g s) alike is =
 same_spelled : (some others words : List (List ℕ)) (line : Line) → AreNamedAlike some others words
     → IsLineOf some words line → IsLineOf others words line
 same_spelled some others words (Setup setup) alike is = is
+same_spelled some others words (Look look) alike is = is
 same_spelled some others words (Event event) alike is = same_event some others words event alike is
 
 words_alike : (flags : List Bool) (answers : List (List ℕ)) (text : List ℕ) (words : List (List ℕ)) → AreWords text words

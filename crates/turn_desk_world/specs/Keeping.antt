@@ -7,9 +7,11 @@ use Rattle.turn_desk_event.specs.declared.event.Event.{Event as Happening}
 use Rattle.turn_desk_event.specs.Printed.{answer_text}
 use Rattle.turn_desk_trace.specs.Answer.{named_by}
 use Rattle.turn_desk_trace.specs.TraceLines.{IsLine}
-use Rattle.turn_desk_trace.specs.declared.line.Line.TheVariants.{Setup, Event}
+use Rattle.turn_desk_trace.specs.declared.line.Line.TheVariants.{Setup, Look, Event}
+use Rattle.turn_desk_trace.specs.declared.look.Look.{Look as Looking}
 use Rattle.turn_desk_trace.specs.declared.setup.Setup.{Setup as SettingUp}
-use Rattle.turn_desk_world.specs.Progress.{IsRunOfOne, IsSetUp, Progress, can_happen_in, can_set_up, world_of}
+use Rattle.turn_desk_world.specs.Progress.{IsRunOfOne, IsSetUp, Progress, can_happen_in, can_look, can_set_up, world_of}
+use Rattle.turn_desk_world.specs.Replay.{IsSeen}
 use Rattle.turn_desk_world.specs.Wanted.{is_wanted, stored_if}
 
 -- An event was executed, and the bytes of its result are stored if a later line can name them.
@@ -36,6 +38,8 @@ pub data IsLineDoneStored (flags : List Bool) (p : Progress) (line printed : Lis
   Skipped : says_nothing line ≡ true → printed ≡ [] → q ≡ p → IsLineDoneStored flags p line printed q
   SetUp : (setup : SettingUp) → IsLine p.named line (Setup setup) → can_set_up p setup ≡ true
       → IsSetUp p setup q → printed ≡ []
+      → IsLineDoneStored flags p line printed q
+  Looked : (look : Looking) → IsLine p.named line (Look look) → can_look p ≡ true → IsSeen look printed → q ≡ p
       → IsLineDoneStored flags p line printed q
   Answered : (event : Happening) → IsLine p.named line (Event event) → IsReportedStored flags p event printed q
       → IsLineDoneStored flags p line printed q

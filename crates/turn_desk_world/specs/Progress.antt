@@ -124,6 +124,15 @@ can_happen_now (Some world) event = can_happen_in world event
 abbrev pub can_happen : Progress → Event → Bool
 can_happen p event = can_happen_now (world_of p) event
 
+-- The client: that of the simulation, or before the first event that of the setup line.
+abbrev pub client_in : Option World → Option ClientState → Option ClientState
+client_in None client = client
+client_in (Some world) client = world.client
+
+-- Whether a client can be looked at: there is one.
+abbrev pub can_look : Progress → Bool
+can_look p = is_some (client_in p.world p.client)
+
 -- The result of an event in a simulation, by the contract of a run of this event alone.
 abbrev pub IsRunOfOne : World → Event → Answer → World → Type 0
 IsRunOfOne old event answer new = IsRun old ((event, answer) ∷ []) new

@@ -1,20 +1,24 @@
 -- What a replay prints, to a writer whose contents are known.
 use Rattle.std.specs.Prelude.{◌≡◌, ◌≢◌, ℕ, ◌+◌, Bool, true, false, List, [], ◌∷◌, ◌++◌, codes, Option, None, Some, Result, Ok, Err}
 use Rattle.std.specs.Io.KnownBytes.{Appends}
+use Rattle.std.specs.declared.net.socket_addr.SocketAddr.{SocketAddr}
 use Rattle.line_io.specs.Cut.{lines_of, says_nothing}
 use Rattle.line_io.specs.Stop.{bad_text, status_of, stop_text}
 use Rattle.line_io.specs.declared.status.Status.{Status}
 use Rattle.line_io.specs.declared.status.Status.TheVariants.{Done, BadTrace, NoMemory, Fault}
 use Rattle.line_io.specs.declared.stop.Stop.{Stop}
 use Rattle.line_io.specs.declared.stop.Stop.TheVariants as stop
+use Rattle.turn_client_proto_api.specs.declared.cause.TurnCause.{TurnCause}
 use Rattle.turn_desk_event.specs.declared.answer.Answer.{Answer}
 use Rattle.turn_desk_event.specs.declared.event.Event.{Event as Happening}
-use Rattle.turn_desk_event.specs.Printed.{answer_text}
+use Rattle.turn_desk_event.specs.Printed.{alternate_line, answer_text, cause_line, mapped_line}
 use Rattle.turn_desk_trace.specs.TraceLines.{IsLine}
 use Rattle.turn_desk_trace.specs.declared.line.Line.{Line}
-use Rattle.turn_desk_trace.specs.declared.line.Line.TheVariants.{Setup, Event}
+use Rattle.turn_desk_trace.specs.declared.line.Line.TheVariants.{Setup, Look, Event}
+use Rattle.turn_desk_trace.specs.declared.look.Look.{Look as Looking}
+use Rattle.turn_desk_trace.specs.declared.look.Look.TheVariants.{Cause, Mapped, Alternate}
 use Rattle.turn_desk_trace.specs.declared.setup.Setup.{Setup as SettingUp}
-use Rattle.turn_desk_world.specs.Progress.{IsHappened, IsSetUp, Progress, can_happen, can_set_up}
+use Rattle.turn_desk_world.specs.Progress.{IsHappened, IsSetUp, Progress, can_happen, can_look, can_set_up}
 
 -- The state before the first line.
 abbrev pub start : Progress
@@ -26,11 +30,20 @@ pub record IsReported (p : Progress) (event : Happening) (printed : List ℕ) (q
   pub happened : IsHappened p event answer q
   pub reported : printed ≡ answer_text answer
 
+-- The printed line is what a look gives.
+abbrev pub IsSeen : Looking → List ℕ → Type 0
+IsSeen Cause printed = (cause : Option TurnCause) × (printed ≡ cause_line cause)
+IsSeen Mapped printed = (mapped : Option SocketAddr) × (printed ≡ mapped_line mapped)
+IsSeen Alternate printed =
+    (server : Option SocketAddr) × (domain : Option (List ℕ)) × (printed ≡ alternate_line server domain)
+
 -- A line was executed in the state `p`: it printed `printed`, and left the state `q`.
 pub data IsLineDone (p : Progress) (line printed : List ℕ) (q : Progress) : Type 0 where
   Skipped : says_nothing line ≡ true → printed ≡ [] → q ≡ p → IsLineDone p line printed q
   SetUp : (setup : SettingUp) → IsLine p.named line (Setup setup) → can_set_up p setup ≡ true
       → IsSetUp p setup q → printed ≡ []
+      → IsLineDone p line printed q
+  Looked : (look : Looking) → IsLine p.named line (Look look) → can_look p ≡ true → IsSeen look printed → q ≡ p
       → IsLineDone p line printed q
   Answered : (event : Happening) → IsLine p.named line (Event event) → IsReported p event printed q
       → IsLineDone p line printed q
@@ -38,6 +51,7 @@ pub data IsLineDone (p : Progress) (line printed : List ℕ) (q : Progress) : Ty
 -- Whether the line is allowed in the state `p`.
 abbrev pub can_stand : Progress → Line → Bool
 can_stand p (Setup setup) = can_set_up p setup
+can_stand p (Look look) = can_look p
 can_stand p (Event event) = can_happen p event
 
 -- The line is bad: it is not blank and not a comment, and it can't be read as a line that is allowed here.

@@ -6,6 +6,7 @@
 
 mod desk;
 mod driven;
+mod looking;
 mod progress;
 pub mod setting;
 pub mod trace;

@@ -3,13 +3,15 @@
 ghost use Rattle.std.specs.Prelude.{◌≡◌, ◌≤◌, ◌||◌, ◌++◌, ◌∷◌, [], Err, IfOk, IfSome, OnOk, false, is_some, length, true};
 ghost use Rattle.std.specs.Option.{option_map};
 ghost use Rattle.std.specs.String.{string_bytes};
+ghost use Rattle.turn_client_proto.specs.Clients.{stored_of};
 ghost use Rattle.turn_desk_trace.specs.Answer.{named_by};
 ghost use Rattle.turn_desk_trace.specs.Setup.{CanAsk};
-ghost use Rattle.turn_desk_world.specs.Progress.{IsBounded, IsClientAdded, IsDeskAdded, IsRtoSet, IsRunOfOne, IsSetUp, IsUserAdded, can_happen, can_happen_in, can_set_up, is_of_client, progress_of, world_of};
-ghost use Rattle.turn_desk_world.specs.Replay.{IsBadLine, line_text, start};
+ghost use Rattle.turn_desk_world.specs.Progress.{IsBounded, IsClientAdded, IsDeskAdded, IsRtoSet, IsRunOfOne, IsSetUp, IsUserAdded, can_happen, can_happen_in, can_look, can_set_up, client_in, is_of_client, progress_of, world_of};
+ghost use Rattle.turn_desk_world.specs.Replay.{IsBadLine, IsSeen, line_text, start};
 ghost use Rattle.turn_desk_world.specs.Keeping.{IsHappenedStored, IsLineDoneStored, IsReportedStored};
 ghost use Rattle.turn_desk_world.specs.Wanted.{is_wanted, stored_if};
 
+use crate::looking::look_at;
 use crate::setting::{Rto, add_user, new_client, new_desk};
 use crate::world::World;
 use line_io::cut::is_skipped;
@@ -25,6 +27,7 @@ use turn_desk_event::answer::Answer;
 use turn_desk_event::event::Event;
 use turn_desk_event::print::answer_line;
 use turn_desk_trace::line::{Line, read_line};
+use turn_desk_trace::look::Look;
 use turn_desk_trace::named::Named;
 use turn_desk_trace::setup::{Client, MAX_REALM, MAX_USERNAME, Setup};
 
@@ -67,8 +70,8 @@ impl Progress {
     }
 
     /// Executes a line; a blank line or a comment does nothing. Returns the line to print if it is
-    /// an event line. The bytes of an event's result are stored if a line can name them, as its
-    /// flag in `wanted` says.
+    /// an event line or a look line. The bytes of an event's result are stored if a line can name
+    /// them, as its flag in `wanted` says.
     ///
     /// # Errors
     ///
@@ -91,6 +94,10 @@ impl Progress {
         match read_line(self.alloc, line, self.named.as_slice()) {
             Ok(Line::Setup(setup)) => match self.set_up(&setup) {
                 Ok(()) => Ok(None),
+                Err(error) => Err(error),
+            },
+            Ok(Line::Look(look)) => match self.report_look(look) {
+                Ok(text) => Ok(Some(text)),
                 Err(error) => Err(error),
             },
             Ok(Line::Event(event)) => match self.report(event, wanted) {
@@ -216,6 +223,35 @@ impl Progress {
 }
 
 impl Progress {
+    /// Looks at the client, and returns the line that prints what it says.
+    ///
+    /// # Errors
+    ///
+    /// - `Bad`: there is no client.
+    /// - `NoMemory`: an allocation failed.
+    fn report_look(&self, look: Look) -> Result<String, LineError>
+        ensures ok { IfOk result (λ text. (can_look (progress_of self.now) ≡ true)
+            × IsSeen look (string_bytes text)) }
+        ensures bad { result ≡ Err LineError.Bad → can_look (progress_of self.now) ≡ false }
+    {
+        let Some(client) = self.client() else {
+            return Err(LineError::Bad);
+        };
+        let text = look_at(self.alloc, client, look)?;
+        Ok(text)
+    }
+
+    /// Returns the client, if there is one.
+    fn client(&self) -> Option<&TurnClient>
+        ensures { option_map (λ c. stored_of c.now) result
+            ≡ client_in self.now.world (option_map stored_of self.now.client) }
+    {
+        match &self.world {
+            Some(world) => world.client(),
+            None => self.client.as_ref(),
+        }
+    }
+
     /// Executes an event, and returns the line that prints its result.
     ///
     /// # Errors
