@@ -70,8 +70,8 @@ done_stored flags p line printed q covered (keeping.SetUp setup read possible is
     possible_of (User name password) e = e
     possible_of (Rto initial max count last) e = e
     possible_of (Client by over settings) e = e
-done_stored flags p line printed q covered (keeping.Looked look read possible seen same) =
-    (p, Looked look (line_read flags p.named line (Look look) covered read) possible seen refl, same)
+done_stored flags p line printed q covered (keeping.Looked look read seen same) =
+    (p, Looked look (line_read flags p.named line (Look look) covered read) seen refl, same)
 done_stored flags p line printed q covered (keeping.Answered event read reported) =
     let so = happened flags p event reported.answer q reported.happened in (
       so.0,

@@ -10,7 +10,7 @@ use Rattle.turn_desk_trace.specs.TraceLines.{IsLine}
 use Rattle.turn_desk_trace.specs.declared.line.Line.TheVariants.{Setup, Look, Event}
 use Rattle.turn_desk_trace.specs.declared.look.Look.{Look as Looking}
 use Rattle.turn_desk_trace.specs.declared.setup.Setup.{Setup as SettingUp}
-use Rattle.turn_desk_world.specs.Progress.{IsRunOfOne, IsSetUp, Progress, can_happen_in, can_look, can_set_up, world_of}
+use Rattle.turn_desk_world.specs.Progress.{IsRunOfOne, IsSetUp, Progress, can_happen_in, can_set_up, client_of, world_of}
 use Rattle.turn_desk_world.specs.Replay.{IsSeen}
 use Rattle.turn_desk_world.specs.Wanted.{is_wanted, stored_if}
 
@@ -39,7 +39,7 @@ pub data IsLineDoneStored (flags : List Bool) (p : Progress) (line printed : Lis
   SetUp : (setup : SettingUp) → IsLine p.named line (Setup setup) → can_set_up p setup ≡ true
       → IsSetUp p setup q → printed ≡ []
       → IsLineDoneStored flags p line printed q
-  Looked : (look : Looking) → IsLine p.named line (Look look) → can_look p ≡ true → IsSeen look printed → q ≡ p
+  Looked : (look : Looking) → IsLine p.named line (Look look) → IsSeen (client_of p) look printed → q ≡ p
       → IsLineDoneStored flags p line printed q
   Answered : (event : Happening) → IsLine p.named line (Event event) → IsReportedStored flags p event printed q
       → IsLineDoneStored flags p line printed q

@@ -129,9 +129,12 @@ abbrev pub client_in : Option World → Option ClientState → Option ClientStat
 client_in None client = client
 client_in (Some world) client = world.client
 
+abbrev pub client_of : Progress → Option ClientState
+client_of p = client_in p.world p.client
+
 -- Whether a client can be looked at: there is one.
 abbrev pub can_look : Progress → Bool
-can_look p = is_some (client_in p.world p.client)
+can_look p = is_some (client_of p)
 
 -- The result of an event in a simulation, by the contract of a run of this event alone.
 abbrev pub IsRunOfOne : World → Event → Answer → World → Type 0

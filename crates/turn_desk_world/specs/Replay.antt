@@ -1,14 +1,17 @@
 -- What a replay prints, to a writer whose contents are known.
 use Rattle.std.specs.Prelude.{◌≡◌, ◌≢◌, ℕ, ◌+◌, Bool, true, false, List, [], ◌∷◌, ◌++◌, codes, Option, None, Some, Result, Ok, Err}
 use Rattle.std.specs.Io.KnownBytes.{Appends}
-use Rattle.std.specs.declared.net.socket_addr.SocketAddr.{SocketAddr}
 use Rattle.line_io.specs.Cut.{lines_of, says_nothing}
 use Rattle.line_io.specs.Stop.{bad_text, status_of, stop_text}
 use Rattle.line_io.specs.declared.status.Status.{Status}
 use Rattle.line_io.specs.declared.status.Status.TheVariants.{Done, BadTrace, NoMemory, Fault}
 use Rattle.line_io.specs.declared.stop.Stop.{Stop}
 use Rattle.line_io.specs.declared.stop.Stop.TheVariants as stop
-use Rattle.turn_client_proto_api.specs.declared.cause.TurnCause.{TurnCause}
+use Rattle.turn_client_proto.specs.Clients.{noted_of, stored_of}
+use Rattle.turn_client_proto.specs.Recv.ClientState.{ClientState}
+use Rattle.turn_client_proto.specs.Recv.Notes.{cause_taken}
+use Rattle.turn_client_proto.specs.Recv.declared.notes.Notes.{Notes}
+use Rattle.turn_client_proto.specs.declared.client.TurnClient.{TurnClient}
 use Rattle.turn_desk_event.specs.declared.answer.Answer.{Answer}
 use Rattle.turn_desk_event.specs.declared.event.Event.{Event as Happening}
 use Rattle.turn_desk_event.specs.Printed.{alternate_line, answer_text, cause_line, mapped_line}
@@ -18,7 +21,7 @@ use Rattle.turn_desk_trace.specs.declared.line.Line.TheVariants.{Setup, Look, Ev
 use Rattle.turn_desk_trace.specs.declared.look.Look.{Look as Looking}
 use Rattle.turn_desk_trace.specs.declared.look.Look.TheVariants.{Cause, Mapped, Alternate}
 use Rattle.turn_desk_trace.specs.declared.setup.Setup.{Setup as SettingUp}
-use Rattle.turn_desk_world.specs.Progress.{IsHappened, IsSetUp, Progress, can_happen, can_look, can_set_up}
+use Rattle.turn_desk_world.specs.Progress.{IsHappened, IsSetUp, Progress, can_happen, can_look, can_set_up, client_of}
 
 -- The state before the first line.
 abbrev pub start : Progress
@@ -30,12 +33,17 @@ pub record IsReported (p : Progress) (event : Happening) (printed : List ℕ) (q
   pub happened : IsHappened p event answer q
   pub reported : printed ≡ answer_text answer
 
--- The printed line is what a look gives.
-abbrev pub IsSeen : Looking → List ℕ → Type 0
-IsSeen Cause printed = (cause : Option TurnCause) × (printed ≡ cause_line cause)
-IsSeen Mapped printed = (mapped : Option SocketAddr) × (printed ≡ mapped_line mapped)
-IsSeen Alternate printed =
-    (server : Option SocketAddr) × (domain : Option (List ℕ)) × (printed ≡ alternate_line server domain)
+-- The line for what is looked at, from what a client has noted.
+abbrev pub seen_text : Looking → Notes → List ℕ
+seen_text Cause notes = cause_line (cause_taken notes.causes)
+seen_text Mapped notes = mapped_line notes.mapped
+seen_text Alternate notes = alternate_line notes.alternate notes.domain
+
+-- The printed line is what a client in this state has noted.
+pub record IsSeen (state : Option ClientState) (look : Looking) (printed : List ℕ) : Type 0 where
+  pub client : TurnClient
+  pub there : state ≡ Some (stored_of client)
+  pub seen : printed ≡ seen_text look (noted_of client)
 
 -- A line was executed in the state `p`: it printed `printed`, and left the state `q`.
 pub data IsLineDone (p : Progress) (line printed : List ℕ) (q : Progress) : Type 0 where
@@ -43,7 +51,7 @@ pub data IsLineDone (p : Progress) (line printed : List ℕ) (q : Progress) : Ty
   SetUp : (setup : SettingUp) → IsLine p.named line (Setup setup) → can_set_up p setup ≡ true
       → IsSetUp p setup q → printed ≡ []
       → IsLineDone p line printed q
-  Looked : (look : Looking) → IsLine p.named line (Look look) → can_look p ≡ true → IsSeen look printed → q ≡ p
+  Looked : (look : Looking) → IsLine p.named line (Look look) → IsSeen (client_of p) look printed → q ≡ p
       → IsLineDone p line printed q
   Answered : (event : Happening) → IsLine p.named line (Event event) → IsReported p event printed q
       → IsLineDone p line printed q

@@ -6,7 +6,7 @@ ghost use Rattle.std.specs.String.{string_bytes};
 ghost use Rattle.turn_client_proto.specs.Clients.{stored_of};
 ghost use Rattle.turn_desk_trace.specs.Answer.{named_by};
 ghost use Rattle.turn_desk_trace.specs.Setup.{CanAsk};
-ghost use Rattle.turn_desk_world.specs.Progress.{IsBounded, IsClientAdded, IsDeskAdded, IsRtoSet, IsRunOfOne, IsSetUp, IsUserAdded, can_happen, can_happen_in, can_look, can_set_up, client_in, is_of_client, progress_of, world_of};
+ghost use Rattle.turn_desk_world.specs.Progress.{IsBounded, IsClientAdded, IsDeskAdded, IsRtoSet, IsRunOfOne, IsSetUp, IsUserAdded, can_happen, can_happen_in, can_look, can_set_up, client_of, is_of_client, progress_of, world_of};
 ghost use Rattle.turn_desk_world.specs.Replay.{IsBadLine, IsSeen, line_text, start};
 ghost use Rattle.turn_desk_world.specs.Keeping.{IsHappenedStored, IsLineDoneStored, IsReportedStored};
 ghost use Rattle.turn_desk_world.specs.Wanted.{is_wanted, stored_if};
@@ -230,8 +230,8 @@ impl Progress {
     /// - `Bad`: there is no client.
     /// - `NoMemory`: an allocation failed.
     fn report_look(&self, look: Look) -> Result<String, LineError>
-        ensures ok { IfOk result (λ text. (can_look (progress_of self.now) ≡ true)
-            × IsSeen look (string_bytes text)) }
+        ensures ok { IfOk result (λ text. IsSeen (client_of (progress_of self.now)) look
+            (string_bytes text)) }
         ensures bad { result ≡ Err LineError.Bad → can_look (progress_of self.now) ≡ false }
     {
         let Some(client) = self.client() else {
@@ -243,8 +243,7 @@ impl Progress {
 
     /// Returns the client, if there is one.
     fn client(&self) -> Option<&TurnClient>
-        ensures { option_map (λ c. stored_of c.now) result
-            ≡ client_in self.now.world (option_map stored_of self.now.client) }
+        ensures { option_map (λ c. stored_of c.now) result ≡ client_of (progress_of self.now) }
     {
         match &self.world {
             Some(world) => world.client(),

@@ -17,7 +17,7 @@ pub returns-in-Ok-report_look-clause-done : goal.returns-in-Ok-report_look-claus
 returns-in-Ok-report_look-clause-done c =
     let read = subst (λ (answers : List (List ℕ)). IsLine answers c.args.line.now c.in-Ok-Look.field-0) c.as_slice.ensures.value c.in-Ok-Look.ensures.ok in
     let spelled = subst (λ (line : Line). IsLine c.args.self.now.named.items c.args.line.now line) c.in-Ok-Look.field-0-is read in
-    Looked c.in-Ok-Look.look spelled c.in-Ok-report_look.ensures.ok.0 c.in-Ok-report_look.ensures.ok.1 refl
+    Looked c.in-Ok-Look.look spelled c.in-Ok-report_look.ensures.ok refl
 
 pub returns-in-Ok-report-clause-done : goal.returns-in-Ok-report-clause-done
 returns-in-Ok-report-clause-done c =
