@@ -208,7 +208,11 @@ def refused_signed():
         t.refused()
         t.hear(50 * MS, error(ALLOCATE, 1, code(value, reason)))
         t.fails(50 * MS)
-        t.rejected(value, b"" if reason == b"\xff" else reason)
+        if reason == b"\xff":
+            # An ERROR-CODE whose reason isn't UTF-8 is malformed (RFC 8489, section 14.8), and counts as absent.
+            t.cause("unusable")
+        else:
+            t.rejected(value, reason)
         t.mapped()
         t.alternate()
         yield f"The signed ALLOCATE is rejected with {value} and the reason {reason!r}", t
@@ -474,9 +478,9 @@ def deleted():
     t.cause()
     t.poll(39550 * MS, 39550 * MS)
     t.event(f"PermissionCreateFailed udp {PEER_1}")
-    t.cause("deleted")
+    t.cause("unanswered")
     t.mapped(CLIENT)
-    return "The allocation is deleted while a permission is awaited: that is why", t
+    return "The allocation is deleted while a permission is awaited, and no response to its request comes", t
 
 
 def cause_traces():

@@ -19,7 +19,8 @@ def granted_for(t, now, k, seconds, before):
     """The REFRESH is granted for so many seconds. The next goes out so long before the end, and no sooner: then."""
     t.hear(now, success(REFRESH, k, lifetime(seconds)))
     due = now + seconds * SECOND - before
-    t.poll(now, due)
+    # An agent without requests is polled again within an hour.
+    t.poll(now, min(due, now + 3600 * SECOND))
     t.shows(OTHER)
     t.draw(due - 1, None)
     t.draw(due, refresh(k + 1, 1800, NAMED))
@@ -65,7 +66,8 @@ def unanswered():
     t = Trace(setup(short=True))
     now = granted_for(t, t.renews(), 2, 70, 35 * SECOND)
     t.poll(now, now + 500 * MS)
-    t.poll(now + 35 * SECOND - 1, now + 35 * SECOND)
+    # A retransmission is due, since nothing was drawn.
+    t.poll(now + 35 * SECOND - 1, now + 35 * SECOND - 1)
     t.shows(OTHER)
     ends(t, now + 35 * SECOND)
     return "A REFRESH shortens the allocation to 70 seconds, and the next is not answered: its time is over", t
