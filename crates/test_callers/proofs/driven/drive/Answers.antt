@@ -66,18 +66,18 @@ loop-2-preserved g c = λ early.
     ] in
     let answered : IsAnswered c.args.now q (stored c.match-event.client) = elim c.match-event.branch [
       | in-AllocationCreated+in_ok-create_permission-in-AllocationCreated w ↦ subst (λ (x : _). IsAnswered c.args.now q (stored x)) (sym w.client-is)
-          (permission_asked c.args.now w.in-AllocationCreated.by w.ip.result q (stored w.create_permission.new.self) w.in_ok-create_permission-in-AllocationCreated.ensures)
+          (permission_asked c.args.now w.in-AllocationCreated.by w.ip.result q (stored w.create_permission.new.self) w.in_ok-create_permission-in-AllocationCreated.ensures.permitted)
       | in-PermissionCreated+in_ok-bind_channel-in-PermissionCreated w ↦ subst (λ (x : _). IsAnswered c.args.now q (stored x)) (sym w.client-is)
-          (channel_asked c.args.now w.in-PermissionCreated.by c.args.peer q (stored w.bind_channel.new.self) w.in_ok-bind_channel-in-PermissionCreated.ensures)
+          (channel_asked c.args.now w.in-PermissionCreated.by c.args.peer q (stored w.bind_channel.new.self) w.in_ok-bind_channel-in-PermissionCreated.ensures.bound)
       | in-ChannelCreated+in_ok-sending-in-ChannelCreated+in-Some-2+in_ok-sent-in-ChannelCreated+in_ok-write-in-ChannelCreated w ↦
           let ok = w.in_ok-sending-in-ChannelCreated in
           subst (λ (x : _). IsAnswered c.args.now q (stored x)) (sym w.client-is)
-          (bytes_built written ok.field-0 w.in-Some-2.sending w.in-Some-2.is c.args.alloc c.args.now w.in-ChannelCreated.by w.in-ChannelCreated.to w.as_slice-in-ChannelCreated.result.now q (stored w.send_to.new.self) (subst (λ (l : List ℕ). length l < 2 ^ 63) (sym w.as_slice-in-ChannelCreated.ensures) (omega arith)) ok.ensures)
+          (bytes_built written ok.field-0 w.in-Some-2.sending w.in-Some-2.is c.args.alloc c.args.now w.in-ChannelCreated.by w.in-ChannelCreated.to w.as_slice-in-ChannelCreated.result.now q (stored w.send_to.new.self) (subst (λ (l : List ℕ). length l < 2 ^ 63) (sym w.as_slice-in-ChannelCreated.ensures) (omega arith)) ok.ensures.sent)
       | in-ChannelCreated+in_ok-sending-in-ChannelCreated+in_default-2 w ↦
           let ok = w.in_ok-sending-in-ChannelCreated in
-          absurd (none_built q.core (stored w.send_to.new.self).core w.in-ChannelCreated.to w.as_slice-in-ChannelCreated.result.now written ok.field-0 w.in_default-2.is w.in-ChannelCreated.by c.args.now ok.ensures.0)
+          absurd (none_built q.core (stored w.send_to.new.self).core w.in-ChannelCreated.to w.as_slice-in-ChannelCreated.result.now written ok.field-0 w.in_default-2.is w.in-ChannelCreated.by c.args.now ok.ensures.sent.0)
       | in_default-event+in_ok-delete-in_default-event w ↦ subst (λ (x : _). IsAnswered c.args.now q (stored x)) (sym w.client-is)
-          (end_asked c.args.now q (stored w.delete.new.self) w.in_ok-delete-in_default-event.ensures)
+          (end_asked c.args.now q (stored w.delete.new.self) w.in_ok-delete-in_default-event.ensures.deleted)
     ] in
     inr (one_taken c.args.now c.loop-2.counter old p q (stored c.match-event.client) c.in-Some-poll_event.event early so e.event e.others answered)
 
