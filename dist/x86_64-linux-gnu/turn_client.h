@@ -65,9 +65,15 @@
  *   - A server that cannot be reached is given up after 39.5 s (by the waits of RFC 8489). If the system reports that
  *     the server's port is closed, no call can pass that on to the client: close the handle. To a wrong password the
  *     server responds with challenges, of which the client answers nine within half a second. Both end in
- *     TURN_ALLOCATION_FAILED for each family, which gives no cause, and TURN_CLOSED.
+ *     TURN_ALLOCATION_FAILED for each family, and TURN_CLOSED. turn_client_cause says which it was: TURN_UNANSWERED, or
+ *     TURN_REJECTED with code 401.
+ *   - An error response that is not signed may be anybody's who can send from the server's address: see `is_signed` of
+ *     turn_cause. The challenges of a wrong password never are.
+ *   - The client does not follow a response 300. The program may open another client at the server that it names, with
+ *     a limit on how often it does so in a row.
  *   - A server may reject one family of two. Then the client goes on with the other.
- *   - If a server grants less than 600 s at a renewal, the allocation still ends when it would have ended without it.
+ *   - If a server grants less than 600 s at a renewal, the allocation ends by that, and is renewed in time. If
+ *     compatible or ignore_short_lifetimes is 1, it still ends when it would have ended without the renewal.
  *   - No event reports that an allocation has expired, or what turn_client_delete ends: look at turn_client_relayed.
  *   - A client that has ended or failed returns TURN_CLOSED from poll once no event is queued, and TURN_NO_ALLOCATION
  *     from the calls that request something. Close the sockets that are still open: poll no longer names them. One that
@@ -165,7 +171,7 @@ typedef struct turn_address {
 
 /* The settings of a client, which begin as TURN_SETTINGS_INIT. With all numbers zero except size and addresses: over
  * UDP, one IPv4 address over UDP, HMAC-SHA1 and HMAC-SHA256, the name is hidden if the server supports it, requests
- * wait as RFC 8489 says, and the client is hardened. */
+ * wait as RFC 8489 says, the client is hardened, and a REFRESH may shorten an allocation. */
 typedef struct turn_settings {
     size_t size;             /* sizeof(turn_settings), as the program was compiled: another size is refused */
     turn_address local;      /* the client's own address. It need not be the system's, but turn_client_feed has to name
@@ -189,10 +195,15 @@ typedef struct turn_settings {
                              /* if as many connections of an allocation wait for their socket, one more that a peer
                               * opens gets error 447 (RFC 6062); while as many messages wait to be drawn, an attempt
                               * that would get an error is ignored. 0: 64, or no limit if compatible is 1 */
+    uint32_t ignore_short_lifetimes;
+                             /* 0: a lifetime under 600 seconds in the response to a REFRESH is believed (RFC 8656,
+                              * section 8.3), unless compatible is 1. 1: such a response changes nothing, so the
+                              * allocation may outlast the server's. What the response to the ALLOCATE says is
+                              * believed either way */
 } turn_settings;
 
 /* Settings of this size, and otherwise zero: turn_settings settings = TURN_SETTINGS_INIT; */
-#define TURN_SETTINGS_INIT {sizeof(turn_settings), {{0}, 0, 0}, {{0}, 0, 0}, 0, 0, 0, 0, 0, 0, 0, 0, 0, 0, 0}
+#define TURN_SETTINGS_INIT {sizeof(turn_settings), {{0}, 0, 0}, {{0}, 0, 0}, 0, 0, 0, 0, 0, 0, 0, 0, 0, 0, 0, 0}
 
 /* 32 random bytes, see above. */
 typedef struct turn_seed {
@@ -248,6 +259,34 @@ typedef struct turn_event {
     uint32_t transport;      /* between server and peers; 0 for TURN_ALLOCATION_FAILED */
     turn_address address;
 } turn_event;
+
+/* Why an event reports a failure. */
+enum turn_cause_kind {
+    TURN_CAUSE_NONE = 0,          /* the event reports no failure, or no event was taken yet */
+    TURN_REJECTED = 1,            /* the server rejected the request, by an error response */
+    TURN_UNANSWERED = 2,          /* no response came in time */
+    TURN_INTEGRITY = 3,           /* the response was not signed, or not by the password */
+    TURN_NO_ALGORITHM = 4,        /* the server's challenge names no algorithm that the client supports, or lacks what
+                                   * the settings require, as to hide the name */
+    TURN_OTHER_FAMILY = 5,        /* the server allocated addresses of other families only */
+    TURN_CAUSE_MEMORY = 6,        /* malloc failed, and the cause was not stored */
+    TURN_DELETED = 7,             /* turn_client_delete ended it */
+    TURN_EXPIRED = 8,             /* its time was over */
+    TURN_SOCKET_CLOSED = 9,       /* does not occur: a call of the Rattle crate that this header has not */
+    TURN_UNUSABLE = 10            /* the response was malformed, or lacked what the client needs of it */
+};
+
+/* What turn_client_cause writes. */
+typedef struct turn_cause {
+    uint32_t kind;
+    uint32_t code;           /* with TURN_REJECTED: the response's error code, 300 to 699; otherwise 0 */
+    bool is_signed;          /* with TURN_REJECTED: the response was validated under the password. If not, it may be
+                              * anybody's */
+    size_t reason_size;      /* with TURN_REJECTED: the bytes that turn_client_reason writes; otherwise 0 */
+    turn_address alternate;  /* the server that a response 300 named which ended the client (RFC 8489, section 10);
+                              * family 0 if there was none */
+    size_t domain_size;      /* the bytes that turn_client_domain writes; 0 if there is no name */
+} turn_cause;
 
 /* A relayed address. */
 typedef struct turn_relayed {
@@ -438,6 +477,51 @@ int32_t turn_client_poll(turn_client *client, uint64_t now, turn_wait *wait);
  *   Refused:
  *   TURN_NO_CLIENT        the handle is not open */
 int32_t turn_client_event(turn_client *client, turn_event *event);
+
+/* Reports why the event happened that turn_client_event wrote last, until it writes another.
+ *
+ *   TURN_OK               *cause has it; its kind is TURN_CAUSE_NONE if the event reports no failure
+ *
+ *   Refused:
+ *   TURN_NO_CLIENT        the handle is not open */
+int32_t turn_client_cause(turn_client *client, turn_cause *cause);
+
+/* Copies the reason phrase of the error response to the start of `out`, a buffer of at least cause->reason_size bytes
+ * (RFC 8489, section 14.8). It is UTF-8, of at most 763 bytes, and not ended by a zero. It is the server's, or of
+ * whoever sent the response: print it only with its control characters removed. It has no bytes if the response had
+ * none, or none that are UTF-8, or malloc failed when it came.
+ *
+ *   TURN_OK               the bytes are in the buffer
+ *   TURN_NOTHING          the kind of the cause is not TURN_REJECTED
+ *
+ *   Refused:
+ *   TURN_BAD_LENGTH       `out_len` is more than PTRDIFF_MAX
+ *   TURN_NO_CLIENT        the handle is not open
+ *   TURN_SMALL_BUFFER     `out_len` is less than the phrase's size */
+int32_t turn_client_reason(turn_client *client, uint8_t *out, size_t out_len);
+
+/* Copies the name of the domain of the server that a response 300 named (RFC 8489, section 14.16) to the start of
+ * `out`, a buffer of at least cause->domain_size bytes. It is UTF-8, and not ended by a zero; it is the server's, as a
+ * reason phrase is.
+ *
+ *   TURN_OK               the bytes are in the buffer
+ *   TURN_NOTHING          no response 300 ended the client, or it had no name
+ *
+ *   Refused:
+ *   TURN_BAD_LENGTH       `out_len` is more than PTRDIFF_MAX
+ *   TURN_NO_CLIENT        the handle is not open
+ *   TURN_SMALL_BUFFER     `out_len` is less than the name's size */
+int32_t turn_client_domain(turn_client *client, uint8_t *out, size_t out_len);
+
+/* Reports the client's own address as the server saw it: the XOR-MAPPED-ADDRESS of the signed response that allocated
+ * (RFC 8656, section 7.3).
+ *
+ *   TURN_OK               *mapped has it
+ *   TURN_NOTHING          the server has allocated nothing yet, or its response had no such address
+ *
+ *   Refused:
+ *   TURN_NO_CLIENT        the handle is not open */
+int32_t turn_client_mapped(turn_client *client, turn_address *mapped);
 
 /* ---- requests to the server
  *
