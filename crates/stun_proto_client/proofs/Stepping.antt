@@ -1,5 +1,6 @@
 -- What a validation preserves and accepts, and under which key a client signs.
 use Rattle.std.proofs.Common.{◌≡◌, ℕ, List, Option, Some, None, refl, sym, ap, ◌∙◌, subst, inl, inr}
+use Rattle.std.specs.Option.{option_or}
 use Rattle.std.specs.Prelude.{Result, Ok, Err, MatchResult}
 use Rattle.stun_types_wire.specs.declared.algorithm.IntegrityAlgorithm.{IntegrityAlgorithm}
 use Rattle.stun_types_wire.specs.declared.class.MessageClass.{MessageClass}
@@ -39,37 +40,45 @@ own_key client s is = record {
 
 pub resent : (old : Client) (bytes : List ℕ) (choice : IntegrityAlgorithm) (new : Client) → IsResent old bytes choice new → AuthStep old bytes None new
 resent old bytes choice new r = record {
-  account = ap (λ (c : Client). c.account) r.stored;
+  account = λ none. ap (λ (c : Client). c.account) r.stored ∙ ap (λ (o : Option NameAndPassword). option_or o old.account) none;
+  next_account = λ none. ap (λ (c : Client). c.next_account) r.stored;
   algorithms = ap (λ (c : Client). c.algorithms) r.stored;
   anonymous_username = ap (λ (c : Client). c.anonymous_username) r.stored;
   hardened = ap (λ (c : Client). c.hardened) r.stored;
+  style = ap (λ (c : Client). c.style) r.stored;
   from_server = tt;
 }
 
 going : (old : Client) (bytes : List ℕ) (by : Option IntegrityAlgorithm) (new : Client) → new ≡ record old { integrity = by } → AuthStep old bytes None new
 going old bytes by new stored = record {
-  account = ap (λ (c : Client). c.account) stored;
+  account = λ none. ap (λ (c : Client). c.account) stored;
+  next_account = λ none. ap (λ (c : Client). c.next_account) stored ∙ none;
   algorithms = ap (λ (c : Client). c.algorithms) stored;
   anonymous_username = ap (λ (c : Client). c.anonymous_username) stored;
   hardened = ap (λ (c : Client). c.hardened) stored;
+  style = ap (λ (c : Client). c.style) stored;
   from_server = tt;
 }
 
 same : (old : Client) (bytes : List ℕ) (new : Client) → new ≡ old → AuthStep old bytes None new
 same old bytes new stored = record {
-  account = ap (λ (c : Client). c.account) stored;
+  account = λ none. ap (λ (c : Client). c.account) stored;
+  next_account = λ none. ap (λ (c : Client). c.next_account) stored ∙ none;
   algorithms = ap (λ (c : Client). c.algorithms) stored;
   anonymous_username = ap (λ (c : Client). c.anonymous_username) stored;
   hardened = ap (λ (c : Client). c.hardened) stored;
+  style = ap (λ (c : Client). c.style) stored;
   from_server = tt;
 }
 
 validated : (old : Client) (bytes : List ℕ) (algorithm : IntegrityAlgorithm) (new : Client) → IsValidated old bytes algorithm new → AuthStep old bytes (Some algorithm) new
 validated old bytes algorithm new v = record {
-  account = ap (λ (c : Client). c.account) v.stored;
+  account = λ none. ap (λ (c : Client). c.account) v.stored;
+  next_account = λ none. ap (λ (c : Client). c.next_account) v.stored ∙ none;
   algorithms = ap (λ (c : Client). c.algorithms) v.stored;
   anonymous_username = ap (λ (c : Client). c.anonymous_username) v.stored;
   hardened = ap (λ (c : Client). c.hardened) v.stored;
+  style = ap (λ (c : Client). c.style) v.stored;
   from_server = record {
     key = standing_key v.standing;
     own = own_key old v.standing v.occurs;

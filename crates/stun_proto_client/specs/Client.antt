@@ -1,6 +1,6 @@
 -- What contracts see of a client's side of long-term authentication (RFC 8489, section 9.2).
-use Rattle.std.specs.Prelude.{ℕ, Bool, List, Option, Some, None}
-use Rattle.std.specs.Option.{option_map}
+use Rattle.std.specs.Prelude.{ℕ, Bool, false, List, Option, Some, None}
+use Rattle.std.specs.Option.{option_map, option_or}
 use Rattle.stun_types_wire.specs.declared.algorithm.IntegrityAlgorithm.{IntegrityAlgorithm}
 use Rattle.stun_types_integrity.specs.Credentials.{Key, NameAndPassword, long_term_key}
 use Rattle.stun_proto_auth.specs.declared.feature.Feature.{Feature}
@@ -13,15 +13,32 @@ pub record Challenge : Type 0 where
   pub offered : Option (List ℕ)
   pub choice : IntegrityAlgorithm
 
--- A client: its credentials, the algorithms that it supports, its setting for anonymity, whether it is hardened,
--- its stored challenge, and the algorithm of its last validation.
+-- What the client's requests carry besides what they ask for and what authenticates them: the text of SOFTWARE,
+-- if there is one, and whether FINGERPRINT ends them (RFC 8489, sections 14.14 and 14.7).
+pub record Style : Type 0 where
+  pub software : Option (List ℕ)
+  pub fingerprint : Bool
+
+-- Nothing besides.
+abbrev pub plain_style : Style
+plain_style = record { software = None; fingerprint = false }
+
+-- A client: its credentials, those that replace them with the next challenge, the algorithms that it supports, its
+-- setting for anonymity, whether it is hardened, what its requests carry besides, its stored challenge, and the
+-- algorithm of its last validation.
 pub record Client : Type 0 where
   pub account : Option NameAndPassword
+  pub next_account : Option NameAndPassword
   pub algorithms : List IntegrityAlgorithm
   pub anonymous_username : Feature
   pub hardened : Bool
+  pub style : Style
   pub challenge : Option Challenge
   pub integrity : Option IntegrityAlgorithm
+
+-- The credentials that a challenge is answered with: those that were set to replace the others, if there are any.
+abbrev pub account_then : Client → Option NameAndPassword
+account_then client = option_or client.next_account client.account
 
 -- Credentials, and the challenge for which they are used.
 pub record Standing : Type 0 where

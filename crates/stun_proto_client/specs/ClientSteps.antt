@@ -29,11 +29,13 @@ accepted_by (Ok (Validated algorithm)) = Some algorithm
 accepted_by (Ok (ResendRequest choice)) = None
 accepted_by (Err error) = None
 
--- A validation keeps credentials and settings, and an accepted message is from a holder of one of the
--- client's keys.
+-- A validation keeps the settings, and the credentials unless others were set for the next challenge; and an
+-- accepted message is from a holder of one of the client's keys.
 pub record AuthStep (old : Client) (bytes : List ℕ) (accepted : Option IntegrityAlgorithm) (new : Client) : Type 0 where
-  pub account : new.account ≡ old.account
+  pub account : old.next_account ≡ None → new.account ≡ old.account
+  pub next_account : old.next_account ≡ None → new.next_account ≡ None
   pub algorithms : new.algorithms ≡ old.algorithms
   pub anonymous_username : new.anonymous_username ≡ old.anonymous_username
   pub hardened : new.hardened ≡ old.hardened
+  pub style : new.style ≡ old.style
   pub from_server : IfSome accepted (λ algorithm. IsFromServer old bytes algorithm)

@@ -5,7 +5,7 @@ use Rattle.stun_types_wire.specs.declared.algorithm.IntegrityAlgorithm.{Integrit
 use Rattle.stun_proto_auth.specs.Claims.{claimed}
 use Rattle.stun_proto_client.specs.Challenges.{ChallengeFields, challenge_visible, is_anonymous_enough, is_listed_enough, list_for_choice}
 use Rattle.stun_proto_client.specs.Choice.{HasNoneCommon, IsStrongest}
-use Rattle.stun_proto_client.specs.Client.{Client, Standing, standing_key, standing_of}
+use Rattle.stun_proto_client.specs.Client.{Client, Standing, account_then, standing_key, standing_of}
 use Rattle.stun_proto_client.specs.Digests.{IsRight, IsWrong}
 use Rattle.stun_proto_client.specs.declared.error.LongTermClientAuthError.{LongTermClientAuthError}
 use Rattle.stun_proto_client.specs.declared.error.LongTermClientAuthError.TheVariants.{Unauthorized, IntegrityFailed, UnsupportedFeature, NoMemory}
@@ -19,9 +19,12 @@ pub record IsAnswerable (client : Client) (reported : ChallengeFields) (choice :
   pub anonymous : is_anonymous_enough client.anonymous_username reported.nonce ≡ true
   pub listed : is_listed_enough client.hardened reported ≡ true
 
--- The client with a challenge and the chosen algorithm stored.
+-- The client with a challenge and the chosen algorithm stored. Credentials that were set for the next challenge
+-- are its credentials from then on.
 abbrev pub keeping : Client → ChallengeFields → IntegrityAlgorithm → Client
 keeping client reported choice = record client {
+  account = account_then client;
+  next_account = None;
   challenge = Some
       (record {
         realm = reported.realm;

@@ -21,9 +21,9 @@ ghost use Rattle.stun_proto_client.specs.Digests.{IsRight};
 
 /// States what every validation preserves, and what it accepts (RFC 8489, section 9.2):
 ///
-/// - `step`: a validation keeps credentials and settings. An accepted message validates under a key
-///   of the client's own credentials, in whatever realm a challenge named. A challenge is not an
-///   accepted message, nor is a refused one.
+/// - `step`: a validation keeps the settings, and the credentials unless others were set for the
+///   next challenge. An accepted message validates under a key of the client's own credentials, in
+///   whatever realm a challenge named. A challenge is not an accepted message, nor is a refused one.
 /// - `right`: a message that is not a challenge, and that validates under the key of the valid
 ///   challenge, is always accepted.
 /// - `signs`: the key under which the client signs is a key of its own credentials.

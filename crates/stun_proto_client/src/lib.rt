@@ -10,4 +10,5 @@ mod outgoing;
 pub mod short_term;
 mod stored;
 mod strongest;
+pub mod style;
 pub mod validation;

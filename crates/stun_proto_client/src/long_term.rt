@@ -6,13 +6,14 @@ ghost use Rattle.std.specs.Option.{option_copied, option_map};
 ghost use Rattle.stun_types_wire.specs.declared.algorithm.IntegrityAlgorithm.TheVariants.{Sha1};
 ghost use Rattle.stun_proto_auth.specs.SupportedAlgorithms.{is_same_algorithm, with_algorithm};
 ghost use Rattle.stun_proto_auth.specs.declared.feature.Feature.TheVariants.{Auto};
-ghost use Rattle.stun_proto_client.specs.Client.{Standing, standing_key, standing_of};
+ghost use Rattle.stun_proto_client.specs.Client.{Standing, plain_style, standing_key, standing_of};
 
 use crate::stored::{StoredChallenge, key_of_both};
 use std::alloc::Global;
 use std::marker::Model;
 use stun_proto_auth::feature::Feature;
 use stun_proto_auth::supported::SupportedIntegrity;
+use stun_types_auth_attributes::software::Software;
 use stun_types_integrity::credentials::LongTermCredentials;
 use stun_types_integrity::key::IntegrityKey;
 use stun_types_wire::algorithm::IntegrityAlgorithm;
@@ -25,9 +26,12 @@ use stun_types_wire::algorithm::IntegrityAlgorithm;
 pub struct LongTermClientAuth {
     pub(crate) alloc: Global,
     pub(crate) account: Option<LongTermCredentials>,
+    pub(crate) next_account: Option<LongTermCredentials>,
     pub(crate) supported: SupportedIntegrity,
     pub(crate) anonymous_username: Feature,
     pub(crate) hardened: bool,
+    pub(crate) software: Option<Software>,
+    pub(crate) fingerprint: bool,
     pub(crate) challenge: Option<StoredChallenge>,
     pub(crate) integrity: Option<IntegrityAlgorithm>,
     pub(crate) key: Option<IntegrityKey<'static>>,
@@ -41,9 +45,11 @@ impl Model for LongTermClientAuth {
 
     ghost view = { λ c. record {
       account = c.account;
+      next_account = c.next_account;
       algorithms = c.supported;
       anonymous_username = c.anonymous_username;
       hardened = c.hardened;
+      style = record { software = c.software; fingerprint = c.fingerprint };
       challenge = c.challenge;
       integrity = c.integrity;
     } };
@@ -53,14 +59,16 @@ impl Model for LongTermClientAuth {
 
 impl LongTermClientAuth {
     /// Creates a client without credentials and without a challenge. It supports only `Sha1`, and
-    /// hides its name if the server supports that, and is not hardened. It stores the allocator, and
-    /// has allocated nothing yet.
+    /// hides its name if the server supports that, is not hardened, and adds neither SOFTWARE nor
+    /// FINGERPRINT. It stores the allocator, and has allocated nothing yet.
     pub fn new(alloc: Global) -> Self
         ensures { result ≡ record {
           account = None;
+          next_account = None;
           algorithms = Sha1 ∷ [];
           anonymous_username = Auto;
           hardened = false;
+          style = plain_style;
           challenge = None;
           integrity = None;
         } }
@@ -68,21 +76,36 @@ impl LongTermClientAuth {
         LongTermClientAuth {
             alloc,
             account: None,
+            next_account: None,
             supported: SupportedIntegrity::only(IntegrityAlgorithm::Sha1),
             anonymous_username: Feature::Auto,
             hardened: false,
+            software: None,
+            fingerprint: false,
             challenge: None,
             integrity: None,
             key: None,
         }
     }
 
-    /// Sets the credentials, replacing any others. A stored challenge stays valid.
+    /// Sets the credentials, replacing any others at once. A stored challenge stays valid. See
+    /// `set_next_credentials` for a client whose requests still wait for their responses.
     pub fn set_credentials(&mut self, credentials: LongTermCredentials)
         ensures { self.new ≡ record self.old { account = Some credentials } }
     {
         self.account = Some(credentials);
         self.key = key_of_both(&self.account, &self.challenge);
+    }
+
+    /// Sets the credentials that replace the present ones as soon as a challenge is stored, and any
+    /// set before for that. Until then the client signs and validates as before, so a response to a
+    /// request that is outstanding still validates. It is for passwords that expire: the server
+    /// challenges the first request that it no longer accepts, and the client answers under the new
+    /// ones.
+    pub fn set_next_credentials(&mut self, credentials: LongTermCredentials)
+        ensures { self.new ≡ record self.old { next_account = Some credentials } }
+    {
+        self.next_account = Some(credentials);
     }
 
     /// Returns the credentials, if they are set.

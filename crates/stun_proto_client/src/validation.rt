@@ -3,6 +3,7 @@
 ghost use Rattle.std.specs.Prelude.{◌≡◌, MatchResult, MatchOption, Some, None};
 ghost use Rattle.stun_proto_auth.specs.Claims.{claimed};
 ghost use Rattle.std.specs.Bool.{MatchBool};
+ghost use Rattle.std.specs.Option.{option_or};
 ghost use Rattle.stun_proto_client.specs.Challenges.{challenge_visible};
 ghost use Rattle.stun_proto_client.specs.ClientValidation.{IsAnswerable, IsTaken, IsRejected, IsUnanswerable};
 ghost use Rattle.stun_proto_client.specs.Digests.{IsRight, IsWrong};
@@ -13,6 +14,7 @@ use crate::long_term::LongTermClientAuth;
 use crate::stored::{StoredChallenge, key_of_both};
 use crate::strongest::strongest;
 use stun_proto_auth::claim::Claim;
+use stun_types_integrity::credentials::LongTermCredentials;
 use stun_types_integrity::key::IntegrityKey;
 use stun_types_message::parsed::Message;
 use stun_types_wire::algorithm::IntegrityAlgorithm;
@@ -31,8 +33,8 @@ impl LongTermClientAuth {
     /// Validates a received message:
     ///
     /// - An error response with 401 or 438, a realm and a nonce is a challenge, whatever else it
-    ///   has. It is stored with the strongest algorithm that both sides support, and the result is
-    ///   `ResendRequest`. If the nonce announces no list of algorithms, or the list is absent, the
+    ///   has. It is stored with the strongest algorithm that both sides support, credentials of
+    ///   `set_next_credentials` replace the others, and the result is `ResendRequest`. If the nonce announces no list of algorithms, or the list is absent, the
     ///   server supports `Sha1`; but a hardened client refuses a list that is announced and absent.
     ///   A list that has an algorithm unknown here counts as absent, except for a hardened client,
     ///   which passes over unknown ones (section 9.2.5).
@@ -87,6 +89,7 @@ impl LongTermClientAuth {
             return Err(LongTermClientAuthError::UnsupportedFeature);
         };
         let stored = StoredChallenge::of(self.alloc, decoded, self.hardened, choice)?;
+        self.account = replaced(self.account.take(), self.next_account.take());
         self.challenge = Some(stored);
         self.key = key_of_both(&self.account, &self.challenge);
         self.integrity = Some(choice);
@@ -135,6 +138,19 @@ impl LongTermClientAuth {
         } else {
             Err(LongTermClientAuthError::IntegrityFailed(last))
         }
+    }
+}
+
+/// Returns the credentials that were set for the next challenge or, if there are none, the others.
+fn replaced(
+    account: Option<LongTermCredentials>,
+    next: Option<LongTermCredentials>,
+) -> Option<LongTermCredentials>
+    ensures { result ≡ option_or next account }
+{
+    match next {
+        Some(next) => Some(next),
+        None => account,
     }
 }
 

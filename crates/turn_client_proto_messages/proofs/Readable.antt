@@ -13,6 +13,7 @@ use Rattle.stun_types_wire.specs.Registry.{longest_text, nonce_kind, password_al
 use Rattle.stun_types_write.specs.ValueReading.{text_read_refusal, utf8_refusal}
 use Rattle.stun_proto_auth.specs.Claims.{algorithms_decoded, claimed, last_of_kind, text_decoded, unless_refused}
 use Rattle.stun_proto_client.specs.Challenges.{ChallengeFields, asks_again, challenge_visible, decoded_by, list_for_choice, reported_of}
+use Rattle.stun_types_integrity.specs.Credentials.{NameAndPassword}
 use Rattle.stun_proto_client.specs.Client.{Client}
 use Rattle.stun_proto_client.specs.ClientValidation.{IsTaken, IsRejected, keeping}
 use Rattle.stun_proto_client.specs.declared.error.LongTermClientAuthError.{LongTermClientAuthError}
@@ -93,15 +94,21 @@ chosen_known true reported soft reads = absurd (Prim.cc soft)
 
 -- ---- a validation
 
+-- The name of the credentials that a challenge is answered with is UTF-8.
+read_then : (account next : Option NameAndPassword) → IfSome account (λ a. utf8_refusal a.username ≡ None) → IfSome next (λ a. utf8_refusal a.username ≡ None) → IfSome (option_or next account) (λ a. utf8_refusal a.username ≡ None)
+read_then account None reads later = reads
+read_then account (Some next) reads later = later
+
 stored_reads : (old new : Client) (reported : ChallengeFields) (choice : IntegrityAlgorithm) → new ≡ keeping old reported choice → IsReadReported reported → HasReadTexts old → HasReadTexts new
 stored_reads old new reported choice is reads own = rw is (record {
-  username = own.username;
+  username = read_then old.account old.next_account own.username own.next;
+  next = tt;
   challenge = record { realm = reads.realm; nonce = reads.nonce };
   known = λ soft. chosen_known old.hardened reported soft reads;
 })
 
 going_reads : (old new : Client) (by : Option IntegrityAlgorithm) → new ≡ record old { integrity = by } → HasReadTexts old → HasReadTexts new
-going_reads old new by is own = rw is (record { username = own.username; challenge = own.challenge; known = own.known })
+going_reads old new by is own = rw is (record { username = own.username; next = own.next; challenge = own.challenge; known = own.known })
 
 same_reads : (old new : Client) → new ≡ old → HasReadTexts old → HasReadTexts new
 same_reads old new is own = rw is own
@@ -121,5 +128,5 @@ pub stay_readable : (old new : Client) (bytes : List ℕ) (result : Result LongT
 stay_readable old new bytes (Ok answer) outcome own = taken_reads old bytes answer new outcome own
 stay_readable old new bytes (Err error) outcome own = turned_reads old bytes error new outcome own
 
-pub fresh_readable : (client : Client) → client.challenge ≡ None → IfSome client.account (λ account. utf8_refusal account.username ≡ None) → HasReadTexts client
-fresh_readable client none reads = record { username = reads; challenge = rw none tt; known = λ soft. rw none tt }
+pub fresh_readable : (client : Client) → client.challenge ≡ None → client.next_account ≡ None → IfSome client.account (λ account. utf8_refusal account.username ≡ None) → HasReadTexts client
+fresh_readable client none no_next reads = record { username = reads; next = rw no_next tt; challenge = rw none tt; known = λ soft. rw none tt }

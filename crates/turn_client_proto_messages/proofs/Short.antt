@@ -15,7 +15,8 @@ use Rattle.stun_types_write.specs.ValueReading.{text_read_refusal, value_refusal
 use Rattle.stun_proto_auth.specs.Claims.{algorithms_decoded, claimed, last_of_kind, list_decoded, text_decoded, unless_refused}
 use Rattle.stun_proto_auth.specs.Lists.{list_read_refusal}
 use Rattle.stun_proto_client.specs.Challenges.{ChallengeFields, asks_again, challenge_visible, decoded_by, list_for_choice, reported_of}
-use Rattle.stun_proto_client.specs.Client.{Client}
+use Rattle.stun_types_integrity.specs.Credentials.{NameAndPassword}
+use Rattle.stun_proto_client.specs.Client.{Client, plain_style}
 use Rattle.stun_proto_client.specs.ClientValidation.{IsTaken, IsRejected, keeping}
 use Rattle.stun_proto_client.specs.declared.error.LongTermClientAuthError.{LongTermClientAuthError}
 use Rattle.stun_proto_client.specs.declared.error.LongTermClientAuthError.TheVariants.{Unauthorized, IntegrityFailed, UnsupportedFeature, NoMemory}
@@ -119,14 +120,21 @@ challenge_short bytes reported is = by (asks_again bytes) is
 
 -- ---- a validation
 
+-- The name of the credentials that a challenge is answered with is short.
+short_then : (account next : Option NameAndPassword) → IfSome account (λ a. length a.username ≤ 513) → IfSome next (λ a. length a.username ≤ 513) → IfSome (option_or next account) (λ a. length a.username ≤ 513)
+short_then account None short later = short
+short_then account (Some next) short later = later
+
 stored_short : (old new : Client) (reported : ChallengeFields) (choice : IntegrityAlgorithm) → new ≡ keeping old reported choice → IsShortReported reported → HasShortTexts old → HasShortTexts new
 stored_short old new reported choice is short own = rw is (record {
-  username = own.username;
+  username = short_then old.account old.next_account own.username own.next;
+  next = tt;
+  software = own.software;
   challenge = record { realm = short.realm; nonce = short.nonce; offered = chosen_short old.hardened reported short };
 })
 
 going_short : (old new : Client) (by : Option IntegrityAlgorithm) → new ≡ record old { integrity = by } → HasShortTexts old → HasShortTexts new
-going_short old new by is own = rw is (record { username = own.username; challenge = own.challenge })
+going_short old new by is own = rw is (record { username = own.username; next = own.next; software = own.software; challenge = own.challenge })
 
 same_short : (old new : Client) → new ≡ old → HasShortTexts old → HasShortTexts new
 same_short old new is own = rw is own
@@ -146,5 +154,5 @@ pub stay_short : (old new : Client) (bytes : List ℕ) (result : Result LongTerm
 stay_short old new bytes (Ok answer) outcome own = taken_short old bytes answer new outcome own
 stay_short old new bytes (Err error) outcome own = turned_short old bytes error new outcome own
 
-pub fresh_short : (client : Client) → client.challenge ≡ None → IfSome client.account (λ account. length account.username ≤ 513) → HasShortTexts client
-fresh_short client none short = record { username = short; challenge = rw none tt }
+pub fresh_short : (client : Client) → client.challenge ≡ None → client.next_account ≡ None → client.style ≡ plain_style → IfSome client.account (λ account. length account.username ≤ 513) → HasShortTexts client
+fresh_short client none no_next plain short = record { username = short; next = rw no_next tt; software = rw plain tt; challenge = rw none tt }

@@ -1,6 +1,6 @@
 -- How a client's authenticator validates a message (RFC 8489, section 9.2).
 use Rattle.std.specs.Prelude.{ℕ, List, Result, MatchResult, Some, None}
-use Rattle.stun_proto_client.specs.Client.{Client}
+use Rattle.stun_proto_client.specs.Client.{Client, plain_style}
 use Rattle.stun_proto_client.specs.declared.error.LongTermClientAuthError.{LongTermClientAuthError}
 use Rattle.stun_proto_client.specs.ClientValidation.{IsTaken, IsRejected}
 use Rattle.stun_proto_client.specs.declared.validation.LongTermClientValidation.{LongTermClientValidation}
@@ -16,9 +16,11 @@ IsJudged old bytes verdict new = MatchResult verdict
 abbrev pub signer_of : Config → Client
 signer_of config = record {
   account = Some config.credentials;
+  next_account = None;
   algorithms = config.algorithms;
   anonymous_username = config.anonymous_username;
   hardened = config.hardened;
+  style = plain_style;
   challenge = None;
   integrity = None;
 }

@@ -16,9 +16,10 @@ abbrev pub HasKnownList : auth.Challenge → Type 0
 HasKnownList challenge = IfSome challenge.offered
     (λ list. algorithms_read_refusal (attr_of password_algorithms_kind list) ≡ None)
 
--- The client's user name is UTF-8, and the challenge that it remembers meets `IsReadChallenge`, each if there
--- is one. If the client is not hardened, the challenge's list is one of known algorithms.
+-- The client's user names, that of its credentials and that of those for the next challenge, are UTF-8, and the
+-- challenge that it remembers meets `IsReadChallenge`, each if there is one. If the client is not hardened, the challenge's list is one of known algorithms.
 pub record HasReadTexts (client : auth.Client) : Type 0 where
   pub username : IfSome client.account (λ account. utf8_refusal account.username ≡ None)
+  pub next : IfSome client.next_account (λ account. utf8_refusal account.username ≡ None)
   pub challenge : IfSome client.challenge IsReadChallenge
   pub known : client.hardened ≡ false → IfSome client.challenge HasKnownList

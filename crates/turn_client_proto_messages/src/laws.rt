@@ -12,7 +12,7 @@ ghost use Rattle.stun_types_write.specs.ValueReading.{utf8_refusal};
 ghost use Rattle.stun_proto_client.specs.Digests.{IsRight};
 ghost use Rattle.stun_proto_auth.specs.Claims.{algorithms_decoded, claimed};
 ghost use Rattle.turn_client_proto_api.specs.StunProtoAgent.Sending.{is_request};
-ghost use Rattle.stun_proto_client.specs.Client.{Client, Standing, standing_key, standing_of};
+ghost use Rattle.stun_proto_client.specs.Client.{Client, Standing, plain_style, standing_key, standing_of};
 ghost use Rattle.stun_proto_client.specs.ClientValidation.{IsTaken, IsRejected};
 ghost use Rattle.stun_proto_client.specs.declared.error.LongTermClientAuthError.{LongTermClientAuthError};
 ghost use Rattle.stun_proto_client.specs.declared.validation.LongTermClientValidation.{LongTermClientValidation};
@@ -152,7 +152,8 @@ pub fn names_are_texts(config: &TurnConfig)
 ///
 /// - `stay`: if they are before a validation, they are afterwards, whatever its result. A realm,
 ///   nonce or list of a challenge that is too long is ignored.
-/// - `fresh`: if the client remembers no challenge, they are if the user name is.
+/// - `fresh`: if the client remembers no challenge, has no credentials for the next one and no
+///   SOFTWARE, they are if the user name is.
 pub fn proof_texts_stay_short()
     ensures stay { (old new : Client) (bytes : List ℕ)
         (result : Result LongTermClientValidation LongTermClientAuthError)
@@ -162,6 +163,8 @@ pub fn proof_texts_stay_short()
         → HasShortTexts new }
     ensures fresh { (client : Client)
         → client.challenge ≡ None
+        → client.next_account ≡ None
+        → client.style ≡ plain_style
         → IfSome client.account (λ account. length account.username ≤ longest_username)
         → HasShortTexts client }
 {}
@@ -171,7 +174,8 @@ pub fn proof_texts_stay_short()
 /// - `stay`: if they are before a validation, they are afterwards, whatever its result. A realm or
 ///   nonce of a challenge that is no UTF-8 is ignored, and so is a list that names an unknown
 ///   algorithm, unless the client is hardened.
-/// - `fresh`: if the client remembers no challenge, they are if the user name is UTF-8.
+/// - `fresh`: if the client remembers no challenge and has no credentials for the next one, they are
+///   if the user name is UTF-8.
 /// - `known`: if the client is not hardened, who reads only lists of known algorithms reads the list
 ///   that it returns as it is.
 pub fn texts_stay_read()
@@ -183,6 +187,7 @@ pub fn texts_stay_read()
         → HasReadTexts new }
     ensures fresh { (client : Client)
         → client.challenge ≡ None
+        → client.next_account ≡ None
         → IfSome client.account (λ account. utf8_refusal account.username ≡ None)
         → HasReadTexts client }
     ensures known { (client : Client) (standing : Standing)

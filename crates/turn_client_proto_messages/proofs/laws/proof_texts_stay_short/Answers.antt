@@ -5,4 +5,4 @@ pub returns-clause-stay : goal.returns-clause-stay
 returns-clause-stay c = λ old new bytes result outcome own. stay_short old new bytes result outcome own
 
 pub returns-clause-fresh : goal.returns-clause-fresh
-returns-clause-fresh c = λ client none short. fresh_short client none short
+returns-clause-fresh c = λ client none no_next plain short. fresh_short client none no_next plain short

@@ -6,7 +6,7 @@ pub returns-clause-stay : goal.returns-clause-stay
 returns-clause-stay c = λ old new bytes result outcome own. stay_readable old new bytes result outcome own
 
 pub returns-clause-fresh : goal.returns-clause-fresh
-returns-clause-fresh c = λ client none reads. fresh_readable client none reads
+returns-clause-fresh c = λ client none no_next reads. fresh_readable client none no_next reads
 
 pub returns-clause-known : goal.returns-clause-known
 returns-clause-known c = λ client standing reads soft occurs. list_law client standing reads soft occurs
