@@ -1,4 +1,5 @@
 -- The texts of a client stay well formed: malformed texts of a challenge are not used.
+use Rattle.std.specs.Option.{option_or}
 use Rattle.std.specs.Prelude.{IfSome, MatchResult, Result, Ok, Err}
 use Rattle.std.proofs.Common.{◌≡◌, ℕ, Bool, true, false, eqb, if◌then◌else◌, List, Option, Some, None, refl, subst, inl, inr}
 use Rattle.std.proofs.lemmas.Bool.{cases_Bool}
