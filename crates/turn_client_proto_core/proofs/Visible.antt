@@ -3,7 +3,7 @@ use Rattle.std.proofs.Common.{◌≡◌, ℕ, ◌<◌, ◌^◌, None, refl, ap, 
 use Rattle.std.specs.FinMap as map
 use Rattle.stun_types_wire.specs.Grammar.{number_at}
 use Rattle.stun_types_wire.specs.Text.{header_text, message_text}
-use Rattle.stun_proto_client.specs.Client.{Client}
+use Rattle.stun_proto_client.specs.Client.{Client, plain_style}
 use Rattle.stun_proto_agent.specs.State.{Agent}
 use Rattle.turn_client_proto_messages.specs.Requests.{request_text}
 use Rattle.turn_client_proto_messages.specs.ShortTexts.{HasShortTexts}
@@ -14,10 +14,10 @@ use Rattle.turn_client_proto_core.specs.Numbering.{IsUnused}
 
 -- A client that signs nothing.
 abbrev bare : Client → Client
-bare client = record client { account = None; challenge = None }
+bare client = record client { account = None; next_account = None; style = plain_style; challenge = None }
 
 bare_short : (client : Client) → HasShortTexts (bare client)
-bare_short client = record { username = tt; challenge = tt }
+bare_short client = record { username = tt; next = tt; software = tt; challenge = tt }
 
 -- The transaction ID is in the header, so it depends neither on the request nor on who signs it.
 same_number : (client other : Client) (request another : TurnRequest) (number : ℕ) → number_at (request_text client request number) ≡ number_at (request_text other another number)

@@ -5,7 +5,7 @@ use Rattle.turn_client_proto_api.specs.StunTypesWire.Grammar.{number_at, refusal
 use Rattle.turn_client_proto_api.specs.StunTypesWire.Registry.{longest_username}
 use Rattle.turn_client_proto_messages.specs.StunTypesWrite.ValueReading.{utf8_refusal}
 use Rattle.turn_client_proto_api.specs.StunProtoAuth.Claims.{claimed}
-use Rattle.turn_client_proto_messages.specs.StunProtoClient.Client.{Client, Standing, standing_key, standing_of}
+use Rattle.turn_client_proto_messages.specs.StunProtoClient.Client.{Client, Standing, plain_style, standing_key, standing_of}
 use Rattle.turn_client_proto_messages.specs.StunProtoClient.declared.error.LongTermClientAuthError.{LongTermClientAuthError}
 use Rattle.turn_client_proto_messages.specs.StunProtoClient.ClientValidation.{IsTaken, IsRejected}
 use Rattle.turn_client_proto_messages.specs.StunProtoClient.declared.validation.LongTermClientValidation.{LongTermClientValidation}
@@ -28,7 +28,7 @@ use Rattle.turn_client_proto_handshake_laws.specs.Sent.{Beginning, HasRoom, firs
 
 -- Texts are short if the user's name is, and stay so.
 abbrev pub AreShort : Type 0
-AreShort = (client : Client) → client.challenge ≡ None → IfSome client.account (λ account. length account.username ≤ longest_username) → HasShortTexts client
+AreShort = (client : Client) → client.challenge ≡ None → client.next_account ≡ None → client.style ≡ plain_style → IfSome client.account (λ account. length account.username ≤ longest_username) → HasShortTexts client
 
 abbrev pub StayShort : Type 0
 StayShort = (old new : Client) (bytes : List ℕ) (result : Result LongTermClientValidation LongTermClientAuthError)
@@ -36,7 +36,7 @@ StayShort = (old new : Client) (bytes : List ℕ) (result : Result LongTermClien
 
 -- Texts can be decoded if the user's name can, and stay so.
 abbrev pub AreRead : Type 0
-AreRead = (client : Client) → client.challenge ≡ None → IfSome client.account (λ account. utf8_refusal account.username ≡ None) → HasReadTexts client
+AreRead = (client : Client) → client.challenge ≡ None → client.next_account ≡ None → IfSome client.account (λ account. utf8_refusal account.username ≡ None) → HasReadTexts client
 
 abbrev pub StayRead : Type 0
 StayRead = (old new : Client) (bytes : List ℕ) (result : Result LongTermClientValidation LongTermClientAuthError)
@@ -71,13 +71,13 @@ AreClaims = (auth : Client) (request : TurnRequest) (number : ℕ) (standing : S
 pub signed_read : (b : Beginning) (c : Choice) → IsChoice b c → HasTextName b.config → AreRead → StayRead → HasReadTexts (signer_by b c)
 signed_read b c chosen text read stay_read =
     let taken : IsTaken (signer_of b.config) chosen.message (ResendRequest c.algorithm) (signer_by b c) = record { reported = c.reported; visible = chosen.visible; answerable = chosen.answered; stored = refl } in
-    stay_read (signer_of b.config) (signer_by b c) chosen.message (Ok (ResendRequest c.algorithm)) taken (read (signer_of b.config) refl text)
+    stay_read (signer_of b.config) (signer_by b c) chosen.message (Ok (ResendRequest c.algorithm)) taken (read (signer_of b.config) refl refl text)
 
 module _ (b : Beginning) (room : HasRoom b.config) (short : AreShort) where
   -- ---- the first one
 
   pub texts_short : HasShortTexts (signer_of b.config)
-  texts_short = short (signer_of b.config) refl room.0
+  texts_short = short (signer_of b.config) refl refl refl room.0
 
   number_fits : first_number b < 2 ^ 96
   number_fits = omega arith

@@ -4,7 +4,7 @@ use Rattle.std.specs.Prelude.{true, IfSome}
 use Rattle.turn_client_proto_api.specs.StunTypesWire.Grammar.{number_at, refusal}
 use Rattle.turn_client_proto_api.specs.StunTypesWire.Registry.{longest_username}
 use Rattle.turn_client_proto_api.specs.StunProtoAgent.Sending.{is_request}
-use Rattle.turn_client_proto_messages.specs.StunProtoClient.Client.{Client}
+use Rattle.turn_client_proto_messages.specs.StunProtoClient.Client.{Client, plain_style}
 use Rattle.turn_client_proto_messages.specs.Judging.{signer_of}
 use Rattle.turn_client_proto_messages.specs.Requests.{request_text}
 use Rattle.turn_client_proto_messages.specs.ShortTexts.{HasShortTexts}
@@ -17,7 +17,7 @@ use Rattle.turn_client_proto_handshake_laws.specs.Sent.{Beginning, HasRoom, firs
 
 -- A lemma that is used: texts are short if the user's name is.
 abbrev pub AreShort : Type 0
-AreShort = (client : Client) → client.challenge ≡ None → IfSome client.account (λ account. length account.username ≤ longest_username) → HasShortTexts client
+AreShort = (client : Client) → client.challenge ≡ None → client.next_account ≡ None → client.style ≡ plain_style → IfSome client.account (λ account. length account.username ≤ longest_username) → HasShortTexts client
 
 -- A request contains its transaction ID.
 abbrev pub AreNumbered : Type 0
@@ -37,7 +37,7 @@ AreReported = (auth : Client) (request : TurnRequest) (number : ℕ) → HasShor
 
 module _ (b : Beginning) (room : HasRoom b.config) (short : AreShort) where
   texts_short : HasShortTexts (signer_of b.config)
-  texts_short = short (signer_of b.config) refl room.0
+  texts_short = short (signer_of b.config) refl refl refl room.0
 
   number_fits : first_number b < 2 ^ 96
   number_fits = omega arith

@@ -51,14 +51,15 @@ holder_of b c address lifetime since = record {
 }
 
 -- The client can sign: it uses TCP to its server, and requests allocations over TCP; the texts of its
--- authenticator are short and can be decoded; it uses its credentials under that challenge; and the last
--- message that it accepted was signed by the algorithm that it chose.
+-- authenticator are short and can be decoded; it uses its credentials under that challenge, and has no others for
+-- the next one; and the last message that it accepted was signed by the algorithm that it chose.
 pub record CanSign (h : Holder) : Type 0 where
   pub over : h.started.transport ≡ Tcp
   pub relays : h.started.config.transport ≡ Tcp
   pub short : HasShortTexts h.auth
   pub read : HasReadTexts h.auth
   pub occurs : standing_of h.auth ≡ Some h.standing
+  pub settled : h.auth.next_account ≡ None
   pub goes_by : h.auth.integrity ≡ Some h.standing.challenge.choice
 
 -- ---- what it asks for

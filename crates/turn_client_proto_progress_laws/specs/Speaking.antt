@@ -1,6 +1,6 @@
 -- An established client: one that the server has allocated to, and that stores a challenge of the server's
 -- realm (RFC 8489, section 9.2.5; RFC 8656, section 7.3).
-use Rattle.std.specs.Prelude.{◌≡◌, ◌<◌, false, List, [], ◌∷◌, ℕ, Some}
+use Rattle.std.specs.Prelude.{◌≡◌, ◌<◌, false, List, [], ◌∷◌, ℕ, None, Some}
 use Rattle.std.specs.declared.net.socket_addr.SocketAddr.{SocketAddr}
 use Rattle.turn_client_proto_messages.specs.StunProtoClient.Challenges.{ChallengeFields, challenge_visible}
 use Rattle.turn_client_proto_messages.specs.StunProtoClient.Client.{Challenge, Client, Standing}
@@ -15,10 +15,12 @@ use Rattle.turn_client_proto_handshake_laws.specs.Core.declared.protocol.Protoco
 use Rattle.turn_client_proto_handshake_laws.specs.Stages.{IsOf}
 use Rattle.turn_client_proto_handshake_laws.specs.Sent.{Beginning}
 
--- What a client signs by: the credentials of its settings, and a stored challenge of this realm. Their texts
--- fit into a request, and can be decoded from it. It answers challenges by its settings.
+-- What a client signs by: the credentials of its settings, with no others for the next challenge, and a stored
+-- challenge of this realm. Their texts fit into a request, and can be decoded from it. It answers challenges by its
+-- settings.
 pub record Signs (b : Beginning) (realm : List ℕ) (auth : Client) : Type 0 where
   pub account : auth.account ≡ Some b.config.credentials
+  pub settled : auth.next_account ≡ None
   pub hides : auth.anonymous_username ≡ b.config.anonymous_username
   pub algorithms : auth.algorithms ≡ b.config.algorithms
   pub hardened : auth.hardened ≡ b.config.hardened

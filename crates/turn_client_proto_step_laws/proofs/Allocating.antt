@@ -185,6 +185,7 @@ module _ (c : Client) (signer : signers.Client) (bytes : List ℕ) (lifetime now
       };
       can_ask = until_all (phase_by (map (fresh transport number lifetime now) all)) (record {
         account = under_way.can_ask.account;
+        settled = under_way.can_ask.settled;
         texts = under_way.can_ask.texts;
         families = under_way.can_ask.families;
         words = under_way.can_ask.words;

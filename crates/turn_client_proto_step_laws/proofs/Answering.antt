@@ -85,6 +85,7 @@ module _ (c : Client) (mid : Protocol) (bytes : List ℕ) (here peer : SocketAdd
       (allocations_orderly [] (parts_of mid) left fewer (λ r h. absurd h) (same_distinct (closed here) (closed_alike here) mid.allocations under_way.orderly.distinct) under_way.orderly)
       (until_all mid.phase (record {
         account = under_way.can_ask.account;
+        settled = under_way.can_ask.settled;
         texts = under_way.can_ask.texts;
         families = under_way.can_ask.families;
         words = under_way.can_ask.words;
@@ -294,6 +295,7 @@ module _ (c : Client) (signer : signers.Client) (bytes : List ℕ) (message : re
           (same_first_distinct (has_from here) (waits_in here None) (λ a. (refl, refl)) c.core.allocations orderly.distinct) under_way.orderly;
       can_ask = until_all c.core.phase (record {
         account = under_way.can_ask.account;
+        settled = under_way.can_ask.settled;
         texts = under_way.can_ask.texts;
         families = under_way.can_ask.families;
         words = under_way.can_ask.words;

@@ -54,7 +54,7 @@ pub at_first : (c : Client) (came : List (List ℕ)) → IsOrderly (parts_of c.c
 at_first c came orderly can = record {
   adds = adds_none [] (parts_of c.core);
   orderly = orderly;
-  can_ask = record { account = can.account; texts = can.texts; families = can.families; words = can.words };
+  can_ask = record { account = can.account; settled = can.settled; texts = can.texts; families = can.families; words = can.words };
   reported = refl;
   rng = refl;
   realms = λ realm is. inl is;
@@ -66,7 +66,8 @@ once_judged c bytes verdict signer orderly can is = record {
   adds = adds_none [] (parts_of c.core);
   orderly = orderly;
   can_ask = record {
-    account = (step_of c.core.auth signer bytes verdict is).account ∙ can.account;
+    account = (step_of c.core.auth signer bytes verdict is).account can.settled ∙ can.account;
+    settled = (step_of c.core.auth signer bytes verdict is).next_account can.settled;
     texts = stay_short c.core.auth signer bytes verdict is can.texts;
     families = can.families;
     words = can.words;
@@ -81,7 +82,7 @@ unfolding answered
 once_answered c mid bytes is = record {
   adds = adds_both [] (parts_of c.core) (parts_of mid) _ is.adds (agent_less [] (parts_of mid) (after_message mid.agent bytes mid.server) (handled_new mid.agent bytes mid.server));
   orderly = agent_orderly (parts_of mid) (after_message mid.agent bytes mid.server) (handled_new mid.agent bytes mid.server) is.orderly;
-  can_ask = record { account = is.can_ask.account; texts = is.can_ask.texts; families = is.can_ask.families; words = is.can_ask.words };
+  can_ask = record { account = is.can_ask.account; settled = is.can_ask.settled; texts = is.can_ask.texts; families = is.can_ask.families; words = is.can_ask.words };
   reported = is.reported;
   rng = is.rng;
   realms = is.realms;
@@ -92,7 +93,7 @@ unfolding accepted
 once_accepted c mid bytes is = record {
   adds = adds_both [] (parts_of c.core) (parts_of mid) _ is.adds (agent_less [] (parts_of mid) (after_message mid.agent bytes mid.server) (handled_new mid.agent bytes mid.server));
   orderly = agent_orderly (parts_of mid) (after_message mid.agent bytes mid.server) (handled_new mid.agent bytes mid.server) is.orderly;
-  can_ask = record { account = is.can_ask.account; texts = is.can_ask.texts; families = is.can_ask.families; words = is.can_ask.words };
+  can_ask = record { account = is.can_ask.account; settled = is.can_ask.settled; texts = is.can_ask.texts; families = is.can_ask.families; words = is.can_ask.words };
   reported = is.reported;
   rng = is.rng;
   realms = is.realms;
@@ -170,6 +171,7 @@ module _ {came : List (List ℕ)} (c : Client) (mid : Protocol) (request : TurnR
         reported = reported ∙ under_way.reported;
       }) orderly (until_all core.phase (record {
         account = ap (λ (a : signers.Client). a.account) same_auth ∙ under_way.can_ask.account;
+        settled = ap (λ (a : signers.Client). a.next_account) same_auth ∙ under_way.can_ask.settled;
         texts = subst HasShortTexts (sym same_auth) under_way.can_ask.texts;
         families = families;
         words = ap stream_from rng ∙ words_after mid.rng c.transmitted c.seed under_way.can_ask.words;

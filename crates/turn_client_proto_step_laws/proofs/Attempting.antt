@@ -147,6 +147,7 @@ module _ (c : Client) (signer : signers.Client) (bytes : List ℕ) (message : re
         orderly = orderly;
         can_ask = until_all c.core.phase (record {
           account = under_way.can_ask.account;
+          settled = under_way.can_ask.settled;
           texts = under_way.can_ask.texts;
           families = under_way.can_ask.families;
           words = under_way.can_ask.words;

@@ -72,7 +72,8 @@ module _ (transport : TransportType) (here server : SocketAddr) (config : Config
     orderly = orderly;
     can_ask = until_all p.phase (record {
       account = ap (λ (a : signers.Client). a.account) is.auth;
-      texts = subst HasShortTexts (sym is.auth) (fresh_short (signer_of config) refl short);
+      settled = ap (λ (a : signers.Client). a.next_account) is.auth;
+      texts = subst HasShortTexts (sym is.auth) (fresh_short (signer_of config) refl refl refl short);
       families = subst (λ (l : List AddressFamily). length l ≤ 2) (sym is.families) few;
       words = ap stream_from is.rng ∙ sym (none_after (stream_from (of_seed seed)));
     });

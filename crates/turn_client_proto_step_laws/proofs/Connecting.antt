@@ -315,6 +315,7 @@ module _ (c : Client) (signer : signers.Client) (bytes : List ℕ) (message : re
           (same_first_distinct (awaits_reply number) (connections.connected connection peer number) (λ a. (refl, refl)) c.core.allocations orderly.distinct) under_way.orderly;
       can_ask = until_all c.core.phase (record {
         account = under_way.can_ask.account;
+        settled = under_way.can_ask.settled;
         texts = under_way.can_ask.texts;
         families = under_way.can_ask.families;
         words = under_way.can_ask.words;
@@ -348,6 +349,7 @@ module _ (c : Client) (mid : Protocol) (bytes : List ℕ) (under_way : IsUnderWa
       (nothing_transmitted [] c) (reported ∙ under_way.reported))
       (joining_orderly none_connects none_learnt (parts_of mid) left are (λ k h. absurd h) (λ k h. absurd h) distinct under_way.orderly) (until_all mid.phase (record {
         account = under_way.can_ask.account;
+        settled = under_way.can_ask.settled;
         texts = under_way.can_ask.texts;
         families = under_way.can_ask.families;
         words = under_way.can_ask.words;

@@ -35,6 +35,7 @@ use Rattle.turn_client_proto_step_laws.proofs.Realms.{ended_realm}
 pub still_can : (c : Client) (core : Protocol) → core.auth ≡ c.core.auth → core.families ≡ c.core.families → core.rng ≡ c.core.rng → CanAsk c → CanAsk (moved c c.transmitted core)
 still_can c core same_auth same_families same_rng can = record {
   account = ap (λ (a : signers.Client). a.account) same_auth ∙ can.account;
+  settled = ap (λ (a : signers.Client). a.next_account) same_auth ∙ can.settled;
   texts = subst HasShortTexts (sym same_auth) can.texts;
   families = subst (λ (l : List AddressFamily). length l ≤ 2) (sym same_families) can.families;
   words = ap stream_from same_rng ∙ can.words;

@@ -29,7 +29,7 @@ waits frames c = record c { waiting = frames }
 pub waits_sound : (frames : List (List ℕ)) (c : Client) → IsSound c → IsSound (waits frames c)
 waits_sound frames c sound = record {
   orderly = sound.orderly;
-  can_ask = until_map c.core.phase (λ (can : CanAsk c). record { account = can.account; texts = can.texts; families = can.families; words = can.words }) sound.can_ask;
+  can_ask = until_map c.core.phase (λ (can : CanAsk c). record { account = can.account; settled = can.settled; texts = can.texts; families = can.families; words = can.words }) sound.can_ask;
 }
 
 module _ (call : Call Client) (came before after : List (List ℕ)) where

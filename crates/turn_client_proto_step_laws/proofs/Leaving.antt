@@ -24,6 +24,7 @@ left_step c mid bytes under_way core left are distinct is reported =
     (nothing_transmitted [] c) (reported ∙ under_way.reported))
     (permitting_orderly none_gained none_asks (parts_of mid) left are (none_fit mid.agent) under_way.orderly distinct) (until_all mid.phase (record {
       account = under_way.can_ask.account;
+      settled = under_way.can_ask.settled;
       texts = under_way.can_ask.texts;
       families = under_way.can_ask.families;
       words = under_way.can_ask.words;

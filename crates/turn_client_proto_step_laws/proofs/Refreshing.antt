@@ -74,6 +74,7 @@ module _ (c : Client) (number now : ℕ) (sound : IsOrderly (parts_of c.core)) (
 can_still : (c : Client) → CanAsk c → CanAsk (moved c (c.transmitted + 1) (after_number c.core))
 can_still c can = record {
   account = can.account;
+  settled = can.settled;
   texts = can.texts;
   families = can.families;
   words = words_after c.core.rng c.transmitted c.seed can.words;

@@ -125,7 +125,7 @@ module _ (c : Client) (answer : AttemptAnswer) (number : ℕ) (is_number : IsNum
   once_answered is = record {
     adds = answered_adds;
     orderly = answered_orderly is.orderly;
-    can_ask = record { account = is.can_ask.account; texts = is.can_ask.texts; families = is.can_ask.families; words = is.can_ask.words };
+    can_ask = record { account = is.can_ask.account; settled = is.can_ask.settled; texts = is.can_ask.texts; families = is.can_ask.families; words = is.can_ask.words };
     reported = is.reported;
     rng = is.rng;
     realms = is.realms;

@@ -86,6 +86,7 @@ module _ (c : Client) (mid : Protocol) (bytes : List ℕ) (now : ℕ) (under_way
       (allocations_orderly [] (parts_of mid) left less (λ r h. absurd h)
       (renewed_distinct (least_of mid.short_lifetimes) (number_at bytes) now (lifetime_reported bytes) mid.allocations under_way.orderly.distinct) under_way.orderly) (until_all mid.phase (record {
         account = under_way.can_ask.account;
+        settled = under_way.can_ask.settled;
         texts = under_way.can_ask.texts;
         families = under_way.can_ask.families;
         words = under_way.can_ask.words;

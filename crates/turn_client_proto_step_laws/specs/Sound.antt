@@ -122,10 +122,12 @@ pub record IsOrderly (p : Parts) : Type 0 where
 abbrev pub stream_from : ChaCha → Stream
 stream_from rng = stream_of (steps_u32 (next_word 10)) rng
 
--- The client signs under its own name and password; its texts fit into a request; it has at most two address
--- families; and its generator is at the index of its next transaction ID in the stream of its seed.
+-- The client signs under its own name and password, and no others were set for the next challenge; its texts fit
+-- into a request; it has at most two address families; and its generator is at the index of its next transaction
+-- ID in the stream of its seed.
 pub record CanAsk (c : Client) : Type 0 where
   pub account : c.core.auth.account ≡ Some c.credentials
+  pub settled : c.core.auth.next_account ≡ None
   pub texts : HasShortTexts c.core.auth
   pub families : length c.core.families ≤ 2
   pub words : stream_from c.core.rng ≡ stream_after (number_words * c.transmitted) c.seed

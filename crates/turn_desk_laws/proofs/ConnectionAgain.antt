@@ -1,6 +1,7 @@
 -- A challenge to a client's request comes to a client that holds an allocation over TCP, by the contract of
 -- `handle_message` alone: the request is queued again, and the challenged one is outstanding no more.
 use Rattle.std.proofs.Common.{◌≡◌, ◌≢◌, ℕ, ◌<◌, ◌≤◌, ◌+◌, ◌^◌, ◌++◌, Bool, true, false, List, [], ◌∷◌, Option, Some, None, cond, refl, sym, ap, ◌∙◌, subst, inl, inr}
+use Rattle.std.specs.Option.{option_or}
 use Rattle.std.specs.Prelude.{◌&&◌, ◌||◌, Result, Ok, Err, is_some, if◌then◌else◌}
 use Rattle.std.specs.FinMap as map
 use Rattle.std.specs.Cmp.{eq_by_cmp_equiv, nat_cmp_total}
@@ -201,7 +202,8 @@ module _ (h : Holder) (one : Requested) (a : Allocation) (last : ℕ) (events : 
       relays = w.signs.relays;
       short = stay_short h.auth h2.auth bytes (Ok (ResendRequest choice)) taken w.signs.short;
       read = stay_read h.auth h2.auth bytes (Ok (ResendRequest choice)) taken w.signs.read;
-      occurs = ap (λ (o : Option NameAndPassword). auth.standing_by o h2.auth.challenge) (account_is h.auth h.standing w.signs.occurs);
+      occurs = ap (λ (o : Option NameAndPassword). auth.standing_by o h2.auth.challenge) (ap (λ (o : Option NameAndPassword). option_or o h.auth.account) w.signs.settled ∙ account_is h.auth h.standing w.signs.occurs);
+      settled = refl;
       goes_by = refl;
     }
 

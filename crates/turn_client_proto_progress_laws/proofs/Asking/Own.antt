@@ -33,14 +33,15 @@ use Rattle.turn_client_proto_progress_laws.specs.Speaking.{HasAtMost, HasBeenSer
 signs_so : (b : Beginning) (c : Choice) → HasShortTexts (signer_by b c) → HasReadTexts (signer_by b c) → Signs b c.reported.realm (going_by (signer_by b c) (Some c.algorithm))
 signs_so b c short read = record {
   account = refl;
+  settled = refl;
   hides = refl;
   algorithms = refl;
   hardened = refl;
   challenge = record { realm = c.reported.realm; nonce = c.reported.nonce; offered = list_for_choice b.config.hardened c.reported; choice = c.algorithm };
   stored = refl;
   realm_is = refl;
-  short = record { username = short.username; challenge = short.challenge };
-  read = record { username = read.username; challenge = read.challenge; known = read.known };
+  short = record { username = short.username; next = short.next; software = short.software; challenge = short.challenge };
+  read = record { username = read.username; next = read.next; challenge = read.challenge; known = read.known };
 }
 
 pub holder_speaks : (b : Beginning) (c : Choice) (address : SocketAddr) (lifetime made last : ℕ) (queue : List Queued) (events : List TurnEvent) (p : Protocol) → HasShortTexts (signer_by b c) → HasReadTexts (signer_by b c)

@@ -91,7 +91,8 @@ module _ (b : Beginning) (realm message : List ℕ) (decodes : ReportsRealm real
       let step = step_of old new message verdict r in
       let k = by_verdict verdict r in
       record {
-        account = step.account ∙ is.account;
+        account = step.account is.settled ∙ is.account;
+        settled = step.next_account is.settled;
         hides = step.anonymous_username ∙ is.hides;
         algorithms = step.algorithms ∙ is.algorithms;
         hardened = step.hardened ∙ is.hardened;

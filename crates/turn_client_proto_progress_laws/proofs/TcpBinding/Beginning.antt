@@ -26,9 +26,10 @@ module _ (b : Beginning) (c : Choice) (address : SocketAddr) (lifetime since las
   signs = record {
     over = over;
     relays = relays;
-    short = record { username = short.username; challenge = short.challenge };
-    read = record { username = read.username; challenge = read.challenge; known = read.known };
+    short = record { username = short.username; next = short.next; software = short.software; challenge = short.challenge };
+    read = record { username = read.username; next = read.next; challenge = read.challenge; known = read.known };
     occurs = refl;
+    settled = refl;
     goes_by = refl;
   }
 

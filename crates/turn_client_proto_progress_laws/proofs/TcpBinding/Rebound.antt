@@ -1,5 +1,6 @@
 -- A challenge to a client's CONNECTION_BIND comes over the socket, by the relation `IsProcessedAt` alone.
 use Rattle.std.proofs.Common.{◌≡◌, ℕ, ◌<◌, ◌^◌, List, [], ◌∷◌, Option, Some, None, refl, sym, ap, ◌∙◌, subst, inl, inr}
+use Rattle.std.specs.Option.{option_or}
 use Rattle.std.specs.Prelude.{Result, Ok, Err}
 use Rattle.std.specs.declared.net.socket_addr.SocketAddr.{SocketAddr}
 use Rattle.turn_client_proto_messages.specs.StunTypesIntegrity.Credentials.{NameAndPassword}
@@ -76,7 +77,8 @@ module _ (h : Holder) (older : List Requested) (permissions : List Permission) (
       relays = w.signs.relays;
       short = stay_short h.auth h2.auth bytes (Ok (ResendRequest choice)) taken w.signs.short;
       read = stay_read h.auth h2.auth bytes (Ok (ResendRequest choice)) taken w.signs.read;
-      occurs = ap (λ (o : Option NameAndPassword). auth.standing_by o h2.auth.challenge) (account_is h.auth h.standing w.signs.occurs);
+      occurs = ap (λ (o : Option NameAndPassword). auth.standing_by o h2.auth.challenge) (ap (λ (o : Option NameAndPassword). option_or o h.auth.account) w.signs.settled ∙ account_is h.auth h.standing w.signs.occurs);
+      settled = refl;
       goes_by = refl;
     }
 

@@ -25,7 +25,7 @@ use Rattle.turn_client_proto_messages.specs.StunProtoAuth.Claims.{claimed, code_
 use Rattle.turn_client_proto_messages.specs.StunProtoClient.declared.error.LongTermClientAuthError.{LongTermClientAuthError}
 use Rattle.turn_client_proto_messages.specs.StunProtoClient.declared.validation.LongTermClientValidation.{LongTermClientValidation}
 use Rattle.turn_client_proto_messages.specs.StunProtoAgent.Handling.{is_response}
-use Rattle.turn_client_proto_messages.specs.StunProtoClient.Client.{Client}
+use Rattle.turn_client_proto_messages.specs.StunProtoClient.Client.{Client, plain_style}
 use Rattle.turn_client_proto_messages.specs.Requests.{request_text, is_signed}
 use Rattle.turn_client_proto_messages.specs.StunTypesWire.Registry.{longest_username}
 use Rattle.turn_client_proto_messages.specs.StunTypesWrite.ValueReading.{utf8_refusal}
@@ -143,7 +143,7 @@ challenges_respond bytes reported is = by (class_of (kind_at bytes)) is
 
 -- Texts are short if the user's name is, and stay so.
 abbrev pub AreShort : Type 0
-AreShort = (client : Client) → client.challenge ≡ None → IfSome client.account (λ account. length account.username ≤ longest_username) → HasShortTexts client
+AreShort = (client : Client) → client.challenge ≡ None → client.next_account ≡ None → client.style ≡ plain_style → IfSome client.account (λ account. length account.username ≤ longest_username) → HasShortTexts client
 
 abbrev pub StayShort : Type 0
 StayShort = (old new : Client) (bytes : List ℕ) (result : Result LongTermClientValidation LongTermClientAuthError)
@@ -151,7 +151,7 @@ StayShort = (old new : Client) (bytes : List ℕ) (result : Result LongTermClien
 
 -- Texts can be decoded if the user's name can, and stay so.
 abbrev pub AreRead : Type 0
-AreRead = (client : Client) → client.challenge ≡ None → IfSome client.account (λ account. utf8_refusal account.username ≡ None) → HasReadTexts client
+AreRead = (client : Client) → client.challenge ≡ None → client.next_account ≡ None → IfSome client.account (λ account. utf8_refusal account.username ≡ None) → HasReadTexts client
 
 abbrev pub StayRead : Type 0
 StayRead = (old new : Client) (bytes : List ℕ) (result : Result LongTermClientValidation LongTermClientAuthError)

@@ -16,5 +16,5 @@ pub returns-clause-refreshes : goal.returns-clause-refreshes
 returns-clause-refreshes c = λ b choice address t last events old new now sent room chosen w is late due reached transmitted.
     let short = c.signed_allocates_answer.ensures.short b choice room chosen in
     refreshes b choice address t last events old w is
-    (λ number fits. c.proof_requests_are_read.ensures.number (signed_by b choice) refresh_for number (record { username = short.username; challenge = short.challenge }) (omega arith) fits)
+    (λ number fits. c.proof_requests_are_read.ensures.number (signed_by b choice) refresh_for number (record { username = short.username; next = short.next; software = short.software; challenge = short.challenge }) (omega arith) fits)
     now sent new late due reached transmitted

@@ -14,8 +14,8 @@ returns-clause-request c = λ b choice number room text chosen fits. by b choice
     by b choice number room text chosen fits =
         let s = c.signed_allocates_answer.ensures.short b choice room chosen in
         let r = c.signed_allocates_answer.ensures.read b choice text chosen in
-        let short : HasShortTexts (signed_by b choice) = record { username = s.username; challenge = s.challenge } in
-        let reads : HasReadTexts (signed_by b choice) = record { username = r.username; challenge = r.challenge; known = r.known } in
+        let short : HasShortTexts (signed_by b choice) = record { username = s.username; next = s.next; software = s.software; challenge = s.challenge } in
+        let reads : HasReadTexts (signed_by b choice) = record { username = r.username; next = r.next; challenge = r.challenge; known = r.known } in
         let laws = c.proof_requests_are_read.ensures in
         record {
           message = laws.message (signed_by b choice) refresh_for number short (omega arith) fits;

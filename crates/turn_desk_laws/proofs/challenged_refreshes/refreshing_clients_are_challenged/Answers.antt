@@ -10,7 +10,7 @@ use Rattle.turn_desk_laws.proofs.challenged_refreshes.refreshing_clients_are_cha
 numbered_so : (c : goal.After-signed_allocates_answer) (b : Beginning) → HasRoom b.config → (k : Choice) → IsChoice b k → (n : ℕ) → n < 2 ^ 96 → number_at (refresh_request b k n) ≡ n
 numbered_so c b room k chosen n fits =
     let s = c.signed_allocates_answer.ensures.short b k room chosen in
-    let short : HasShortTexts (signed_by b k) = record { username = s.username; challenge = s.challenge } in
+    let short : HasShortTexts (signed_by b k) = record { username = s.username; next = s.next; software = s.software; challenge = s.challenge } in
     c.proof_requests_are_read.ensures.number (signed_by b k) refresh_for n short (omega arith) fits
 
 pub returns : goal.returns
