@@ -1,8 +1,10 @@
 //! The trait of a TURN client's calls, and the types of their parameters and results: settings,
 //! events, errors, and what is sent and received.
 
-ghost use Rattle.std.specs.Prelude.{◌≡◌, ◌≢◌, ◌<◌, ◌^◌, ◌++◌, [], length, true, IfNone, IfOk, OnErr, OnOk, option_to_list};
+ghost use Rattle.std.specs.Prelude.{◌≡◌, ◌≢◌, ◌≤◌, ◌<◌, ◌^◌, ◌++◌, [], length, true, IfNone, IfOk, OnErr, OnOk, option_to_list};
 ghost use Rattle.std.specs.Option.{option_copied, option_map};
+ghost use Rattle.turn_client_proto_allocation.specs.StunTypesWire.Registry.{longest_username};
+ghost use Rattle.turn_client_proto_core.specs.Speaking.{with_fingerprint, with_next_credentials, with_software};
 ghost use Rattle.turn_client_proto_recv.specs.Closing.{after_close, is_joined};
 ghost use Rattle.turn_client_proto_recv.specs.Connecting.{IsConnectAnswered};
 ghost use Rattle.turn_client_proto_core.specs.Binding.{IsBindAnswered};
@@ -28,6 +30,7 @@ pub use crate::getters::{
 use std::convert::AsSlice;
 use std::fmt::Debug;
 use std::net::{IpAddr, SocketAddr};
+pub use stun_types_auth_attributes::software::Software;
 pub use stun_types_base::data::Data;
 use stun_types_base::instant::Instant;
 use stun_types_base::memory::NoMemory;
@@ -43,6 +46,7 @@ pub use turn_client_proto_api::error::{
 };
 pub use turn_client_proto_api::event::TurnEvent;
 pub use turn_client_proto_api::send::{DelayedMessageOrChannelSend, DelayedTransmit};
+pub use turn_types_attributes::credentials::TurnCredentials;
 pub use turn_types_frame::build::TransmitBuild;
 
 /// The latest time that may be passed to a client's calls: 2^62 nanoseconds after `Instant::ZERO`,
@@ -63,6 +67,7 @@ pub const CLIENT_END: u64 = 1 << 62;
 /// | time and events | `poll`, `poll_event` |
 /// | request something from the server | `create_permission`, `bind_channel`, `tcp_connect`, `delete` |
 /// | report what the caller did | `allocated_tcp_socket`, `tcp_closed`, `protocol_error` |
+/// | change what requests carry | `set_credentials`, `set_software`, `set_fingerprint` |
 /// | read the client's state, without changing it | `relayed_addresses`, `permissions`, `have_permission`, `channels`, `connections`, `transport`, `local_addr`, `remote_addr` |
 ///
 /// # What to call next
@@ -626,6 +631,36 @@ pub trait TurnClientApi: Debug + Send {
     /// 14.16). It is `None` as well if memory for it ran out.
     fn alternate_domain(&self) -> Option<&str>
         ensures { option_copied result ≡ (noted self.now).domain };
+
+    /// Sets other credentials, which replace the present ones with the next challenge that the
+    /// client accepts (RFC 8489, section 9.2.5): for passwords that expire, as those of a REST
+    /// service do. Call it before they expire.
+    ///
+    /// - Until a challenge comes, the client signs and validates as before, so what is outstanding
+    ///   still validates. The server challenges the first request that it no longer accepts, with
+    ///   401 or 438, and the client makes that request again under the new credentials.
+    /// - Credentials that were set before and are not in use yet are dropped.
+    /// - The user's name has at most 513 bytes.
+    fn set_credentials(&mut self, credentials: TurnCredentials)
+        requires name { length credentials.username ≤ longest_username }
+        ensures set { Leaves (λ old new. new ≡ with_next_credentials credentials old)
+            (stored self.old) (stored self.new) }
+        ensures noted { noted self.new ≡ noted self.old };
+
+    /// Sets the SOFTWARE that requests carry from now on (RFC 8489, section 14.14), or none, as at
+    /// first. It stands before the attributes that authenticate a request. Call it before the first
+    /// `poll_transmit` to have it in each.
+    fn set_software(&mut self, software: Option<Software>)
+        ensures set { Leaves (λ old new. new ≡ with_software software old)
+            (stored self.old) (stored self.new) }
+        ensures noted { noted self.new ≡ noted self.old };
+
+    /// Sets whether requests end with FINGERPRINT from now on (RFC 8489, section 14.7). At first
+    /// they don't. It tells a receiver that shares the socket with other protocols what is STUN.
+    fn set_fingerprint(&mut self, fingerprint: bool)
+        ensures set { Leaves (λ old new. new ≡ with_fingerprint fingerprint old)
+            (stored self.old) (stored self.new) }
+        ensures noted { noted self.new ≡ noted self.old };
 
     /// Ends the client, because a layer above has met an error and has no use for it any more. For
     /// each requested address family an event `AllocationCreateFailed` is queued.

@@ -11,6 +11,7 @@ use crate::udp::TurnClientUdp;
 use std::convert::AsSlice;
 use std::fmt::Debug;
 use std::net::{IpAddr, SocketAddr};
+use stun_types_auth_attributes::software::Software;
 use stun_types_base::data::Data;
 use stun_types_base::instant::Instant;
 use stun_types_base::memory::NoMemory;
@@ -25,6 +26,7 @@ use turn_client_proto_api::error::{
 };
 use turn_client_proto_api::event::TurnEvent;
 use turn_client_proto_api::send::DelayedMessageOrChannelSend;
+use turn_types_attributes::credentials::TurnCredentials;
 use turn_types_frame::build::TransmitBuild;
 
 /// A TURN client over UDP or TCP. Its calls are those of the client inside.
@@ -249,6 +251,27 @@ impl TurnClientApi for TurnClient {
         match self {
             TurnClient::Udp(client) => client.protocol_error(),
             TurnClient::Tcp(client) => client.protocol_error(),
+        }
+    }
+
+    fn set_credentials(&mut self, credentials: TurnCredentials) {
+        match self {
+            TurnClient::Udp(client) => client.set_credentials(credentials),
+            TurnClient::Tcp(client) => client.set_credentials(credentials),
+        }
+    }
+
+    fn set_software(&mut self, software: Option<Software>) {
+        match self {
+            TurnClient::Udp(client) => client.set_software(software),
+            TurnClient::Tcp(client) => client.set_software(software),
+        }
+    }
+
+    fn set_fingerprint(&mut self, fingerprint: bool) {
+        match self {
+            TurnClient::Udp(client) => client.set_fingerprint(fingerprint),
+            TurnClient::Tcp(client) => client.set_fingerprint(fingerprint),
         }
     }
 

@@ -20,6 +20,7 @@ use std::convert::AsSlice;
 use std::fmt::Debug;
 use std::marker::Model;
 use std::net::{IpAddr, SocketAddr};
+use stun_types_auth_attributes::software::Software;
 use stun_types_base::data::Data;
 use stun_types_base::instant::Instant;
 use stun_types_base::memory::NoMemory;
@@ -44,6 +45,7 @@ use turn_client_proto_recv::notes::Notes;
 use turn_client_proto_recv::stream::{ask, receive};
 use turn_client_proto_recv::{closing, connecting, socket};
 use turn_client_proto_timers::{deleting, drawing, polling};
+use turn_types_attributes::credentials::TurnCredentials;
 use turn_types_frame::build::TransmitBuild;
 use turn_types_frame::tcp::TurnTcpBuffer;
 
@@ -274,6 +276,18 @@ impl TurnClientApi for TurnClientTcp {
         self.notes
             .note_call(events, &self.protocol, TurnCause::SocketClosed);
         Ok(())
+    }
+
+    fn set_credentials(&mut self, credentials: TurnCredentials) {
+        self.protocol.set_credentials(credentials);
+    }
+
+    fn set_software(&mut self, software: Option<Software>) {
+        self.protocol.set_software(software);
+    }
+
+    fn set_fingerprint(&mut self, fingerprint: bool) {
+        self.protocol.set_fingerprint(fingerprint);
     }
 
     fn cause(&self) -> Option<&TurnCause> {

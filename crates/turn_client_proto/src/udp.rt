@@ -16,6 +16,7 @@ use std::convert::AsSlice;
 use std::fmt::Debug;
 use std::marker::Model;
 use std::net::{IpAddr, SocketAddr};
+use stun_types_auth_attributes::software::Software;
 use stun_types_base::data::Data;
 use stun_types_base::instant::Instant;
 use stun_types_base::memory::NoMemory;
@@ -40,6 +41,7 @@ use turn_client_proto_recv::datagram::{is_of_server, take_datagram};
 use turn_client_proto_recv::notes::Notes;
 use turn_client_proto_recv::{closing, connecting, socket};
 use turn_client_proto_timers::{deleting, drawing, polling};
+use turn_types_attributes::credentials::TurnCredentials;
 use turn_types_frame::build::TransmitBuild;
 
 /// A TURN client over UDP: it exchanges datagrams with the server, and has an allocation over UDP.
@@ -232,6 +234,18 @@ impl TurnClientApi for TurnClientUdp {
         self.notes
             .note_call(events, &self.protocol, TurnCause::SocketClosed);
         Ok(())
+    }
+
+    fn set_credentials(&mut self, credentials: TurnCredentials) {
+        self.protocol.set_credentials(credentials);
+    }
+
+    fn set_software(&mut self, software: Option<Software>) {
+        self.protocol.set_software(software);
+    }
+
+    fn set_fingerprint(&mut self, fingerprint: bool) {
+        self.protocol.set_fingerprint(fingerprint);
     }
 
     fn cause(&self) -> Option<&TurnCause> {

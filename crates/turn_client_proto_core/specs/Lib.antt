@@ -11,6 +11,7 @@ pub mod Outcomes
 pub mod Permitting
 pub mod Receiving
 pub mod Responding
+pub mod Speaking
 pub mod Standing
 -- Re-exports for the crates above this one.
 pub use Rattle.stun_proto_client.specs as StunProtoClient

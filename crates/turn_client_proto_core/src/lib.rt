@@ -15,5 +15,6 @@ pub mod number;
 pub mod permitting;
 pub mod protocol;
 pub mod receiving;
+pub mod speaking;
 pub mod standing;
 pub mod transactions;
