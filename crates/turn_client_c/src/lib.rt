@@ -13,6 +13,8 @@ ghost use Rattle.turn_client_c_calls.specs.Codes.{bad_family, bad_length, bad_se
 ghost use Rattle.turn_client_c_calls.specs.Lengths.{is_bad_length};
 ghost use Rattle.turn_client_c_calls.specs.Opened.{HoldsOpened, WhyNot};
 ghost use Rattle.turn_client_c_calls.specs.Visible.{Lists, Shows, is_permitted, permitted_of, reported_channel, reported_connection, reported_relayed};
+ghost use Rattle.turn_client_c_calls.specs.Speaking.{WhyNoSoftware, WhyNotSet, software_of};
+ghost use Rattle.turn_client_c_calls.specs.TurnClientProtoCore.Speaking.{with_fingerprint, with_next_credentials, with_software};
 ghost use Rattle.turn_client_c_calls.specs.Sockets.{IsClosedReported, own_tuple};
 ghost use Rattle.turn_client_c_calls.specs.Traffic.{IsTransmittedReported, IsFed, IsPulledReported, IsReadReported, IsSendReported, message_room, send_extra};
 ghost use Rattle.turn_client_c_calls.specs.Waits.{IsEventReported, IsPollReported};
@@ -27,7 +29,7 @@ ghost use Rattle.turn_client_c_types.specs.Addresses.{address_of, socket_of, rep
 use std::alloc::Global;
 use turn_client_c_calls::getters::{TurnChannel, TurnConnection, TurnRelayed};
 use turn_client_c_calls::handle::TurnHandle;
-use turn_client_c_calls::{asking, causes, getters, opening, sockets, traffic, waiting};
+use turn_client_c_calls::{asking, causes, getters, opening, sockets, speaking, traffic, waiting};
 use turn_client_c_types::address::TurnAddress;
 use turn_client_c_types::cause::TurnClientCause;
 use turn_client_c_types::event::TurnClientEvent;
@@ -357,6 +359,54 @@ pub extern "C" fn turn_client_closed(
         OnStored (IsClosedReported here server answer) old new)))) }
 {
     sockets::turn_client_closed(alloc, client, local, remote, now)
+}
+
+/// Sets other credentials, which replace the present ones with the next challenge that the client
+/// accepts.
+#[unsafe(no_mangle)]
+pub extern "C" fn turn_client_credentials(
+    alloc: Global,
+    client: &mut TurnHandle,
+    username: &[u8],
+    password: &[u8],
+) -> i32
+    ensures set { result ≡ ok → OnClient client.old.boxed_client.value
+        client.new.boxed_client.value result (OnCore (λ old new. new ≡ with_next_credentials
+        (record { username = username.now; password = password.now }) old)) }
+    ensures stays { result ≢ ok → client.new.boxed_client.value ≡ client.old.boxed_client.value }
+    ensures why { WhyNotSet client.old.boxed_client.value username.now password.now result }
+{
+    speaking::turn_client_credentials(alloc, client, username, password)
+}
+
+/// Sets the SOFTWARE that requests carry from now on, or none, if the text is empty.
+#[unsafe(no_mangle)]
+pub extern "C" fn turn_client_software(
+    alloc: Global,
+    client: &mut TurnHandle,
+    text: &[u8],
+) -> i32
+    ensures set { result ≡ ok → OnClient client.old.boxed_client.value
+        client.new.boxed_client.value result
+        (OnCore (λ old new. new ≡ with_software (software_of text.now) old)) }
+    ensures stays { result ≢ ok → client.new.boxed_client.value ≡ client.old.boxed_client.value }
+    ensures why { WhyNoSoftware client.old.boxed_client.value text.now result }
+{
+    speaking::turn_client_software(alloc, client, text)
+}
+
+/// Sets whether requests end with FINGERPRINT from now on.
+#[unsafe(no_mangle)]
+pub extern "C" fn turn_client_fingerprint(
+    alloc: Global,
+    client: &mut TurnHandle,
+    fingerprint: bool,
+) -> i32
+    ensures { OnClient client.old.boxed_client.value client.new.boxed_client.value result
+        (λ old new. (result ≡ ok)
+        × OnCore (λ old new. new ≡ with_fingerprint fingerprint old) old new) }
+{
+    speaking::turn_client_fingerprint(alloc, client, fingerprint)
 }
 
 /// Writes the relayed addresses, as many as there is room for. Returns how many there are.

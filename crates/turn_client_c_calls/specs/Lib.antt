@@ -7,6 +7,7 @@ pub mod Lengths
 pub mod Opened
 pub mod Visible
 pub mod Sockets
+pub mod Speaking
 pub mod Traffic
 pub mod Waits
 -- Re-exported for the crates above this one.

@@ -1,8 +1,8 @@
 //! The bodies of the calls of `bindings/c/include/turn_client.h`, with C's types: a handle,
 //! addresses, numbers and bytes.
 //!
-//! Each call is a function of `opening`, `traffic`, `waiting`, `causes`, `asking`, `sockets` or
-//! `getters`.
+//! Each call is a function of `opening`, `traffic`, `waiting`, `causes`, `asking`, `sockets`,
+//! `speaking` or `getters`.
 //! Its contract states its effect on the client in terms of the trait `TurnClientApi`.
 //! `turn_client_c` exports the calls.
 #![tactic(auto)]
@@ -16,6 +16,7 @@ mod lengths;
 pub mod opening;
 mod raw_box;
 pub mod sockets;
+pub mod speaking;
 mod status;
 pub mod traffic;
 pub mod waiting;
