@@ -1,6 +1,6 @@
 //! The client's authenticator, with texts that are short enough to be written.
 
-ghost use Rattle.std.specs.Prelude.{◌≡◌, ◌≢◌, ◌≤◌, [], IfOk, None, true, length};
+ghost use Rattle.std.specs.Prelude.{◌≡◌, ◌≢◌, ◌≤◌, [], IfOk, Some, None, true, length};
 ghost use Rattle.std.specs.List.{IsDistinct};
 ghost use Rattle.stun_proto_auth.specs.SupportedAlgorithms.{is_same_algorithm};
 ghost use Rattle.stun_types_wire.specs.Grammar.{number_at, refusal};
@@ -18,6 +18,7 @@ use std::marker::Model;
 use stun_proto_client::error::LongTermClientAuthError;
 use stun_proto_client::long_term::LongTermClientAuth;
 use stun_proto_client::validation::LongTermClientValidation;
+use stun_types_auth_attributes::software::Software;
 use stun_types_base::memory::NoMemory;
 use stun_types_integrity::credentials::LongTermCredentials;
 use stun_types_message::parsed::Message;
@@ -81,6 +82,37 @@ impl Signer {
         ensures { result ≡ self.now.hardened }
     {
         self.auth.is_hardened()
+    }
+
+    /// Sets the SOFTWARE that the client's requests carry from now on, or none (RFC 8489, section
+    /// 14.14).
+    pub fn set_software(&mut self, software: Option<Software>)
+        ensures { self.new ≡ record self.old {
+          style = record self.old.style { software = software };
+        } }
+    {
+        if let Some(set) = &software {
+            let _text = set.software();
+        }
+        self.auth.set_software(software);
+    }
+
+    /// Sets whether the client's requests end with FINGERPRINT from now on (RFC 8489, section 14.7).
+    pub fn set_fingerprint(&mut self, fingerprint: bool)
+        ensures { self.new ≡ record self.old {
+          style = record self.old.style { fingerprint = fingerprint };
+        } }
+    {
+        self.auth.set_fingerprint(fingerprint);
+    }
+
+    /// Sets the credentials that replace the present ones when the next challenge is stored. Until
+    /// then requests are signed and responses validated under the present ones.
+    pub fn set_next_credentials(&mut self, credentials: LongTermCredentials)
+        requires { length credentials.username ≤ longest_username }
+        ensures { self.new ≡ record self.old { next_account = Some credentials } }
+    {
+        self.auth.set_next_credentials(credentials);
     }
 
     /// Validates a received message, as `LongTermClientAuth::validate_incoming_message` does.
