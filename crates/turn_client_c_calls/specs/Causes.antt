@@ -2,7 +2,7 @@
 use Rattle.std.specs.Prelude.{◌≡◌, ℕ, ℤ, nat_lt, List, length, Option, Some, None, if◌then◌else◌}
 use Rattle.std.specs.declared.net.socket_addr.SocketAddr.{SocketAddr}
 use Rattle.turn_client_proto.specs.Clients.{noted_of}
-use Rattle.turn_client_proto.specs.Recv.Notes.{cause_taken}
+use Rattle.turn_client_proto.specs.Api.Causes.{cause_taken}
 use Rattle.turn_client_proto.specs.Recv.declared.notes.Notes.{Notes}
 use Rattle.turn_client_c_calls.specs.Codes as code
 use Rattle.turn_client_c_calls.specs.Held.{Held}

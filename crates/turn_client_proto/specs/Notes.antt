@@ -2,8 +2,8 @@
 use Rattle.std.specs.Prelude.{◌≡◌, ◌⊎◌, ℕ}
 use Rattle.turn_client_proto_api.specs.declared.cause.TurnCause.{TurnCause}
 use Rattle.turn_client_proto_api.specs.declared.cause.TurnCause.TheVariants.{Expired, Unanswered}
-use Rattle.turn_client_proto_recv.specs.Notes.{IsPushed}
-use Rattle.turn_client_proto_recv.specs.declared.notes.Causes.{Causes}
+use Rattle.turn_client_proto_api.specs.Causes.{IsPushed}
+use Rattle.turn_client_proto_api.specs.declared.causes.Causes.{Causes}
 use Rattle.turn_client_proto_recv.specs.declared.notes.Notes.{Notes}
 
 -- Events of `poll` were noted, one after another. Each has the cause that no response came in time, or that time was

@@ -2,15 +2,16 @@
 
 ghost use Rattle.std.specs.Prelude.{◌≡◌, ◌⊎◌, ◌<◌};
 ghost use Rattle.turn_client_proto_api.specs.declared.cause.TurnCause.TheVariants.{Expired, Unanswered};
-ghost use Rattle.turn_client_proto_recv.specs.declared.notes.Causes.{Causes as Noted};
+ghost use Rattle.turn_client_proto_api.specs.declared.causes.Causes.{Causes as Noted};
 ghost use Rattle.turn_client_proto.specs.Notes.{AreTimed, IsPollNoted};
 
 use std::net::IpAddr;
 use turn_client_proto_allocation::allocation::Allocation;
 use turn_client_proto_api::cause::TurnCause;
+use turn_client_proto_api::causes::Causes;
 use turn_client_proto_api::event::TurnEvent;
 use turn_client_proto_core::protocol::Protocol;
-use turn_client_proto_recv::notes::{Causes, Notes};
+use turn_client_proto_recv::notes::Notes;
 
 /// How many permissions and channels are requested and not granted yet, by the family of the
 /// relayed address: IPv4, then IPv6.

@@ -1,3 +1,4 @@
+pub mod Causes
 pub mod Config
 pub mod Families
 pub mod FamilyOrders

@@ -4,6 +4,7 @@
 
 pub mod answer;
 pub mod cause;
+pub mod causes;
 pub mod config;
 pub mod data;
 pub mod error;

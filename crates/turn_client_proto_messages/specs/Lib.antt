@@ -10,6 +10,7 @@ pub mod Waiting
 pub mod Granting
 pub mod Reporting
 pub mod Reported
+pub mod Noted
 -- The crates above this one use these definitions through this file.
 pub use Rattle.stun_types_base.specs as StunTypesBase
 pub use Rattle.stun_types_wire.specs as StunTypesWire

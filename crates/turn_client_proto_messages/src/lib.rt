@@ -6,6 +6,7 @@ pub mod answer;
 mod attributes;
 pub mod granting;
 pub mod laws;
+pub mod noted;
 pub mod queued;
 pub mod reported;
 pub mod reporting;

@@ -11,7 +11,6 @@ pub mod Pulls
 pub mod Receipts
 pub mod SocketChunks
 pub mod Waiting
-pub mod Reported
 pub mod Notes
 -- Re-exports for the crates above this one.
 pub use Rattle.turn_types_attributes.specs as TurnTypesAttributes

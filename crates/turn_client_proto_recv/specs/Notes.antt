@@ -1,6 +1,6 @@
 -- What a client notes of the messages that it handles: why its events happened, its own address as the server
 -- saw it, and the server to which it was redirected.
-use Rattle.std.specs.Prelude.{◌≡◌, ℕ, ◌-◌, ◌==◌, nat_lt, Bool, true, false, not, ◌&&◌, ◌||◌, List, [], ◌∷◌, ◌++◌, length, Option, Some, None, is_some, if◌then◌else◌, ◌⊎◌}
+use Rattle.std.specs.Prelude.{◌≡◌, ℕ, ◌==◌, Bool, true, false, not, ◌&&◌, ◌||◌, List, length, Option, Some, None, is_some, if◌then◌else◌, ◌⊎◌}
 use Rattle.std.specs.Bool.{MatchBool}
 use Rattle.std.specs.declared.net.socket_addr.SocketAddr.{SocketAddr}
 use Rattle.stun_types_wire.specs.Attributes.{kind_at}
@@ -10,7 +10,6 @@ use Rattle.turn_client_proto_messages.specs.TurnTypesPeer.TurnShows.{first_visib
 use Rattle.turn_client_proto_api.specs.StunProtoAgent.Handling.{is_awaited}
 use Rattle.turn_client_proto_allocation.specs.declared.allocation.Allocation.{Allocation}
 use Rattle.turn_client_proto_api.specs.declared.event.TurnEvent.{TurnEvent}
-use Rattle.turn_client_proto_api.specs.declared.event.TurnEvent.TheVariants.{AllocationCreated, AllocationCreateFailed, PermissionCreated, PermissionCreateFailed, ChannelCreated, ChannelCreateFailed, TcpConnected, TcpConnectFailed}
 use Rattle.turn_client_proto_core.specs.Deleting.{is_authenticated}
 use Rattle.turn_client_proto_core.specs.Ending.{HasFailed}
 use Rattle.turn_client_proto_core.specs.Receiving.{IsProcessed}
@@ -20,13 +19,12 @@ use Rattle.turn_client_proto_core.specs.declared.protocol.Phase.TheVariants.{Ini
 use Rattle.turn_client_proto_core.specs.declared.protocol.Protocol.{Protocol}
 use Rattle.turn_client_proto_messages.specs.Reported.{first_code, is_code, lifetime_reported}
 use Rattle.turn_client_proto_recv.specs.Processing.{IsProcessedAt}
-use Rattle.turn_client_proto_recv.specs.Reported.{alternate_reported, domain_reported, is_relaying, mapped_reported, reason_reported}
+use Rattle.turn_client_proto_messages.specs.Noted.{alternate_reported, domain_reported, is_relaying, mapped_reported, reason_reported}
+use Rattle.turn_client_proto_api.specs.Causes.{IsPushed, advanced, no_causes}
 use Rattle.turn_client_proto_api.specs.declared.cause.TurnCause.{TurnCause}
-use Rattle.turn_client_proto_api.specs.declared.cause.TurnCause.TheVariants.{Rejected, Integrity, NoCommonAlgorithm, OtherFamily, OutOfMemory, Unusable}
+use Rattle.turn_client_proto_api.specs.declared.cause.TurnCause.TheVariants.{Rejected, Integrity, NoCommonAlgorithm, OtherFamily, Unusable}
 use Rattle.turn_client_proto_recv.specs.declared.notes.Before.{Before}
-use Rattle.turn_client_proto_recv.specs.declared.notes.Causes.{Causes}
 use Rattle.turn_client_proto_recv.specs.declared.notes.Notes.{Notes}
-use Rattle.turn_client_proto_recv.specs.declared.notes.Run.{Run}
 
 -- ---- before a message is handled
 
@@ -119,56 +117,12 @@ cause_of before bytes new = if not (has_ended before bytes new) then cause_unend
 abbrev pub cause_at : List ℕ → TurnCause
 cause_at bytes = rejected_or false Unusable bytes
 
--- ---- the causes of events
-
--- The causes after this one was noted for the events after the first `before` of `events`.
-abbrev pub pushed : (before events : ℕ) → TurnCause → Causes → Causes
-pushed before events cause c = record c {
-  runs = c.runs ++ record { count = events - before; cause = cause } ∷ [];
-  covered = events;
-}
-
--- The causes after events may have been queued: the cause is noted for those that were. Or it is not, because
--- memory ran out, or ran out earlier: the cause of another event that is still queued is not noted.
-pub data IsPushed (before events : ℕ) (cause : TurnCause) (old new : Causes) : Type 0 where
-  Pushed : nat_lt before events ≡ true → old.covered ≡ before → new ≡ pushed before events cause old
-      → IsPushed before events cause old new
-  Short : new ≡ old → IsPushed before events cause old new
-
--- The event reports that something failed or ended.
-abbrev pub is_failure : TurnEvent → Bool
-is_failure (AllocationCreated transport relayed) = false
-is_failure (AllocationCreateFailed family) = true
-is_failure (PermissionCreated transport ip) = false
-is_failure (PermissionCreateFailed transport ip) = true
-is_failure (ChannelCreated transport peer) = false
-is_failure (ChannelCreateFailed transport peer) = true
-is_failure (TcpConnected peer) = false
-is_failure (TcpConnectFailed peer) = true
-
--- The causes after the event that follows the last of a run was taken.
-abbrev pub next_run : List Run → Causes → Causes
-next_run [] c = record c { last = OutOfMemory }
-next_run (run ∷ rest) c = record c { runs = rest; left = run.count - 1; last = run.cause }
-
--- The causes after the oldest event was taken. Its cause is that of the event before it, if one message or
--- call queued both; else it is the next one, or none that was noted.
-abbrev pub advanced : TurnEvent → Causes → Causes
-advanced event c = record (if nat_lt 0 c.left then record c { left = c.left - 1 } else next_run c.runs c) {
-  covered = c.covered - 1;
-  is_failure = is_failure event;
-}
-
--- The cause of the event that was taken last. One that reports a success has none.
-abbrev pub cause_taken : Causes → Option TurnCause
-cause_taken c = if c.is_failure then Some c.last else None
-
 -- ---- the notes
 
 -- The notes of a new client.
 abbrev pub no_notes : Notes
 no_notes = record {
-  causes = record { runs = []; covered = 0; left = 0; last = OutOfMemory; is_failure = false };
+  causes = no_causes;
   mapped = None;
   alternate = None;
   domain = None;

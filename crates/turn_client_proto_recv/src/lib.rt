@@ -11,7 +11,6 @@ pub mod handing;
 pub mod notes;
 pub mod processing;
 pub mod pulling;
-pub mod reported;
 pub mod socket;
 pub mod sockets;
 pub mod stream;

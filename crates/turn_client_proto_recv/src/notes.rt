@@ -7,11 +7,8 @@ ghost use Rattle.std.specs.Prelude.{◌≡◌, IfOk, length};
 ghost use Rattle.stun_types_wire.specs.Attributes.{kind_at};
 ghost use Rattle.stun_types_wire.specs.Types.{class_of};
 ghost use Rattle.turn_client_proto_core.specs.Responding.{is_error_class};
-ghost use Rattle.turn_client_proto_recv.specs.Notes.{IsCaused, IsNotedAt, IsNotedBy, IsPushed, IsRedirectNoted, advanced, after_event, before_of, cause_of, cause_signed, cause_taken, cause_unended, cause_unsigned, has_ended, is_allocated, is_challenge, is_failure, is_redirected, no_notes, rejected_or};
+ghost use Rattle.turn_client_proto_recv.specs.Notes.{IsCaused, IsNotedAt, IsNotedBy, IsRedirectNoted, after_event, before_of, cause_of, cause_signed, cause_unended, cause_unsigned, has_ended, is_allocated, is_challenge, is_redirected, no_notes, rejected_or};
 
-use crate::reported::{
-    alternate_reported, domain_reported, is_relaying, mapped_reported, reason_reported,
-};
 use std::alloc::Global;
 use std::net::SocketAddr;
 use stun_types_base::memory::NoMemory;
@@ -19,9 +16,12 @@ use stun_types_message::parsed::Message;
 use stun_types_wire::class::MessageClass;
 use stun_types_wire::registry::{NONCE, REALM, STALE_NONCE, TRY_ALTERNATE, UNAUTHORIZED};
 use turn_client_proto_api::cause::{MessageText, TurnCause};
+use turn_client_proto_api::causes::Causes;
 use turn_client_proto_api::event::TurnEvent;
-use turn_client_proto_api::queue::QueueOf;
 use turn_client_proto_core::protocol::{Phase, Protocol};
+use turn_client_proto_messages::noted::{
+    alternate_reported, domain_reported, is_relaying, mapped_reported, reason_reported,
+};
 use turn_client_proto_messages::reported::{first_code, lifetime_reported};
 
 /// What is noted of a client before it handles a message.
@@ -51,104 +51,6 @@ impl Before {
     }
 }
 
-/// The cause of the events that one message or one call queued.
-#[derive(Debug, Drop)]
-pub struct Run {
-    /// How many events it queued, at least one.
-    pub count: usize,
-    /// The cause of those that report that something failed or ended.
-    pub cause: TurnCause,
-}
-
-/// The causes of a client's queued events, and of the event that was polled last.
-///
-/// The causes are those of the oldest events: if memory for a cause runs out, it and those of later
-/// events are not noted, until no event is queued.
-#[derive(Debug, Drop)]
-pub struct Causes {
-    /// The causes, in the order of the events. There are no more than queued events.
-    pub runs: QueueOf<Run>,
-    /// How many of the queued events, from the oldest, have their cause here or in `last`.
-    pub covered: usize,
-    /// How many of the queued events, from the oldest, have the cause `last`.
-    pub left: usize,
-    /// The cause of the event that was polled last, and of those queued with it.
-    pub last: TurnCause,
-    /// Whether the event that was polled last reports that something failed or ended.
-    pub is_failure: bool,
-}
-
-impl Causes {
-    /// Notes the cause of the events that were queued since `before` were, if there are some now
-    /// that there are `events`. If memory runs out, or the cause of an earlier event is not noted,
-    /// nothing changes.
-    pub fn push(&mut self, before: usize, events: usize, cause: TurnCause)
-        ensures { IsPushed before events cause self.old self.new }
-    {
-        if self.covered != before || before >= events {
-            return;
-        }
-        let run = Run {
-            count: events - before,
-            cause,
-        };
-        if self.runs.push_back(run).is_ok() {
-            self.covered = events;
-        }
-    }
-}
-
-impl Causes {
-    /// Goes on to the cause of the oldest queued event, which is taken from the queue now.
-    pub fn advance(&mut self, event: TurnEvent)
-        ensures { self.new ≡ advanced event self.old }
-    {
-        self.is_failure = is_failure(event);
-        self.covered = self.covered.saturating_sub(1);
-        if self.left > 0 {
-            self.left -= 1;
-            return;
-        }
-        match self.runs.pop_front() {
-            Some(run) => {
-                self.left = run.count.saturating_sub(1);
-                self.last = run.cause;
-            }
-            None => {
-                self.last = TurnCause::OutOfMemory;
-            }
-        }
-    }
-
-    /// Returns the cause of the event that was taken last, or `None` if that reports a success, or
-    /// if none was taken.
-    pub fn cause(&self) -> Option<&TurnCause>
-        ensures { option_copied result ≡ cause_taken self.now }
-    {
-        if self.is_failure {
-            Some(&self.last)
-        } else {
-            None
-        }
-    }
-}
-
-/// Returns whether an event reports that something failed or ended.
-fn is_failure(event: TurnEvent) -> bool
-    ensures { result ≡ is_failure event }
-{
-    match event {
-        TurnEvent::AllocationCreateFailed(_)
-        | TurnEvent::PermissionCreateFailed(..)
-        | TurnEvent::ChannelCreateFailed(..)
-        | TurnEvent::TcpConnectFailed(_) => true,
-        TurnEvent::AllocationCreated(..)
-        | TurnEvent::PermissionCreated(..)
-        | TurnEvent::ChannelCreated(..)
-        | TurnEvent::TcpConnected(_) => false,
-    }
-}
-
 /// What a client notes.
 #[derive(Debug, Drop)]
 pub struct Notes {
@@ -169,13 +71,7 @@ impl Notes {
         ensures { result ≡ no_notes }
     {
         Notes {
-            causes: Causes {
-                runs: QueueOf::new(alloc),
-                covered: 0,
-                left: 0,
-                last: TurnCause::OutOfMemory,
-                is_failure: false,
-            },
+            causes: Causes::new(alloc),
             mapped: None,
             alternate: None,
             domain: None,

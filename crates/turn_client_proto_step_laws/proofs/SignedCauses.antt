@@ -22,7 +22,7 @@ use Rattle.turn_client_proto_timers.specs.Api.declared.cause.TurnCause.TheVarian
 use Rattle.turn_client_proto_timers.specs.TurnRuns.Indications.{is_indication}
 use Rattle.turn_client_proto_timers.specs.Messages.Judging.{IsJudged}
 use Rattle.turn_client_proto_timers.specs.Messages.Reported.{first_code, lifetime_reported}
-use Rattle.turn_client_proto_recv.specs.Reported.{is_relaying}
+use Rattle.turn_client_proto_timers.specs.Messages.Noted.{is_relaying}
 use Rattle.turn_client_proto_timers.specs.Core.Asking.{requested}
 use Rattle.turn_client_proto_timers.specs.Core.Authenticating.{IsAllocatingAgain, IsChallenged, IsSignedJudged, allocates_again}
 use Rattle.turn_client_proto_timers.specs.Core.Deleting.{is_authenticated}

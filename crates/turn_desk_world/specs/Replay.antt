@@ -9,7 +9,7 @@ use Rattle.line_io.specs.declared.stop.Stop.{Stop}
 use Rattle.line_io.specs.declared.stop.Stop.TheVariants as stop
 use Rattle.turn_client_proto.specs.Clients.{noted_of, stored_of}
 use Rattle.turn_client_proto.specs.Recv.ClientState.{ClientState}
-use Rattle.turn_client_proto.specs.Recv.Notes.{cause_taken}
+use Rattle.turn_client_proto.specs.Api.Causes.{cause_taken}
 use Rattle.turn_client_proto.specs.Recv.declared.notes.Notes.{Notes}
 use Rattle.turn_client_proto.specs.declared.client.TurnClient.{TurnClient}
 use Rattle.turn_desk_event.specs.declared.answer.Answer.{Answer}

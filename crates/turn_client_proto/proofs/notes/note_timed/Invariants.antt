@@ -1,4 +1,4 @@
-use Rattle.turn_client_proto_recv.specs.declared.notes.Causes.{Causes}
+use Rattle.turn_client_proto_api.specs.declared.causes.Causes.{Causes}
 use Rattle.turn_client_proto.specs.Notes.{AreTimed}
 use Rattle.turn_client_proto.proofs.notes.note_timed.Given as goal
 

@@ -10,7 +10,7 @@ use Rattle.stun_types_wire.specs.Registry.{alternate_domain_kind, alternate_serv
 use Rattle.stun_types_wire.specs.declared.error.StunParseError.{StunParseError}
 use Rattle.stun_types_write.specs.ValueReading.{text_read_refusal, utf8_refusal}
 use Rattle.turn_types_attributes.specs.TurnRegistry.{xor_relayed_address_kind}
-use Rattle.turn_client_proto_messages.specs.TurnTypesPeer.TurnShows.{first_visible, unless_refused}
+use Rattle.turn_types_peer.specs.TurnShows.{first_visible, unless_refused}
 
 -- The address in an XOR-MAPPED-ADDRESS of a message with this transaction ID, if that is well formed.
 abbrev pub mapped_in : ℕ → Attr → Option SocketAddr

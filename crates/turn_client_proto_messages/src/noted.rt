@@ -1,7 +1,7 @@
 //! What the client notes of the server's messages.
 
 ghost use Rattle.std.specs.Prelude.{◌≡◌, IfOk};
-ghost use Rattle.turn_client_proto_recv.specs.Reported.{alternate_reported, domain_reported, is_relaying, mapped_reported, phrase_of, reason_reported};
+ghost use Rattle.turn_client_proto_messages.specs.Noted.{alternate_reported, domain_reported, is_relaying, mapped_reported, phrase_of, reason_reported};
 
 use std::alloc::Global;
 use std::convert::TryFrom;
