@@ -579,6 +579,9 @@ _AT = ctypes.POINTER(_Address)
 _CALLS: dict[str, tuple[Any, Sequence[Any]]] = {
     "open": (_STATUS, (ctypes.POINTER(_Settings), _BYTES, _SIZE, _BYTES, _SIZE, ctypes.POINTER(_Seed))),
     "close": (None, ()),
+    "credentials": (_STATUS, (_BYTES, _SIZE, _BYTES, _SIZE)),
+    "software": (_STATUS, (_BYTES, _SIZE)),
+    "fingerprint": (_STATUS, (ctypes.c_bool,)),
     "delete": (_STATUS, (_MOMENT,)),
     "feed": (_STATUS, (_AT, _AT, _BYTES, _SIZE, _MOMENT, ctypes.POINTER(_Payload))),
     "pull": (_STATUS, (_MOMENT, ctypes.POINTER(_Payload))),
@@ -770,6 +773,23 @@ class TurnClient:
         """Makes a call that answers a status."""
         with self._lock:
             return _checked(_CALL[name](self._client, *given))
+
+    def set_credentials(self, username: str, password: str) -> None:
+        """Sets other credentials, which replace the present ones with the next challenge that the client accepts: for
+        passwords that expire. Until then it signs and validates as before. Call it before they expire.
+        BadText, LongName, NoMemory."""
+        name, secret = (it.encode("utf-8", "surrogatepass") for it in (username, password))
+        self._status("credentials", name, len(name), secret, len(secret))
+
+    def set_software(self, text: str) -> None:
+        """Sets the text of SOFTWARE, which requests carry from now on; an empty text for none, as at first. It has at
+        most 763 bytes. BadText, TooLarge, NoMemory."""
+        given = text.encode("utf-8", "surrogatepass")
+        self._status("software", given, len(given))
+
+    def set_fingerprint(self, fingerprint: bool) -> None:
+        """Sets whether requests end with FINGERPRINT from now on. At first they don't."""
+        self._status("fingerprint", bool(fingerprint))
 
     def delete(self, now: int) -> None:
         """Asks for the end of the allocations, which are over for the client at once: take turns until poll answers

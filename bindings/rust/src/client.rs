@@ -9,12 +9,12 @@ use std::time::Duration;
 
 use crate::address::{read, read_transport, told, told_ip, told_moment, told_transport};
 use crate::api::{
-    Channel, Connection, Transmit, TransportType, TurnCause, TurnConfig, TurnEvent, TurnPeerData, TurnPollRet,
-    TurnRecvRet,
+    Channel, Connection, Transmit, TransportType, TurnCause, TurnConfig, TurnCredentials, TurnEvent, TurnPeerData,
+    TurnPollRet, TurnRecvRet,
 };
 use crate::error::{
-    AllocateError, BindChannelError, CreatePermissionError, DeleteError, PollError, PollTransmitError, RecvError,
-    SendError, TcpAllocateError, TcpClosedError, TcpConnectError,
+    AllocateError, BindChannelError, CreatePermissionError, CredentialsError, DeleteError, PollError,
+    PollTransmitError, RecvError, SendError, SoftwareError, TcpAllocateError, TcpClosedError, TcpConnectError,
 };
 use crate::sys;
 
@@ -299,6 +299,38 @@ pub trait TurnClientApi: HasHandle {
             is_bound: it.is_bound,
         };
         held.iter().map(connection).collect()
+    }
+
+    /// Sets other credentials, which replace the present ones with the next challenge that the client accepts: for
+    /// passwords that expire. Until then it signs and validates as before. Call it before they expire.
+    fn set_credentials(&mut self, credentials: &TurnCredentials) -> Result<(), CredentialsError> {
+        let (name, password) = (credentials.username(), credentials.password());
+        // SAFETY: the handle is open; pointers and lengths are of texts that live as long as the call.
+        let status = unsafe {
+            sys::turn_client_credentials(
+                self.handle_mut().at(),
+                name.as_ptr(),
+                name.len(),
+                password.as_ptr(),
+                password.len(),
+            )
+        };
+        outcome(status, CredentialsError::of)
+    }
+
+    /// Sets the text of SOFTWARE (RFC 8489, section 14.14), which requests carry from now on; an empty text for none, as
+    /// at first. Call it before the first `poll_transmit` to have it in each.
+    fn set_software(&mut self, text: &str) -> Result<(), SoftwareError> {
+        // SAFETY: the handle is open; pointer and length are of a text that lives as long as the call.
+        let status = unsafe { sys::turn_client_software(self.handle_mut().at(), text.as_ptr(), text.len()) };
+        outcome(status, SoftwareError::of)
+    }
+
+    /// Sets whether requests end with FINGERPRINT (RFC 8489, section 14.7) from now on. At first they don't.
+    fn set_fingerprint(&mut self, fingerprint: bool) {
+        // SAFETY: the handle is open, and borrowed for this call alone; the call refuses nothing else.
+        let status = unsafe { sys::turn_client_fingerprint(self.handle_mut().at(), fingerprint) };
+        debug_assert_eq!(status, sys::OK);
     }
 
     /// Asks for the end of the allocations, which are over for the client at once: take turns until `poll` answers

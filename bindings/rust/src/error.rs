@@ -126,6 +126,22 @@ refusals! {
 }
 
 refusals! {
+    /// Why other credentials aren't set.
+    CredentialsError {
+        LongName = LONG_NAME: "the user's name has more than 513 bytes",
+        NoMemory = NO_MEMORY: "there is no memory for the credentials",
+    }
+}
+
+refusals! {
+    /// Why the text of SOFTWARE isn't set.
+    SoftwareError {
+        TooLarge = TOO_LARGE: "the text has more than 763 bytes",
+        NoMemory = NO_MEMORY: "there is no memory for the text",
+    }
+}
+
+refusals! {
     /// Why what came can't be taken.
     RecvError {
         Unread = UNREAD: "there was no memory for a payload that came before: poll_recv gives it",

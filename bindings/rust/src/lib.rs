@@ -120,8 +120,8 @@ pub use api::{
 };
 pub use client::{TurnClientApi, TurnClientTcp, TurnClientUdp};
 pub use error::{
-    AllocateError, BindChannelError, CreatePermissionError, DeleteError, PollError, PollTransmitError, RecvError,
-    SendError, TcpAllocateError, TcpClosedError, TcpConnectError,
+    AllocateError, BindChannelError, CreatePermissionError, CredentialsError, DeleteError, PollError,
+    PollTransmitError, RecvError, SendError, SoftwareError, TcpAllocateError, TcpClosedError, TcpConnectError,
 };
 
 /// Its program is compiled with the tests.

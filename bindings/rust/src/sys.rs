@@ -201,6 +201,15 @@ extern "C" {
         seed: *const Seed,
     ) -> i32;
     pub fn turn_client_close(client: *mut Client);
+    pub fn turn_client_credentials(
+        client: *mut Client,
+        username: *const u8,
+        username_len: usize,
+        password: *const u8,
+        password_len: usize,
+    ) -> i32;
+    pub fn turn_client_software(client: *mut Client, text: *const u8, text_len: usize) -> i32;
+    pub fn turn_client_fingerprint(client: *mut Client, fingerprint: bool) -> i32;
     pub fn turn_client_delete(client: *mut Client, now: u64) -> i32;
 
     pub fn turn_client_feed(
