@@ -381,11 +381,7 @@ pub extern "C" fn turn_client_credentials(
 
 /// Sets the SOFTWARE that requests carry from now on, or none, if the text is empty.
 #[unsafe(no_mangle)]
-pub extern "C" fn turn_client_software(
-    alloc: Global,
-    client: &mut TurnHandle,
-    text: &[u8],
-) -> i32
+pub extern "C" fn turn_client_software(alloc: Global, client: &mut TurnHandle, text: &[u8]) -> i32
     ensures set { result ≡ ok → OnClient client.old.boxed_client.value
         client.new.boxed_client.value result
         (OnCore (λ old new. new ≡ with_software (software_of text.now) old)) }
