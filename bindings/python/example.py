@@ -61,8 +61,8 @@ class Failure(Exception):
 class Redirected(Failure):
     """The server named another one, by an error 300."""
 
-    def __init__(self, server: Address) -> None:
-        super().__init__(FAILED, f"the server names another one, {shown(server)}: see --follow")
+    def __init__(self, server: Address, text: str) -> None:
+        super().__init__(FAILED, text)
         self.server = server
 
 
@@ -347,7 +347,7 @@ class Session:
         """Why there is no address."""
         if (server := self.client.alternate_server()) is not None:
             self.say(f"alternate server: {shown(server)} {printable(self.client.alternate_domain() or '')}".rstrip())
-            return Redirected(server)
+            return Redirected(server, f"no address: {text_of(cause)}")
         if not self.has_heard:
             return Failure(NO_ANSWER, "no answer from the server")
         return Failure(FAILED, f"no address: {text_of(cause)}")
