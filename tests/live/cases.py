@@ -27,15 +27,24 @@ RENEWING_SERVER = ("--stale-nonce=50", "--max-allocate-lifetime=600")
 RENEWALS = ((REFRESHED, 1), (STALE, 3), (PERMITTED, 3))
 RENEWING_SECONDS, RENEWING_INTERVAL = 655, 10000
 
-PAUSED_AFTER, PAUSED_FOR = 1.0, 3.0  # seconds
+PAUSED_AFTER, PAUSED_FOR = 1.0, 3.0  # seconds: after the peer's first payload, and how long
+FIRST_WITHIN = 20  # seconds that this one may take
 # While the server is stopped: 600 payloads of 1,200 bytes, more than its socket holds; 60 of 100, which it holds.
 STEADY = {"count": 1000, "interval": 5, "size": 1200}
 SLOW = {"count": 100, "interval": 50}
 
 
+def let_go(peer):
+    """Waits until payloads go for a while."""
+    until = time.monotonic() + FIRST_WITHIN
+    while peer.count() == 0 and time.monotonic() < until:
+        time.sleep(0.01)
+    time.sleep(PAUSED_AFTER)
+
+
 def pause(server, peer):
     """The server is stopped for a while, and continues: how many payloads the peer had until then."""
-    time.sleep(PAUSED_AFTER)
+    let_go(peer)
     server.pause()
     time.sleep(PAUSED_FOR)
     had = peer.count()
@@ -43,8 +52,8 @@ def pause(server, peer):
     return had
 
 
-def kill(server, _peer):
-    time.sleep(PAUSED_AFTER)
+def kill(server, peer):
+    let_go(peer)
     server.kill()
     return 0
 
