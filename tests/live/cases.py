@@ -22,10 +22,11 @@ HOUR_RENEWALS = ((REFRESHED, 90), (STALE, 5), (PERMITTED, 14), (BOUND, 6), (r"(?
 HOUR_SPENT = r"\n36\d\d\.\d{3}  gives the address back"
 
 # Renewals: allocations stand ten minutes. The client renews a permission after 240 seconds, an allocation and a channel
-# after 540; they would end after 300 and 600. Payloads that go at 650 show that all were. Each nonce is stale then.
+# after 540; they would end after 300 and 600. Payloads that go after 600 show that all were. Each nonce is stale then.
+# The system may wait for longer than a program says: for a socket, by an eighth.
 RENEWING_SERVER = ("--stale-nonce=50", "--max-allocate-lifetime=600")
 RENEWALS = ((REFRESHED, 1), (STALE, 3), (PERMITTED, 3))
-RENEWING_SECONDS, RENEWING_INTERVAL = 655, 10000
+RENEWING_SECONDS, RENEWING_INTERVAL, RENEWING_PAYLOADS = 655, 10000, 62
 
 PAUSED_AFTER, PAUSED_FOR = 1.0, 3.0  # seconds: after the peer's first payload, and how long
 FIRST_WITHIN = 20  # seconds that this one may take
@@ -200,8 +201,8 @@ def connections():
 
 
 def renewals():
-    one = Case("renewed for 655 s, channel, UDP", count=RENEWING_SECONDS * 1000 // RENEWING_INTERVAL + 1,
-               interval=RENEWING_INTERVAL, seconds=RENEWING_SECONDS, server=RENEWING_SERVER,
+    one = Case("renewed for 655 s, channel, UDP", count=RENEWING_PAYLOADS,
+               interval=RENEWING_INTERVAL, seconds=RENEWING_SECONDS, spans=600, server=RENEWING_SERVER,
                logged=(*RENEWALS, (BOUND, 2)), lasts=(RENEWING_SECONDS, RENEWING_SECONDS + 10), is_idle=True,
                is_long=True)
     return [one, replace(one, name="renewed for 655 s, channel, TCP", transport="tcp"),
