@@ -1,5 +1,5 @@
 /* timeouts.c: shortens the timeouts of sockets (SO_RCVTIMEO, SO_SNDTIMEO) by the pace of a clock. It is preloaded
- * beside libfaketime, which shortens all other waits so, and takes the pace from the same variable: FAKETIME="+0 x40". */
+ * beside libfaketime, which shortens all other waits, and takes the pace from the same variable: FAKETIME="+0 x40". */
 #define _GNU_SOURCE
 #include <stdlib.h>
 #include <string.h>

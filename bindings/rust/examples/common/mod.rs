@@ -20,8 +20,9 @@ use turn_client::{
 const PATIENCE: Duration = Duration::from_secs(2);
 /// How long it waits at least where the client wants a turn, and does nothing in it.
 const PAUSE: Duration = Duration::from_millis(1);
-/// How long it waits at most.
-const LONGEST: Duration = Duration::from_secs(3600);
+/// How long it waits at most: the system may round a socket's timeout up by an eighth, of half an hour by more than the
+/// minute in which an allocation is renewed.
+const LONGEST: Duration = Duration::from_secs(60);
 /// Bytes that are read at once; no datagram is larger.
 const IN_MAX: usize = 65_536;
 /// The transport between the server and the peer.
@@ -125,8 +126,7 @@ struct Run {
     start: Instant,
     peer: Option<SocketAddr>,
     tally: Tally,
-    /// When the next payload goes; and the time between two at least: the system rounds a socket's timeout up, to
-    /// some milliseconds.
+    /// When the next payload goes; and the time between two at least.
     next: Duration,
     interval: Duration,
     /// How long the address is kept; and until when, once there is one.
