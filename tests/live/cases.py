@@ -184,7 +184,7 @@ def lifetimes():
                    spans=(HOUR - 61) / PACE, lasts=(HOUR_LASTS, HOUR_LASTS + 15))
     return [
         one,
-        replace(one, name="lifetimes of 70 s, ignored", want=FAILED, options=IGNORING, lasts=(69, 75),
+        replace(one, name="lifetimes of 70 s, ignored", want=FAILED, options=IGNORING, lasts=(69, 80),
                 logged=((REFRESHED, 1),)),
         hour,
         replace(hour, name="lifetimes of 70 s, for an hour, TCP", transport="tcp"),
