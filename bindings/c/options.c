@@ -87,6 +87,7 @@ static const char usage[] =
     "  --seconds N           how long the address is kept at least; without it 0\n"
     "  --indications         no channel: each payload goes in an indication\n"
     "  --follow              goes on at the server that this one names by an error 300, once\n"
+    "  --ignore-short-lifetimes   ignores a renewal that grants less than 600 s\n"
     "  --quiet               tells errors and the result alone\n"
     "  --help\n"
     "Exit status: 0 all came back, or nothing was to be sent; 1 something was lost; 2 options that can't be read;\n"
@@ -101,7 +102,7 @@ static const struct option names[] = {
     {"count", required_argument, NULL, 'c'},    {"size", required_argument, NULL, 'b'},
     {"interval", required_argument, NULL, 'i'}, {"seconds", required_argument, NULL, 'n'},
     {"indications", no_argument, NULL, 'x'},    {"quiet", no_argument, NULL, 'q'},
-    {"follow", no_argument, NULL, 'o'},
+    {"follow", no_argument, NULL, 'o'},        {"ignore-short-lifetimes", no_argument, NULL, 'l'},
     {"help", no_argument, NULL, 'h'},           {NULL, 0, NULL, 0},
 };
 
@@ -148,6 +149,7 @@ static bool take_option(struct options *o, int option, const char *value)
     case 'x': return o->has_no_channel = true;
     case 'q': return o->is_quiet = true;
     case 'o': return o->follows = true;
+    case 'l': return o->ignores_short_lifetimes = true;
     default: return false;
     }
 }

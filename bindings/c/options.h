@@ -15,6 +15,7 @@ struct options {
     uint32_t families, integrity;   /* as those of turn_settings */
     bool is_over_tcp, has_echo, has_no_channel, is_quiet;
     bool follows;                   /* goes on at the server that a response 300 names, once */
+    bool ignores_short_lifetimes;   /* as turn_settings */
     uint32_t count, size;           /* of payloads */
     uint32_t interval, seconds;     /* milliseconds between two of them; how long the address is kept */
 };

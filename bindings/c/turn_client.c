@@ -447,7 +447,8 @@ static bool open_client(struct run *run)
     }
     run->settings = (turn_settings){.size = sizeof run->settings, .local = own_address(run->line.fd),
                                     .server = o->server, .transport = o->is_over_tcp ? TURN_TCP : TURN_UDP,
-                                    .families = o->families, .integrity = o->integrity};
+                                    .families = o->families, .integrity = o->integrity,
+                                    .ignore_short_lifetimes = o->ignores_short_lifetimes};
     const int32_t status = turn_client_open(&run->client, &run->settings, o->user, strlen(o->user), o->password,
                                             strlen(o->password), &seed);
     if (status == TURN_BAD_TEXT || status == TURN_LONG_NAME)

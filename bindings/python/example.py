@@ -41,6 +41,7 @@ READ_MAX = 65536      # bytes that are read at once
 NUMBER = 4            # bytes of the number at the front of a payload
 STRIDE, BYTES = 31, 256  # from each of its other bytes to the next, and how many different ones there are
 LEAST_SIZE, MOST_SIZE, MOST_COUNT = NUMBER, 60000, 1_000_000
+MOST_INTERVAL = 0xFFFFFFFF
 
 
 CAUSES: dict[type[TurnCause], str] = {
@@ -60,8 +61,8 @@ class Failure(Exception):
 class Redirected(Failure):
     """The server named another one, by an error 300."""
 
-    def __init__(self, server: Address) -> None:
-        super().__init__(FAILED, f"the server names another one, {shown(server)}: see --follow")
+    def __init__(self, server: Address, text: str) -> None:
+        super().__init__(FAILED, text)
         self.server = server
 
 
@@ -346,7 +347,7 @@ class Session:
         """Why there is no address."""
         if (server := self.client.alternate_server()) is not None:
             self.say(f"alternate server: {shown(server)} {printable(self.client.alternate_domain() or '')}".rstrip())
-            return Redirected(server)
+            return Redirected(server, f"no address: {text_of(cause)}")
         if not self.has_heard:
             return Failure(NO_ANSWER, "no answer from the server")
         return Failure(FAILED, f"no address: {text_of(cause)}")
@@ -501,8 +502,10 @@ async def reach(session: Session, options: argparse.Namespace, peer: Address) ->
 
 
 async def send_all(session: Session, options: argparse.Namespace, peer: Address, tally: Tally) -> None:
-    """Sends the payloads, spread over the time that the address is kept, and waits for the last ones."""
+    """Sends the payloads, at an interval or spread over the time that the address is kept, and waits for the last."""
     pause = max(INTERVAL, options.seconds / max(tally.count, 1))
+    if options.interval is not None:
+        pause = options.interval * MILLISECOND / SECOND
     while tally.sent < tally.count:
         await session.until(lambda: False, pause)
         await session.send_payload(options.between, peer, tally.goes()).drain()
@@ -512,7 +515,8 @@ async def send_all(session: Session, options: argparse.Namespace, peer: Address,
 async def opened(options: argparse.Namespace, peer: Address | None, tally: Tally) -> Session:
     family = Families.IPV6 if ":" in (peer or options.server)[0] else Families.IPV4
     config = TurnConfig(options.user, options.password, options.between, family,
-                        Integrity.SHA256 if options.sha256 else Integrity.SHA1 | Integrity.SHA256)
+                        Integrity.SHA256 if options.sha256 else Integrity.SHA1 | Integrity.SHA256,
+                        short_lifetimes=not options.ignore_short_lifetimes)
     line = await open_line(options.server, options.tcp)
     try:
         client = TurnClient(line.own, options.server, config, Transport.TCP if options.tcp else Transport.UDP)
@@ -612,10 +616,13 @@ def read_options() -> argparse.Namespace:
         "--connect says; a port 0 is a free one")
     add("--count", type=bounded(0, MOST_COUNT), default=10, help="how many payloads; without it 10")
     add("--size", type=bounded(LEAST_SIZE, MOST_SIZE), default=100, help="bytes of each; without it 100")
-    add("--seconds", type=bounded(0, MOST_COUNT), default=0, help="how long the address is kept at least, "
-        "over which the payloads are spread; without it 0")
+    add("--seconds", type=bounded(0, MOST_COUNT), default=0, help="how long the address is kept at least; "
+        "without it 0")
+    add("--interval", type=bounded(0, MOST_INTERVAL), metavar="MS", help="between two payloads; without it they are "
+        "spread over the time that the address is kept, at least 1 ms apart")
     add("--indications", action="store_true", help="no channel: each payload goes in an indication")
     add("--follow", action="store_true", help="goes on at the server that this one names by an error 300, once")
+    add("--ignore-short-lifetimes", action="store_true", help="ignores a renewal that grants less than 600 s")
     add("--sha256", action="store_true", help="requests are signed by HMAC-SHA256 alone; without it by that "
         "or HMAC-SHA1")
     options = parser.parse_args()

@@ -11,21 +11,41 @@ REFRESHED, STALE = r"refreshed, .*lifetime=[1-9]", "error 438"
 PERMITTED, BOUND = "CREATE_PERMISSION processed, success", "CHANNEL_BIND processed, success"
 CONNECTED = "CONNECTION_BIND processed, success"
 
+SHORT_SERVER = ("--max-allocate-lifetime=70",)  # a lifetime that clients renew after 35 seconds
+IGNORING = ("--ignore-short-lifetimes",)
+
+# An hour of lifetimes of 70 seconds, by clocks that run 40 times as fast. A nonce is stale after 600 seconds, a
+# permission is renewed after 240, a channel after 540. The last payload goes a minute before the end.
+HOUR, PACE, PAYLOADS = 3600, 40, 61
+HOUR_LASTS = HOUR / PACE
+HOUR_RENEWALS = ((REFRESHED, 90), (STALE, 5), (PERMITTED, 14), (BOUND, 6), (r"(?m)^3[6-9]\d\d: ", 1))
+HOUR_SPENT = r"\n36\d\d\.\d{3}  gives the address back"
+
 # Renewals: allocations stand ten minutes. The client renews a permission after 240 seconds, an allocation and a channel
-# after 540; they would end after 300 and 600. Payloads that go at 650 show that all were. Each nonce is stale then.
+# after 540; they would end after 300 and 600. Payloads that go after 600 show that all were. Each nonce is stale then.
+# The system may wait for longer than a program says: for a socket, by an eighth.
 RENEWING_SERVER = ("--stale-nonce=50", "--max-allocate-lifetime=600")
 RENEWALS = ((REFRESHED, 1), (STALE, 3), (PERMITTED, 3))
-RENEWING_SECONDS, RENEWING_INTERVAL = 655, 10000
+RENEWING_SECONDS, RENEWING_INTERVAL, RENEWING_PAYLOADS = 655, 10000, 62
 
-PAUSED_AFTER, PAUSED_FOR = 1.0, 3.0  # seconds
+PAUSED_AFTER, PAUSED_FOR = 1.0, 3.0  # seconds: after the peer's first payload, and how long
+FIRST_WITHIN = 20  # seconds that this one may take
 # While the server is stopped: 600 payloads of 1,200 bytes, more than its socket holds; 60 of 100, which it holds.
 STEADY = {"count": 1000, "interval": 5, "size": 1200}
 SLOW = {"count": 100, "interval": 50}
 
 
+def let_go(peer):
+    """Waits until payloads go for a while."""
+    until = time.monotonic() + FIRST_WITHIN
+    while peer.count() == 0 and time.monotonic() < until:
+        time.sleep(0.01)
+    time.sleep(PAUSED_AFTER)
+
+
 def pause(server, peer):
     """The server is stopped for a while, and continues: how many payloads the peer had until then."""
-    time.sleep(PAUSED_AFTER)
+    let_go(peer)
     server.pause()
     time.sleep(PAUSED_FOR)
     had = peer.count()
@@ -33,8 +53,8 @@ def pause(server, peer):
     return had
 
 
-def kill(server, _peer):
-    time.sleep(PAUSED_AFTER)
+def kill(server, peer):
+    let_go(peer)
     server.kill()
     return 0
 
@@ -55,7 +75,6 @@ class Case:
     count: int = 20  # payloads
     size: int = 100  # bytes of each
     interval: int = 0  # milliseconds between two; 0 is as the program does
-    is_even: bool = False  # it is nothing without that interval
     seconds: int = 0  # that the address is kept
     family: str = "4"  # of the relayed address, or `both`
     algorithms: str = "sha1"
@@ -68,9 +87,14 @@ class Case:
     logged: tuple = ()  # what is to stand in the server's log, and how often at least
     says: tuple = ()  # what is to stand in the program's transcript
     is_occupied: bool = False  # before it another client of the same user has an address
+    is_translated: bool = False  # a translator of addresses is between it and the server
     is_redirected: bool = False  # the server names another one
+    has_loop: bool = False  # which names this one in turn
+    visits: int = 0  # how many requests without a signature the other one gets
     during: object = None  # what is done to the server meanwhile
     lasts: tuple = (0, LIMIT)  # seconds, at least and at most
+    spans: float = 0  # seconds from the first payload at the peer to the last one, at least
+    pace: int = 1  # how many times as fast the clocks of server and program run; `lasts` and `spans` are real
     is_idle: bool = False  # it waits more than it works, and runs beside others
     is_long: bool = False  # it takes ten minutes
 
@@ -91,15 +115,16 @@ def payloads():
 def settings():
     large = Case("100 of 8,000 bytes, UDP", count=100, size=8000, interval=20)
     return [
-        Case("HMAC-SHA1 and SHA-256 offered", algorithms="both", says=(r"public address: 127\.0\.0\.1:\d+",)),
+        Case("HMAC-SHA1 and SHA-256 offered", algorithms="both"),
         Case("SHA-256 alone: coturn has none", FAILED, algorithms="sha256", says=("cause: no-algorithm",)),
         Case("both families asked for", family="both"),
         Case("IPv6 address of a server over IPv4", family="6"),
-        Case("IPv4 address of a server over IPv6", host="::1"),
+        Case("IPv4 address of a server over IPv6", host="::1", says=(r"public address: \[::1\]:\d+\n",)),
         large,
         replace(large, name="100 of 8,000 bytes, TCP", transport="tcp"),
-        Case("its own echo, UDP", peer="echo"),
-        Case("its own echo, TCP", transport="tcp", peer="echo"),
+        Case("its own echo, UDP", peer="echo", says=(r"public address: 127\.0\.0\.1:\d+\n",)),
+        Case("its own echo, TCP", transport="tcp", peer="echo", says=(r"public address: 127\.0\.0\.1:\d+\n",)),
+        Case("another public address than its own", is_translated=True),
     ]
 
 
@@ -128,25 +153,43 @@ def redirections():
     named = r"cause: rejected 300 unsigned Try Alternate\n.*alternate server: 127\.0\.0\.1:\d+\n"
     refused = Case("a server that names another one, UDP", FAILED, peer="none", is_redirected=True, says=(named,))
     followed = replace(refused, name="another server, which is followed, UDP", want=ALL_BACK, peer="run",
-                       options=("--follow",), says=(named, r"goes on with 127\.0\.0\.1:\d+", "public address: "))
-    return [refused, followed, *(replace(it, name=it.name.replace("UDP", "TCP"), transport="tcp")
-                                 for it in (refused, followed))]
+                       options=("--follow",), visits=1,
+                       says=(named, r"goes on with 127\.0\.0\.1:\d+", "public address: "))
+    twice = replace(refused, name="another server, which names this one, UDP", has_loop=True, options=("--follow",),
+                    visits=1, says=(named, r"(?s)^(?!.*goes on with.*goes on with).*goes on with"))
+    over_udp = [refused, followed, twice]
+    return over_udp + [replace(it, name=it.name.replace("UDP", "TCP"), transport="tcp") for it in over_udp]
 
 
 def troubles():
-    short = ("--max-allocate-lifetime=70",)
-    anew = Case("killed and restarted, UDP", SOME_LOST, seconds=15, during=restart, server=short, is_idle=True,
+    anew = Case("killed and restarted, UDP", SOME_LOST, seconds=15, during=restart, server=SHORT_SERVER, is_idle=True,
                 logged=(("error 437", 2),), **STEADY)
     return [
         Case("stopped for 3 s, UDP: more than its socket holds", SOME_LOST, during=pause, **STEADY),
-        Case("stopped for 3 s, UDP: less than its socket holds", during=pause, is_even=True, **SLOW),
-        Case("stopped for 3 s, TCP: less than its socket holds", transport="tcp", during=pause, is_even=True, **SLOW),
+        Case("stopped for 3 s, UDP: less than its socket holds", during=pause, **SLOW),
+        Case("stopped for 3 s, TCP: less than its socket holds", transport="tcp", during=pause, **SLOW),
         Case("killed, UDP", SOME_LOST, during=kill, is_idle=True, lasts=(40, 110), **STEADY),
         Case("killed, TCP", FAILED, transport="tcp", during=kill, **STEADY),
         anew,
         replace(anew, name="killed and restarted, TCP", want=FAILED, transport="tcp", logged=()),
-        Case("lifetimes of 70 s: refused in a REFRESH response", FAILED, seconds=90, server=short, lasts=(69, 75),
-             is_idle=True, logged=((REFRESHED, 1),)),
+    ]
+
+
+def lifetimes():
+    """A server that grants 70 seconds: an allocation is renewed before each end, unless that is ignored."""
+    one = Case("lifetimes of 70 s, for 90 s", seconds=90, server=SHORT_SERVER, lasts=(90, 100), is_idle=True,
+               logged=((REFRESHED, 2),))
+    hour = replace(one, name="lifetimes of 70 s, for an hour, UDP", pace=PACE, seconds=HOUR, count=PAYLOADS,
+                   interval=(HOUR - 60) * 1000 // (PAYLOADS - 1), logged=HOUR_RENEWALS, says=(HOUR_SPENT,),
+                   spans=(HOUR - 61) / PACE, lasts=(HOUR_LASTS, HOUR_LASTS + 15))
+    return [
+        one,
+        replace(one, name="lifetimes of 70 s, ignored", want=FAILED, options=IGNORING, lasts=(69, 80),
+                logged=((REFRESHED, 1),)),
+        hour,
+        replace(hour, name="lifetimes of 70 s, for an hour, TCP", transport="tcp"),
+        replace(hour, name="lifetimes of 70 s, for an hour, ignored", want=FAILED, options=IGNORING, says=(), spans=0,
+                lasts=(69 / PACE, 10), logged=((REFRESHED, 1),)),
     ]
 
 
@@ -158,8 +201,8 @@ def connections():
 
 
 def renewals():
-    one = Case("renewed for 655 s, channel, UDP", count=RENEWING_SECONDS * 1000 // RENEWING_INTERVAL + 1,
-               interval=RENEWING_INTERVAL, seconds=RENEWING_SECONDS, server=RENEWING_SERVER,
+    one = Case("renewed for 655 s, channel, UDP", count=RENEWING_PAYLOADS,
+               interval=RENEWING_INTERVAL, seconds=RENEWING_SECONDS, spans=600, server=RENEWING_SERVER,
                logged=(*RENEWALS, (BOUND, 2)), lasts=(RENEWING_SECONDS, RENEWING_SECONDS + 10), is_idle=True,
                is_long=True)
     return [one, replace(one, name="renewed for 655 s, channel, TCP", transport="tcp"),
@@ -167,5 +210,5 @@ def renewals():
 
 
 def all_of_them(is_quick):
-    return [*([] if is_quick else renewals()), *troubles(), *refusals(), *redirections(), *payloads(), *settings(),
-            *connections()]
+    return [*([] if is_quick else renewals()), *lifetimes(), *troubles(), *refusals(), *redirections(), *payloads(),
+            *settings(), *connections()]

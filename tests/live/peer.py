@@ -1,7 +1,8 @@
-"""Peers on loopback that send back what they get, and count the payloads that differ."""
+"""Peers on loopback that send back what they get, and count the payloads that differ; and a translator of addresses."""
 
 import socket
 import threading
+import time
 
 MOST = 65536  # bytes that are read at once
 HELD = 1 << 22  # bytes that a socket is to hold, so that a burst isn't lost there
@@ -17,6 +18,7 @@ class Peer:
         self._socket.bind((host, 0))
         self._socket.settimeout(0.2)
         self._seen = set()
+        self._first = self._last = 0.0
         self._is_over = False
         self._thread = threading.Thread(target=self._serve, daemon=True)
         self._thread.start()
@@ -30,6 +32,8 @@ class Peer:
         while not self._is_over:
             try:
                 payload, sender = self._socket.recvfrom(MOST)
+                self._last = time.monotonic()
+                self._first = self._first or self._last
                 self._seen.add(payload)
                 self._socket.sendto(payload, sender)
             except OSError:  # nothing came, or nobody is there to answer to
@@ -38,6 +42,10 @@ class Peer:
     def count(self):
         """How many payloads came that differ."""
         return len(self._seen)
+
+    def seconds(self):
+        """How long after the first payload the last one came."""
+        return self._last - self._first
 
     def end(self):
         self._is_over = True
@@ -87,3 +95,44 @@ class StreamPeer:
         return self._bytes
 
     end = Peer.end
+
+
+class Translator:
+    """Between one client and its server over UDP: the server sees its `public` address, and not the client's."""
+
+    def __init__(self, server):
+        self._inner, self._outer = (socket.socket(socket.AF_INET, socket.SOCK_DGRAM) for _ in range(2))
+        for one in (self._inner, self._outer):
+            one.bind(("127.0.0.1", 0))
+            one.settimeout(0.2)
+        self.port = self._inner.getsockname()[1]  # where the client finds its server
+        self.public = "{}:{}".format(*self._outer.getsockname())
+        self._server, self._client = server, None
+        self._is_over = False
+        self._threads = [threading.Thread(target=it, daemon=True) for it in (self._go_out, self._come_in)]
+        for thread in self._threads:
+            thread.start()
+
+    def _go_out(self):
+        while not self._is_over:
+            try:
+                came, self._client = self._inner.recvfrom(MOST)
+                self._outer.sendto(came, self._server)
+            except OSError:
+                continue
+
+    def _come_in(self):
+        while not self._is_over:
+            try:
+                came, source = self._outer.recvfrom(MOST)
+                if source == self._server:
+                    self._inner.sendto(came, self._client)
+            except OSError:
+                continue
+
+    def end(self):
+        self._is_over = True
+        for thread in self._threads:
+            thread.join()
+        for one in (self._inner, self._outer):
+            one.close()

@@ -9,7 +9,6 @@ from dataclasses import dataclass
 
 ROOT = os.path.abspath(os.path.join(os.path.dirname(__file__), "..", ".."))
 LIBRARY = os.path.join(ROOT, "dist", "x86_64-linux-gnu")  # the folder of the released library
-OWN_INTERVAL = 1  # milliseconds between two payloads, of a program that has no such option
 PEERS = {"run": ["--peer"], "stream": ["--connect"], "echo": ["--echo"], "none": []}  # by which it learns its peer
 C_FILES = ("turn_client.c", "options.c", "sockets.c", "tally.c")
 SANITIZERS = ("-g", "-O1", "-fsanitize=address,undefined", "-fno-sanitize-recover=all", "-fno-omit-frame-pointer")
@@ -26,10 +25,10 @@ class Program:
 
     def options(self, case):
         """The options of a case, in those words that the program has. Lacks tells that it has none."""
-        given = ["--count", str(self._count(case)), "--size", str(case.size)]
+        given = ["--count", str(case.count), "--size", str(case.size)]
         if case.seconds:
             given += ["--seconds", str(case.seconds)]
-        if case.is_even or (case.interval and "--interval" in self.takes):
+        if case.interval:
             given += ["--interval", str(case.interval)]
         if "--family" in self.takes:
             given += ["--family", case.family]
@@ -45,12 +44,6 @@ class Program:
             if one.startswith("--") and one not in self.takes:
                 raise Lacks(one)
         return given
-
-    def _count(self, case):
-        """As many payloads as take the case's time where something is done meanwhile, and it can't be told."""
-        if "--interval" in self.takes or case.during is None:
-            return case.count
-        return case.count * case.interval // OWN_INTERVAL
 
     def _algorithms(self, case):
         if case.algorithms == "sha1":

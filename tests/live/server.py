@@ -93,10 +93,10 @@ def _answers(host, port):
 
 
 class Server:
-    """One coturn. Its log stands in its folder."""
+    """One coturn. Its log stands in its folder; `variables` are more of its environment."""
 
-    def __init__(self, processes, port, folder, options):
-        self.port = port
+    def __init__(self, processes, port, folder, options, variables=None):
+        self.port, self._variables = port, variables or {}
         self.log = os.path.join(folder, "coturn.log")
         self._processes, self._folder, self._options = processes, folder, options
         self._process = None
@@ -112,7 +112,8 @@ class Server:
 
     def start(self):
         with open(os.path.join(self._folder, "coturn.out"), "ab") as out:
-            self._process = self._processes.start(self._command(), stdout=out, stderr=out)
+            self._process = self._processes.start(self._command(), stdout=out, stderr=out,
+                                                  env={**os.environ, **self._variables})
         until = time.monotonic() + READY_WITHIN
         while not all(_answers(host, self.port) for host in HOSTS):
             if self._process.poll() is not None or time.monotonic() > until:

@@ -29,7 +29,7 @@
 //!         }
 //!     }
 //!     let TurnPollRet::WaitUntil(until) = answer else { break };
-//!     let wait = until.saturating_sub(start.elapsed()).max(Duration::from_millis(1));
+//!     let wait = until.saturating_sub(start.elapsed()).clamp(Duration::from_millis(1), Duration::from_secs(60));
 //!     socket.set_read_timeout(Some(wait))?;
 //!     if let Ok((size, from)) = socket.recv_from(&mut bytes) {
 //!         let came = Transmit::new(&bytes[..size], TransportType::Udp, from, local);
@@ -44,6 +44,8 @@
 //!
 //! # What may surprise
 //!
+//! - Linux rounds a socket's timeout up by as much as an eighth: half an hour by more than the minute in which an
+//!   allocation is renewed. So the longest wait above is a minute.
 //! - Moments are [`Duration`](std::time::Duration)s since a start of the program's, as `start.elapsed()`: they have
 //!   their unit in their type, and the client gives and takes moments that no clock has shown yet, which
 //!   [`Instant`](std::time::Instant) can't be made of. What lies behind 2^62 nanoseconds counts as that.

@@ -18,12 +18,11 @@ use turn_client::{
 
 /// How long the last payloads are waited for.
 const PATIENCE: Duration = Duration::from_secs(2);
-/// The pause between two payloads at least: the system rounds a socket's timeout up, to some milliseconds.
-const INTERVAL: Duration = Duration::from_millis(1);
 /// How long it waits at least where the client wants a turn, and does nothing in it.
 const PAUSE: Duration = Duration::from_millis(1);
-/// How long it waits at most.
-const LONGEST: Duration = Duration::from_secs(3600);
+/// How long it waits at most: the system may round a socket's timeout up by an eighth, of half an hour by more than the
+/// minute in which an allocation is renewed.
+const LONGEST: Duration = Duration::from_secs(60);
 /// Bytes that are read at once; no datagram is larger.
 const IN_MAX: usize = 65_536;
 /// The transport between the server and the peer.
@@ -127,8 +126,9 @@ struct Run {
     start: Instant,
     peer: Option<SocketAddr>,
     tally: Tally,
-    /// When the next payload goes.
+    /// When the next payload goes; and the time between two at least.
     next: Duration,
+    interval: Duration,
     /// How long the address is kept; and until when, once there is one.
     kept: Duration,
     keeps_until: Option<Duration>,
@@ -258,7 +258,7 @@ impl Run {
         let bytes = self.tally.next(now);
         let transmit = self.client.send_to(BETWEEN, peer, &bytes, now)?;
         self.line.send(transmit.data)?;
-        self.next = now + INTERVAL;
+        self.next = now + self.interval;
         Ok(())
     }
 
@@ -361,6 +361,7 @@ fn config(options: &Options, peer: Option<SocketAddr>) -> TurnConfig {
     if options.is_sha256 {
         config.set_supported_integrity(IntegrityAlgorithm::Sha256);
     }
+    config.set_short_lifetimes(!options.ignores_short_lifetimes);
     config
 }
 
@@ -380,6 +381,7 @@ fn run(options: &Options, open: Open, new: New) -> Result<Tally, Failure> {
         peer,
         tally: Tally::new(if peer.is_some() { options.count } else { 0 }, options.size),
         next: Duration::ZERO,
+        interval: options.interval,
         kept: options.kept,
         keeps_until: None,
         has_no_channel: options.has_no_channel,

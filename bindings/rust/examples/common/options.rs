@@ -14,9 +14,11 @@ pub const USAGE: &str = "\
   --echo             in its place one of this program's own, on loopback
   --count N          how many payloads; without it 10. Without a peer there are none
   --size BYTES       of each, 4 to 60000; without it 100
+  --interval MS      between two; without it 1
   --seconds N        how long the address is kept at least; without it 0
   --indications      no channel: each payload goes in an indication
   --follow           goes on at the server that this one names by an error 300, once
+  --ignore-short-lifetimes   ignores a renewal that grants less than 600 s
   --sha256           messages are signed by HMAC-SHA256 alone; without it by that or HMAC-SHA1
   --help
 
@@ -43,10 +45,12 @@ pub struct Options {
     pub peer: Peer,
     pub count: u32,
     pub size: usize,
+    pub interval: Duration,
     pub kept: Duration,
     pub has_no_channel: bool,
     pub is_sha256: bool,
     pub follows: bool,
+    pub ignores_short_lifetimes: bool,
 }
 
 /// Options as far as they were read.
@@ -59,10 +63,12 @@ struct Reader<I> {
     has_echo: bool,
     count: u32,
     size: u32,
+    interval: u32,
     seconds: u32,
     has_no_channel: bool,
     is_sha256: bool,
     follows: bool,
+    ignores_short_lifetimes: bool,
 }
 
 impl<I: Iterator<Item = String>> Reader<I> {
@@ -76,10 +82,12 @@ impl<I: Iterator<Item = String>> Reader<I> {
             has_echo: false,
             count: 10,
             size: 100,
+            interval: 1,
             seconds: 0,
             has_no_channel: false,
             is_sha256: false,
             follows: false,
+            ignores_short_lifetimes: false,
         }
     }
 
@@ -117,10 +125,12 @@ impl<I: Iterator<Item = String>> Reader<I> {
             "--echo" => self.has_echo = true,
             "--count" => self.count = self.number(option, 0, MOST_COUNT)?,
             "--size" => self.size = self.number(option, LEAST_SIZE, MOST_SIZE)?,
+            "--interval" => self.interval = self.number(option, 0, u32::MAX)?,
             "--seconds" => self.seconds = self.number(option, 0, u32::MAX)?,
             "--indications" => self.has_no_channel = true,
             "--sha256" => self.is_sha256 = true,
             "--follow" => self.follows = true,
+            "--ignore-short-lifetimes" => self.ignores_short_lifetimes = true,
             _ => return Err(format!("{option} is no option")),
         }
         Ok(())
@@ -143,10 +153,12 @@ impl<I: Iterator<Item = String>> Reader<I> {
             peer,
             count: self.count,
             size: self.size as usize,
+            interval: Duration::from_millis(self.interval.into()),
             kept: Duration::from_secs(self.seconds.into()),
             has_no_channel: self.has_no_channel,
             is_sha256: self.is_sha256,
             follows: self.follows,
+            ignores_short_lifetimes: self.ignores_short_lifetimes,
         })
     }
 }
