@@ -12,7 +12,8 @@ use Rattle.turn_client_proto_api.specs.declared.answer.TurnPollRet.{TurnPollRet}
 use Rattle.turn_client_proto_api.specs.declared.answer.TurnRecvRet.{TurnRecvRet}
 use Rattle.turn_client_proto_api.specs.declared.error.SendError.{SendError}
 use Rattle.turn_client_proto_api.specs.declared.event.TurnEvent.{TurnEvent}
-use Rattle.turn_client_proto.specs.Clients.{stored_of}
+use Rattle.turn_client_proto.specs.Clients.{noted_of, stored_of}
+use Rattle.turn_client_proto.specs.Recv.Notes.{after_event}
 use Rattle.turn_client_proto.specs.Timers.Drawing.{HasToSend, IsTransmitted}
 use Rattle.turn_client_proto_api.specs.Sent.{Sent, sent_of}
 use Rattle.turn_client_proto.specs.Core.Ending.{HasFailed}
@@ -58,10 +59,11 @@ poll_reported answer now status before reported old new polled joined one two =
 pub event_reported : (answer : Option TurnEvent) (status : ℤ) (before reported : TurnClientEvent) (old new : HandleState)
     → (stored_of old.client).core.events ≡ option_to_list answer ++ (stored_of new.client).core.events
     → IfNone answer ((stored_of old.client).core.events ≡ [])
-    → Leaves (λ old new. new ≡ record old { events = new.events }) (stored_of old.client) (stored_of new.client) → new.joined ≡ old.joined
+    → Leaves (λ old new. new ≡ record old { events = new.events }) (stored_of old.client) (stored_of new.client)
+    → noted_of new.client ≡ after_event answer (noted_of old.client) → new.joined ≡ old.joined
     → status ≡ waits.event_status answer → reported ≡ waits.event_reported before answer → IsEventReported status before reported old new
-event_reported answer status before reported old new first none others joined one two =
-    record { answer = answer; first = first; none = none; others = (others, joined); status_is = one; reported_is = two }
+event_reported answer status before reported old new first none others noted joined one two =
+    record { answer = answer; first = first; none = none; others = (others, joined); noted = noted; status_is = one; reported_is = two }
 
 -- ---- sockets
 

@@ -6,9 +6,10 @@ use Rattle.stun_types_base.specs.declared.transport.TransportType.{TransportType
 use Rattle.stun_types_base.specs.declared.transport.TransportType.TheVariants.{Udp, Tcp}
 use Rattle.turn_types_frame.specs.Streams.{alive}
 use Rattle.turn_client_proto.specs.Core.Beginning.{IsNew}
-use Rattle.turn_client_proto.specs.Clients.{stored_of}
+use Rattle.turn_client_proto.specs.Clients.{noted_of, stored_of}
 use Rattle.turn_client_proto_api.specs.Config.{Config}
 use Rattle.turn_client_proto.specs.Recv.Control.{Control, Datagrams, Open}
+use Rattle.turn_client_proto.specs.Recv.Notes.{no_notes}
 use Rattle.turn_client_proto.specs.declared.client.TurnClient.{TurnClient}
 use Rattle.turn_client_c_types.specs.Addresses.{address_of}
 use Rattle.turn_client_c_calls.specs.Codes as code
@@ -24,11 +25,12 @@ abbrev pub first_control : TransportType → Control
 first_control Udp = Datagrams
 first_control Tcp = Open (alive [])
 
--- The client is new, over this transport and between these addresses.
+-- The client is new, over this transport and between these addresses, and has noted nothing.
 pub record IsStarted (by : TransportType) (local server : SocketAddr) (config : Config) (seed : List ℕ)
     (client : TurnClient) : Type 0 where
   pub is_new : IsNew by local server config seed (stored_of client).core
   pub control : (stored_of client).control ≡ first_control by
+  pub noted : noted_of client ≡ no_notes
 
 -- The client is new and of this user, all of its settings are valid, its seed is not zero, and no joined bytes are
 -- unread.

@@ -1,6 +1,7 @@
 -- What `poll` and `poll_event` report to C.
 use Rattle.std.specs.Prelude.{◌≡◌, ◌++◌, ℕ, ℤ, [], Option, Some, None, IfNone, option_to_list}
-use Rattle.turn_client_proto.specs.Clients.{stored_of}
+use Rattle.turn_client_proto.specs.Clients.{noted_of, stored_of}
+use Rattle.turn_client_proto.specs.Recv.Notes.{after_event}
 use Rattle.turn_client_proto.specs.Timers.Polling.{IsPolled}
 use Rattle.turn_client_proto_api.specs.declared.answer.TurnPollRet.{TurnPollRet}
 use Rattle.turn_client_proto_api.specs.declared.answer.TurnPollRet.TheVariants.{AllocateTcpSocket, Closed, NoMemory, TcpClose, WaitUntil}
@@ -42,11 +43,13 @@ abbrev pub event_reported : TurnClientEvent → Option TurnEvent → TurnClientE
 event_reported before (Some event) = reported_event event
 event_reported before None = before
 
--- `poll_event`, reported by a status and what is written.
+-- `poll_event`, reported by a status and what is written. What is noted of the client goes on to the cause of the
+-- event.
 pub record IsEventReported (status : ℤ) (before reported : TurnClientEvent) (old new : HandleState) : Type 0 where
   pub answer : Option TurnEvent
   pub first : (stored_of old.client).core.events ≡ option_to_list answer ++ (stored_of new.client).core.events
   pub none : IfNone answer ((stored_of old.client).core.events ≡ [])
   pub others : OnCore (λ old new. new ≡ record old { events = new.events }) old new
+  pub noted : noted_of new.client ≡ after_event answer (noted_of old.client)
   pub status_is : status ≡ event_status answer
   pub reported_is : reported ≡ event_reported before answer
