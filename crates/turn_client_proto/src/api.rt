@@ -1,7 +1,7 @@
 //! The trait of a TURN client's calls, and the types of their parameters and results: settings,
 //! events, errors, and what is sent and received.
 
-ghost use Rattle.std.specs.Prelude.{◌≡◌, ◌≢◌, ◌<◌, ◌^◌, ◌++◌, [], length, true, IfNone, IfOk, OnErr, OnOk, option_to_list};
+ghost use Rattle.std.specs.Prelude.{◌≡◌, ◌≢◌, ◌<◌, ◌^◌, ◌++◌, [], length, true, IfNone, IfOk, MatchResult, OnErr, OnOk, option_to_list};
 ghost use Rattle.std.specs.Option.{option_copied, option_map};
 ghost use Rattle.turn_client_proto_recv.specs.Closing.{after_close, is_joined};
 ghost use Rattle.turn_client_proto_recv.specs.Connecting.{IsConnectAnswered};
@@ -18,7 +18,7 @@ ghost use Rattle.turn_client_proto.specs.Notes.{IsPollNoted};
 ghost use Rattle.turn_client_proto_api.specs.Causes.{cause_taken};
 ghost use Rattle.turn_client_proto_api.specs.declared.cause.TurnCause.TheVariants.{SocketClosed};
 ghost use Rattle.turn_client_proto_recv.specs.ClientState.{ClientState, Leaves};
-ghost use Rattle.turn_client_proto_recv.specs.Notes.{AreNoted, IsCallNoted, after_event};
+ghost use Rattle.turn_client_proto_recv.specs.Notes.{AreNoted, IsCallNoted, after_deletion, after_event};
 ghost use Rattle.turn_client_proto_recv.specs.Receipts.{IsReceived, IsWaitingGiven, IsWaitingLost};
 ghost use Rattle.turn_client_proto_recv.specs.declared.notes.Notes.{Notes};
 ghost use Rattle.turn_client_proto.specs.SocketsReported.{IsSocketReported};
@@ -144,7 +144,10 @@ pub trait TurnClientApi: Debug + Send {
         ensures few { length result < 2 ^ 64 };
 
     /// Requests the end of all allocations (RFC 8656, section 8.1). Each is marked as expired at
-    /// once, and then has no permissions and no channels.
+    /// once, and then has no permissions and no channels. No event reports that they have ended.
+    ///
+    /// What fails or ends afterwards, whether a response rejects it or none comes, has the cause
+    /// `Deleted`; but by `protocol_error` it has `SocketClosed`.
     ///
     /// # Errors
     ///
@@ -155,7 +158,8 @@ pub trait TurnClientApi: Debug + Send {
     fn delete(&mut self, now: Instant) -> Result<(), DeleteError>
         ensures deleted { Leaves (λ old new. IsDeleteAnswered old now result new)
             (stored self.old) (stored self.new) }
-        ensures noted { noted self.new ≡ noted self.old };
+        ensures noted { MatchResult result (λ _. noted self.new ≡ after_deletion (noted self.old))
+            (λ _. noted self.new ≡ noted self.old) };
 
     /// Requests a permission for a peer's IP address (RFC 8656, section 10.1), in the first
     /// allocation of this transport whose relayed address is of the same family.

@@ -3,7 +3,7 @@
 ghost use Rattle.std.specs.Prelude.{◌≡◌, ◌⊎◌, ◌<◌};
 ghost use Rattle.turn_client_proto_api.specs.declared.cause.TurnCause.TheVariants.{Expired, Unanswered};
 ghost use Rattle.turn_client_proto_api.specs.declared.causes.Causes.{Causes as Noted};
-ghost use Rattle.turn_client_proto.specs.Notes.{AreTimed, IsPollNoted};
+ghost use Rattle.turn_client_proto.specs.Notes.{AreTimed, IsPollNoted, IsTimed};
 
 use std::net::IpAddr;
 use turn_client_proto_allocation::allocation::Allocation;
@@ -56,8 +56,19 @@ impl Requested {
     }
 
     /// Returns why `poll` queued an event: no response to its request came in time, or its time
-    /// was over. Of the permissions and channels of an allocation the requested ones come first
-    /// (`report_failures`); `self` has how many of these are left, and counts down.
+    /// was over; or `delete` was called before. Of the permissions and channels of an allocation
+    /// the requested ones come first (`report_failures`); `self` has how many of these are left,
+    /// and counts down.
+    fn cause_noted(&mut self, is_deleted: bool, event: &TurnEvent) -> TurnCause
+        ensures { IsTimed is_deleted result }
+    {
+        if is_deleted {
+            return TurnCause::Deleted;
+        }
+        self.cause_of(event)
+    }
+
+    /// Returns why `poll` queued an event of a client whose allocations were not to be deleted.
     fn cause_of(&mut self, event: &TurnEvent) -> TurnCause
         ensures { (result ≡ Unanswered) ⊎ (result ≡ Expired) }
     {
@@ -101,17 +112,32 @@ pub(crate) fn note_poll(notes: &mut Notes, events: usize, before: Requested, pro
     }
     let mut gone = before.gone(Requested::of(protocol.allocations.as_slice()));
     let (first, second) = protocol.events.as_slices();
-    note_timed(&mut notes.causes, &mut gone, first, 0);
-    note_timed(&mut notes.causes, &mut gone, second, first.len());
+    let is_deleted = notes.is_deleted;
+    note_timed(&mut notes.causes, is_deleted, &mut gone, first, 0);
+    note_timed(
+        &mut notes.causes,
+        is_deleted,
+        &mut gone,
+        second,
+        first.len(),
+    );
 }
 
-/// Notes events that `poll` queued. There were `before` events before them.
-fn note_timed(causes: &mut Causes, gone: &mut Requested, events: &[TurnEvent], before: usize)
-    ensures { (old : Noted) → AreTimed old causes.old → AreTimed old causes.new }
+/// Notes events that `poll` queued. There were `before` events before them, and `is_deleted` says
+/// whether `delete` was called before.
+fn note_timed(
+    causes: &mut Causes,
+    is_deleted: bool,
+    gone: &mut Requested,
+    events: &[TurnEvent],
+    before: usize,
+)
+    ensures { (old : Noted) → AreTimed is_deleted old causes.old
+        → AreTimed is_deleted old causes.new }
 {
     let mut at = before;
     for event in events {
-        let cause = gone.cause_of(event);
+        let cause = gone.cause_noted(is_deleted, event);
         let next = at.saturating_add(1);
         causes.push(at, next, cause);
         at = next;

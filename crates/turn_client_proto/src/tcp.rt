@@ -152,7 +152,9 @@ impl TurnClientApi for TurnClientTcp {
     }
 
     fn delete(&mut self, now: Instant) -> Result<(), DeleteError> {
-        deleting::delete(&mut self.protocol, now)
+        deleting::delete(&mut self.protocol, now)?;
+        self.notes.note_deletion();
+        Ok(())
     }
 
     fn create_permission(

@@ -116,7 +116,9 @@ impl TurnClientApi for TurnClientUdp {
     }
 
     fn delete(&mut self, now: Instant) -> Result<(), DeleteError> {
-        deleting::delete(&mut self.protocol, now)
+        deleting::delete(&mut self.protocol, now)?;
+        self.notes.note_deletion();
+        Ok(())
     }
 
     fn create_permission(

@@ -57,7 +57,8 @@ pub enum TurnCause {
     Rejected {
         /// The code of the response's first ERROR-CODE, 300 to 699 (RFC 8489, section 14.8).
         code: u16,
-        /// Its reason phrase; empty if that is not UTF-8.
+        /// Its reason phrase, at most 763 bytes; empty if it has none. (An ERROR-CODE whose phrase
+        /// is not UTF-8 is malformed: the cause is then `Unusable`.)
         reason: MessageText,
         /// Whether the response was validated under the client's credentials. If it wasn't, it may
         /// be anybody's.
@@ -74,12 +75,14 @@ pub enum TurnCause {
     OtherFamily,
     /// The cause is not known, because memory for it ran out.
     OutOfMemory,
-    /// `delete` ended it.
+    /// `delete` was called before: whatever failed or ended afterwards, by a response or without
+    /// one, did so because of it.
     Deleted,
     /// Its time was over.
     Expired,
     /// `protocol_error` ended the client.
     SocketClosed,
-    /// The response lacks what the client needs of it, or is malformed.
+    /// The response lacks what the client needs of it, or is malformed: its ERROR-CODE too, if the
+    /// reason phrase is not UTF-8.
     Unusable,
 }

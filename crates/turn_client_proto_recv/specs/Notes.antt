@@ -22,7 +22,7 @@ use Rattle.turn_client_proto_recv.specs.Processing.{IsProcessedAt}
 use Rattle.turn_client_proto_messages.specs.Noted.{alternate_reported, domain_reported, is_relaying, mapped_reported, reason_reported}
 use Rattle.turn_client_proto_api.specs.Causes.{IsPushed, advanced, no_causes}
 use Rattle.turn_client_proto_api.specs.declared.cause.TurnCause.{TurnCause}
-use Rattle.turn_client_proto_api.specs.declared.cause.TurnCause.TheVariants.{Rejected, Integrity, NoCommonAlgorithm, OtherFamily, Unusable}
+use Rattle.turn_client_proto_api.specs.declared.cause.TurnCause.TheVariants.{Rejected, Integrity, NoCommonAlgorithm, OtherFamily, Deleted, Unusable}
 use Rattle.turn_client_proto_recv.specs.declared.notes.Before.{Before}
 use Rattle.turn_client_proto_recv.specs.declared.notes.Notes.{Notes}
 
@@ -117,6 +117,11 @@ cause_of before bytes new = if not (has_ended before bytes new) then cause_unend
 abbrev pub cause_at : List ℕ → TurnCause
 cause_at bytes = rejected_or false Unusable bytes
 
+-- The cause that is noted. Once the user requested the end of the allocations, whatever fails or ends has that
+-- cause, and not this one.
+abbrev pub unless_deleted : (is_deleted : Bool) → TurnCause → TurnCause
+unless_deleted is_deleted cause = if is_deleted then Deleted else cause
+
 -- ---- the notes
 
 -- The notes of a new client.
@@ -126,7 +131,12 @@ no_notes = record {
   mapped = None;
   alternate = None;
   domain = None;
+  is_deleted = false;
 }
+
+-- The notes after `delete` requested the end of the allocations.
+abbrev pub after_deletion : Notes → Notes
+after_deletion n = record n { is_deleted = true }
 
 -- The server allocated (RFC 8656, section 7.3).
 abbrev pub is_allocated : Before → Protocol → Bool
@@ -146,8 +156,7 @@ mapped_after before bytes new mapped = if is_allocated before new then mapped_re
 pub record IsRedirectNoted (bytes : List ℕ) (old new : Notes) : Type 0 where
   pub alternate : new.alternate ≡ alternate_reported bytes
   pub domain : (new.domain ≡ domain_reported bytes) ⊎ (new.domain ≡ None)
-  pub mapped : new.mapped ≡ old.mapped
-  pub causes : new.causes ≡ old.causes
+  pub others : new ≡ record old { alternate = new.alternate; domain = new.domain }
 
 -- The other server is that of the message, if the message redirected the client; otherwise it is unchanged.
 abbrev pub IsRedirected : Before → List ℕ → Protocol → Notes → Notes → Type 0
@@ -157,9 +166,11 @@ IsRedirected before bytes p old new = MatchBool (is_redirected before bytes p)
 
 -- A message that the client handled was noted. `p` is the client afterwards.
 pub record IsNotedBy (before : Before) (bytes : List ℕ) (p : Protocol) (old new : Notes) : Type 0 where
-  pub cause : IsPushed before.events (length p.events) (cause_of before bytes p) old.causes new.causes
+  pub cause : IsPushed before.events (length p.events) (unless_deleted old.is_deleted (cause_of before bytes p))
+      old.causes new.causes
   pub mapped : new.mapped ≡ mapped_after before bytes p old.mapped
   pub redirect : IsRedirected before bytes p old new
+  pub deleted : new.is_deleted ≡ old.is_deleted
 
 -- This cause was noted for the events that were queued since there were `before`, and nothing else. `p` is the
 -- client afterwards.
@@ -169,7 +180,7 @@ pub record IsCaused (before : ℕ) (cause : TurnCause) (p : Protocol) (old new :
 
 -- A message that the client handled on the socket of a connection that is being bound was noted.
 abbrev pub IsNotedAt : (before : ℕ) → List ℕ → Protocol → Notes → Notes → Type 0
-IsNotedAt before bytes p old new = IsCaused before (cause_at bytes) p old new
+IsNotedAt before bytes p old new = IsCaused before (unless_deleted old.is_deleted (cause_at bytes)) p old new
 
 -- A call turned the client `old` into `new`, and its cause was noted for the events that it queued.
 abbrev pub IsCallNoted : TurnCause → (old : Protocol) → Notes → (new : Protocol) → Notes → Type 0

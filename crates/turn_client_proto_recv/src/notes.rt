@@ -7,7 +7,7 @@ ghost use Rattle.std.specs.Prelude.{◌≡◌, IfOk, length};
 ghost use Rattle.stun_types_wire.specs.Attributes.{kind_at};
 ghost use Rattle.stun_types_wire.specs.Types.{class_of};
 ghost use Rattle.turn_client_proto_core.specs.Responding.{is_error_class};
-ghost use Rattle.turn_client_proto_recv.specs.Notes.{IsCaused, IsNotedAt, IsNotedBy, IsRedirectNoted, after_event, before_of, cause_of, cause_signed, cause_unended, cause_unsigned, has_ended, is_allocated, is_challenge, is_redirected, no_notes, rejected_or};
+ghost use Rattle.turn_client_proto_recv.specs.Notes.{IsCaused, IsNotedAt, IsNotedBy, IsRedirectNoted, after_deletion, after_event, before_of, cause_at, cause_of, cause_signed, cause_unended, cause_unsigned, has_ended, is_allocated, is_challenge, is_redirected, no_notes, rejected_or, unless_deleted};
 
 use std::alloc::Global;
 use std::net::SocketAddr;
@@ -63,6 +63,9 @@ pub struct Notes {
     pub alternate: Option<SocketAddr>,
     /// The ALTERNATE-DOMAIN of that response; `None` too if memory for it ran out.
     pub domain: Option<MessageText>,
+    /// Whether `delete` requested the end of the allocations. It is the cause of whatever fails or
+    /// ends afterwards.
+    pub is_deleted: bool,
 }
 
 impl Notes {
@@ -75,6 +78,7 @@ impl Notes {
             mapped: None,
             alternate: None,
             domain: None,
+            is_deleted: false,
         }
     }
 
@@ -91,7 +95,7 @@ impl Notes {
         if protocol.events.len() <= before.events {
             return;
         }
-        if let Ok(cause) = cause_of(protocol.alloc, before, message, protocol) {
+        if let Ok(cause) = cause_noted(self.is_deleted, before, message, protocol) {
             self.causes
                 .push(before.events, protocol.events.len(), cause);
         }
@@ -114,6 +118,13 @@ impl Notes {
         ensures { IsCaused before cause protocol.now self.old self.new }
     {
         self.causes.push(before, protocol.events.len(), cause);
+    }
+
+    /// Notes that `delete` requested the end of the allocations.
+    pub fn note_deletion(&mut self)
+        ensures { self.new ≡ after_deletion self.old }
+    {
+        self.is_deleted = true;
     }
 
     /// Goes on to the cause of the event that was taken from the queue, if there was one.
@@ -143,8 +154,7 @@ impl Notes {
         if protocol.events.len() <= before {
             return;
         }
-        let otherwise = TurnCause::Unusable;
-        if let Ok(cause) = rejected_or(protocol.alloc, message, false, otherwise) {
+        if let Ok(cause) = cause_noted_at(self.is_deleted, protocol.alloc, message) {
             self.causes.push(before, protocol.events.len(), cause);
         }
     }
@@ -192,6 +202,38 @@ fn is_challenge(message: &Message<'_>) -> bool
         Some(code) => is_error(message) && (code == UNAUTHORIZED || code == STALE_NONCE),
         None => false,
     }
+}
+
+/// Returns the cause that is noted of a message. `is_deleted` says whether `delete` was called
+/// before, and `protocol` is the client afterwards. Fails with `NoMemory` if an allocation fails.
+fn cause_noted(
+    is_deleted: bool,
+    before: Before,
+    message: &Message<'_>,
+    protocol: &Protocol,
+) -> Result<TurnCause, NoMemory>
+    ensures { IfOk result (λ cause.
+        cause ≡ unless_deleted is_deleted (cause_of before message.now protocol.now)) }
+{
+    if is_deleted {
+        return Ok(TurnCause::Deleted);
+    }
+    cause_of(protocol.alloc, before, message, protocol)
+}
+
+/// Returns the cause that is noted of a message on the socket of a connection that is being bound.
+/// Fails with `NoMemory` if an allocation fails.
+fn cause_noted_at(
+    is_deleted: bool,
+    alloc: Global,
+    message: &Message<'_>,
+) -> Result<TurnCause, NoMemory>
+    ensures { IfOk result (λ cause. cause ≡ unless_deleted is_deleted (cause_at message.now)) }
+{
+    if is_deleted {
+        return Ok(TurnCause::Deleted);
+    }
+    rejected_or(alloc, message, false, TurnCause::Unusable)
 }
 
 /// Returns why a message that the client handled queued events that report that something failed.
