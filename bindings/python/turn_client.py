@@ -384,8 +384,8 @@ class TcpConnectFailed:
 class Rejected:
     """The server rejected the request, by an error response with this code, 300 to 699. The reason phrase is the
     server's words, or those of whoever sent the response: remove control characters before it is printed. It is empty
-    if the response had none, or none that is UTF-8. A response that isn't signed, which means that it wasn't validated
-    under the password, may be anybody's."""
+    if the response had none. (One that isn't UTF-8 makes the response malformed: Unusable.) A response that isn't
+    signed, which means that it wasn't validated under the password, may be anybody's."""
 
     code: int
     reason: str
@@ -420,7 +420,7 @@ class CauseLost:
 
 @dataclass(frozen=True)
 class Deleted:
-    """delete ended it."""
+    """delete was called before: whatever fails or ends after it, by a response or without one."""
 
 
 @dataclass(frozen=True)

@@ -271,7 +271,8 @@ enum turn_cause_kind {
                                    * the settings require, as to hide the name */
     TURN_OTHER_FAMILY = 5,        /* the server allocated addresses of other families only */
     TURN_CAUSE_MEMORY = 6,        /* malloc failed, and the cause was not stored */
-    TURN_DELETED = 7,             /* turn_client_delete ended it */
+    TURN_DELETED = 7,             /* turn_client_delete was called before: whatever fails or ends after it, by a
+                                   * response or without one */
     TURN_EXPIRED = 8,             /* its time was over */
     TURN_SOCKET_CLOSED = 9,       /* does not occur: a call of the Rattle crate that this header has not */
     TURN_UNUSABLE = 10            /* the response was malformed, or lacked what the client needs of it */
@@ -535,7 +536,7 @@ int32_t turn_client_cause(turn_client *client, turn_cause *cause);
 /* Copies the reason phrase of the error response to the start of `out`, a buffer of at least cause->reason_size bytes
  * (RFC 8489, section 14.8). It is UTF-8, of at most 763 bytes, and not ended by a zero. It is the server's, or of
  * whoever sent the response: print it only with its control characters removed. It has no bytes if the response had
- * none, or none that are UTF-8, or malloc failed when it came.
+ * none. (A phrase that is not UTF-8 makes the response malformed: TURN_UNUSABLE.)
  *
  *   TURN_OK               the bytes are in the buffer
  *   TURN_NOTHING          the kind of the cause is not TURN_REJECTED
