@@ -346,9 +346,7 @@ def many() -> Any:
     return t
 
 
-EXCHANGES = (samples.udp, samples.tcp, samples.connections, samples.both, samples.the_others, samples.unanswered,
-             samples.hidden, samples.lapsed, samples.strongest, samples.none_in_common, samples.rejected,
-             samples.redirected, samples.redirected_unsigned, samples.another_password, many)
+EXCHANGES = (*samples.EXCHANGES, many)
 
 
 class Exchanges(unittest.TestCase):
