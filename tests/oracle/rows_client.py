@@ -13,6 +13,7 @@ from pathlib import Path
 # what is imported leaves no folder of compiled files behind
 sys.dont_write_bytecode = True
 
+from rows_client_requests import requests
 from rows_proto_base import BINDING, DEFAULT, GREATEST, HERE, HOUR, LONGEST, THERE, Waits, message as bare
 from rows_wire_base import NUMBER, ROWS, SMALL, part, row, write
 from rows_wire_frames import TCP_WAY
@@ -468,7 +469,10 @@ def debugs():
 
 
 def main():
-    for made in (no_settings, lists, kinds, agents, errors, payloads, sends, debugs, bad_lines, hardened, limited, short_lived):
+    for made in (
+        no_settings, lists, kinds, agents, errors, payloads, sends, debugs, bad_lines, hardened, limited, short_lived,
+        requests,
+    ):
         made()
     write(CRATE)
 

@@ -102,7 +102,7 @@ pub answer_accepted : (client : Client) (answer : AttemptAnswer) (number : ℕ) 
     → addition_refusal (addition_for client (class_of (kind_at draft.bytes))) draft ≡ None
 answer_accepted client answer number draft is fits =
     ap (λ (class : MessageClass). addition_refusal (addition_for client class) draft) (draft_class answer number draft is)
-    ∙ short_accepted (addition_for client (answer_class answer)) draft (answer_short client answer) (unsigned_open (answer_type answer) number (answer_attributes answer) draft is) fits
+    ∙ short_accepted (addition_for client (answer_class answer)) draft (answer_short client answer) (unsigned_open (answer_type answer) number (answer_attributes answer) draft is) (omega (arith, fits))
 
 -- The signed message has the bytes of the response.
 pub signed_answer : (client : Client) (answer : AttemptAnswer) (number : ℕ) (old new : Draft) → IsAnswer answer number old

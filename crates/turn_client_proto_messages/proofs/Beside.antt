@@ -5,15 +5,16 @@ use Rattle.stun_types_wire.specs.Attributes.{Attr}
 use Rattle.stun_types_wire.specs.declared.algorithm.IntegrityAlgorithm.{IntegrityAlgorithm}
 use Rattle.stun_types_wire.specs.declared.algorithm.IntegrityAlgorithm.TheVariants.{Sha1, Sha256, Sha512}
 use Rattle.stun_types_wire.specs.declared.class.MessageClass.TheVariants.{Request}
+use Rattle.stun_types_wire.specs.Fingerprints.{fingerprint_of}
 use Rattle.stun_types_integrity.specs.Signing.{signature}
 use Rattle.stun_types_base.specs.declared.family.AddressFamily.{AddressFamily}
 use Rattle.stun_types_base.specs.declared.family.AddressFamily.TheVariants.{IPV4, IPV6}
 use Rattle.turn_types_attributes.specs.TurnRegistry.{channel_number_kind, connection_id_kind, lifetime_kind, requested_transport_kind, xor_peer_address_kind, xor_relayed_address_kind}
 use Rattle.stun_proto_auth.specs.declared.feature.Feature.{Feature}
-use Rattle.stun_proto_auth.specs.Addition.{attrs}
+use Rattle.stun_proto_auth.specs.Addition.{Addition, attrs}
 use Rattle.stun_proto_client.specs.Client.{Client, Standing, standing_of}
 use Rattle.stun_proto_client.specs.ClientSigning.{addition_by, addition_for, choice_parts, hides_name, name_part, request_parts}
-use Rattle.turn_client_proto_messages.specs.Requests.{additional_family, families_attributes}
+use Rattle.turn_client_proto_messages.specs.Requests.{additional_family, described, families_attributes}
 
 abbrev pub is_of : ℕ → Attr → Bool
 is_of kind a = eqb a.kind kind
@@ -120,3 +121,12 @@ unfolding signature
 signature_other Sha1 key text = record { transport = refl; relayed = refl; lifetime = refl; peer = refl; channel = refl; connection = refl }
 signature_other Sha256 key text = record { transport = refl; relayed = refl; lifetime = refl; peer = refl; channel = refl; connection = refl }
 signature_other Sha512 key text = record { transport = refl; relayed = refl; lifetime = refl; peer = refl; channel = refl; connection = refl }
+
+-- What is added with SOFTWARE is other where the rest is.
+pub described_other : (software : Option (List ℕ)) (made : Addition) → AreOther (attrs made.parts) → AreOther (attrs (described software made).parts)
+described_other None made other = other
+described_other (Some text) made other = (record { transport = refl; relayed = refl; lifetime = refl; peer = refl; channel = refl; connection = refl }, other)
+
+pub fingerprint_other : (text : List ℕ) → IsOther (fingerprint_of text).kind
+unfolding fingerprint_of
+fingerprint_other text = record { transport = refl; relayed = refl; lifetime = refl; peer = refl; channel = refl; connection = refl }

@@ -1,13 +1,14 @@
 -- The authentication attributes of a signed request are those that the client remembers, if its texts are
 -- well formed.
 use Rattle.std.specs.Prelude.{◌==◌, IfSome}
-use Rattle.std.proofs.Common.{◌≡◌, ℕ, ◌<◌, ◌≤◌, ◌^◌, Bool, true, false, if◌then◌else◌, List, [], ◌∷◌, ◌++◌, length, map, Option, Some, None, refl, ap, ◌∙◌, subst, append_assoc, arith}
+use Rattle.std.proofs.Common.{◌≡◌, ℕ, ◌<◌, ◌≤◌, ◌^◌, Bool, true, false, if◌then◌else◌, List, [], ◌∷◌, ◌++◌, length, map, Option, Some, None, refl, sym, ap, ◌∙◌, subst, append_assoc, arith}
 use Rattle.std.specs.List.{flat_map}
+use Rattle.std.proofs.lemmas.List.{append-nil}
 use Rattle.std.specs.Option.{option_map, option_or}
 use Rattle.sha2.proofs.Facts256.{length-sha256}
 use Rattle.stun_types_write.specs.Adding.{attr_of}
 use Rattle.stun_types_wire.specs.Attributes.{Attr}
-use Rattle.stun_types_add.specs.Calls.{Integrity, Ordinary, attributes_after, attributes_of}
+use Rattle.stun_types_add.specs.Calls.{Add, Integrity, Ordinary, attributes_after, attributes_of}
 use Rattle.stun_types_integrity.specs.Credentials.{Key, NameAndPassword}
 use Rattle.stun_types_attributes.specs.AuthAttributes.Entries.{algorithm_read_refusal, algorithms_read_refusal, entry, number_decoded}
 use Rattle.stun_types_integrity.specs.Integrity.{algorithm_of}
@@ -19,6 +20,7 @@ use Rattle.stun_types_attributes.specs.AuthAttributes.PasswordAlgorithmNumbers a
 use Rattle.stun_types_wire.specs.RawBytes as raw
 use Rattle.stun_types_wire.specs.Registry.{longest_text, longest_username, nonce_kind, password_algorithm_kind, password_algorithms_kind, realm_kind, userhash_kind, userhash_length, username_kind}
 use Rattle.stun_types_integrity.specs.Signing.{signature}
+use Rattle.stun_types_wire.specs.Fingerprints.{fingerprint_of}
 use Rattle.stun_types_wire.specs.Text.{message_text}
 use Rattle.stun_types_attributes.specs.AuthAttributes.Userhashes.{userhash_of}
 use Rattle.stun_types_write.specs.ValueReading.{text_read_refusal, utf8_refusal, value_refusal}
@@ -26,24 +28,25 @@ use Rattle.stun_types_base.specs.declared.family.AddressFamily.{AddressFamily}
 use Rattle.stun_types_base.specs.declared.family.AddressFamily.TheVariants.{IPV4, IPV6}
 use Rattle.stun_types_write.proofs.Values.{text_is_accepted, value_is_accepted}
 use Rattle.turn_types_attributes.specs.FamilyValues.{family_value}
-use Rattle.stun_proto_auth.specs.Addition.{Addition, attrs, calls_of, nonce_of, realm_of}
+use Rattle.stun_proto_auth.specs.Addition.{Addition, PartOf, attrs, calls_of, calls_of_parts, no_addition, nonce_of, realm_of}
 use Rattle.stun_proto_auth.specs.Claims.{Claimed, algorithm_decoded, algorithms_decoded, claim_of, claimed, hash_decoded, last_of_kind, list_decoded, text_decoded, unless_refused}
 use Rattle.stun_proto_client.specs.Client.{Challenge, Client, Standing, standing_by, standing_key, standing_of}
 use Rattle.stun_proto_client.specs.ClientSigning.{choice_parts, hides_name, name_part, request_parts}
 use Rattle.stun_proto_auth.specs.SupportedAlgorithms.{number_by}
 use Rattle.turn_client_proto_messages.specs.OwnClaims.{own_claim, returned_list}
 use Rattle.turn_client_proto_messages.specs.ReadTexts.{HasKnownList, HasReadTexts, IsReadChallenge}
-use Rattle.turn_client_proto_messages.specs.Requests.{additional_family, allocation_lifetime, channel_attribute, connection_attribute, dont_fragment_attribute, families_attributes, is_signed, lifetime_attribute, peer_attribute, peer_of, request_attributes, request_calls, request_text, request_type, transport_attribute}
+use Rattle.turn_client_proto_messages.specs.Requests.{additional_family, allocation_lifetime, channel_attribute, connection_attribute, described, dont_fragment_attribute, families_attributes, fingerprint_calls, is_signed, lifetime_attribute, peer_attribute, peer_of, request_attributes, request_calls, request_text, request_type, software_parts, transport_attribute}
 use Rattle.turn_client_proto_messages.specs.ShortTexts.{HasShortTexts, IsShortChallenge}
 use Rattle.turn_client_proto_messages.specs.ReportedRequests.{IsLawfulRequest}
 use Rattle.turn_client_proto_messages.specs.declared.request.TurnRequest.{TurnRequest}
 use Rattle.turn_client_proto_messages.specs.declared.request.TurnRequest.TheVariants.{FirstAllocate, Allocate, Refresh, CreatePermission, ChannelBind, Connect, ConnectionBind}
 use Rattle.turn_client_proto_messages.proofs.Reading.{ordinary_then, request_read}
 use Rattle.turn_client_proto_messages.proofs.Signed.{adds_of}
+use Rattle.turn_client_proto_messages.proofs.Writing.{described_alone}
 
 -- ---- the last of a kind
 
--- None of the request's own attributes is of this type.
+-- None of the request's own attributes, and neither SOFTWARE nor FINGERPRINT, is of this type.
 record IsFree (kind : ℕ) : Type 0 where
   transport : (0x19 == kind) ≡ false
   lifetime : (0x0D == kind) ≡ false
@@ -53,6 +56,8 @@ record IsFree (kind : ℕ) : Type 0 where
   peer : (0x12 == kind) ≡ false
   channel : (0x0C == kind) ≡ false
   connection : (0x2A == kind) ≡ false
+  software : (0x8022 == kind) ≡ false
+  fingerprint : (0x8028 == kind) ≡ false
 
 none_more : (kind : ℕ) (a : Attr) (rest : List Attr) → (a.kind == kind) ≡ false → last_of_kind kind rest ≡ None → last_of_kind kind (a ∷ rest) ≡ None
 unfolding last_of_kind
@@ -118,6 +123,47 @@ unfolding last_algorithm
 last_algorithm_both [] other a is = is
 last_algorithm_both (x ∷ one) other a is = ap (λ (o : Option IntegrityAlgorithm). option_or o (algorithm_of x.kind)) (last_algorithm_both one other a is)
 
+-- Nor do attributes after it.
+last_before : (kind : ℕ) (one other : List Attr) → last_of_kind kind other ≡ None → last_of_kind kind (one ++ other) ≡ last_of_kind kind one
+last_before kind one other none = last_of_both kind one other ∙ ap (λ (o : Option Attr). option_or o (last_of_kind kind one)) none
+
+last_algorithm_before : (one other : List Attr) → last_algorithm other ≡ None → last_algorithm (one ++ other) ≡ last_algorithm one
+unfolding last_algorithm
+last_algorithm_before [] other none = none
+last_algorithm_before (x ∷ one) other none = ap (λ (o : Option IntegrityAlgorithm). option_or o (algorithm_of x.kind)) (last_algorithm_before one other none)
+
+-- ---- SOFTWARE and FINGERPRINT
+
+none_in_software : (kind : ℕ) (software : Option (List ℕ)) → IsFree kind → last_of_kind kind (attrs (software_parts software)) ≡ None
+none_in_software kind None free = none_here kind
+none_in_software kind (Some text) free = none_more kind (attr_of 0x8022 text) [] free.software (none_here kind)
+
+-- FINGERPRINT behind this message, if it is wanted.
+abbrev marks_after : Bool → List ℕ → List Attr
+marks_after true text = fingerprint_of text ∷ []
+marks_after false text = []
+
+none_in_marks : (kind : ℕ) (marks : Bool) (text : List ℕ) → IsFree kind → last_of_kind kind (marks_after marks text) ≡ None
+unfolding fingerprint_of
+none_in_marks kind true text free = none_more kind (fingerprint_of text) [] free.fingerprint (none_here kind)
+none_in_marks kind false text free = none_here kind
+
+marks_unsigned : (marks : Bool) (text : List ℕ) → last_algorithm (marks_after marks text) ≡ None
+unfolding last_algorithm fingerprint_of
+marks_unsigned true text = refl
+marks_unsigned false text = refl
+
+-- It is the last attribute.
+marks_are : (kind number : ℕ) (marks : Bool) (before : List Attr) → attributes_after kind number (fingerprint_calls marks) before ≡ before ++ marks_after marks (message_text kind number before)
+unfolding attributes_after
+marks_are kind number true before = refl
+marks_are kind number false before = sym (append-nil before)
+
+-- SOFTWARE is before the other parts.
+software_first : (software : Option (List ℕ)) (parts : List PartOf) → attrs (software_parts software ++ parts) ≡ attrs (software_parts software) ++ attrs parts
+software_first None parts = refl
+software_first (Some text) parts = refl
+
 -- ---- what the client adds, and the seal
 
 abbrev tail : Bool → List ℕ → List ℕ → List ℕ → List ℕ → Option (List ℕ) → IntegrityAlgorithm → List ℕ → List ℕ → List Attr
@@ -165,15 +211,59 @@ tail_is false name hash realm nonce (Some list) Sha256 key text =
 tail_is false name hash realm nonce (Some list) Sha512 key text =
     record { seal = refl; username = refl; user_hash = refl; reported_realm = refl; reported_nonce = refl; reported_list = refl; reported_choice = refl }
 
--- The attributes are those of the request, those that the client adds, and the integrity attribute.
-listed_as : (kind number : ℕ) (own parts : List Attr) (key : Key)
-    → attributes_of kind number (map Ordinary own ++ (map Ordinary parts ++ Integrity key.algorithm key.bytes ∷ []))
-    ≡ own ++ (parts ++ signature key.algorithm key.bytes (message_text kind number (own ++ parts)) ∷ [])
+-- The attributes are those of the request, those that the client adds, the integrity attribute, and FINGERPRINT if
+-- it is wanted.
+listed_as : (kind number : ℕ) (own parts : List Attr) (key : Key) (marks : Bool)
+    → attributes_of kind number (map Ordinary own ++ ((map Ordinary parts ++ Integrity key.algorithm key.bytes ∷ []) ++ fingerprint_calls marks))
+    ≡ own ++ (parts ++ signature key.algorithm key.bytes (message_text kind number (own ++ parts))
+    ∷ marks_after marks (message_text kind number ((own ++ parts) ++ signature key.algorithm key.bytes (message_text kind number (own ++ parts)) ∷ [])))
 unfolding attributes_after
-listed_as kind number own parts key =
-    ordinary_then kind number own (map Ordinary parts ++ Integrity key.algorithm key.bytes ∷ []) []
-    ∙ (ordinary_then kind number parts (Integrity key.algorithm key.bytes ∷ []) own
-    ∙ append_assoc own parts (signature key.algorithm key.bytes (message_text kind number (own ++ parts)) ∷ []))
+listed_as kind number own parts key marks =
+    let sign = Integrity key.algorithm key.bytes ∷ [] in
+    let seal = signature key.algorithm key.bytes (message_text kind number (own ++ parts)) in
+    let before = (own ++ parts) ++ seal ∷ [] in
+    let last = marks_after marks (message_text kind number before) in
+    ap (λ (calls : List Add). attributes_of kind number (map Ordinary own ++ calls)) (append_assoc (map Ordinary parts) sign (fingerprint_calls marks))
+    ∙ (ordinary_then kind number own (map Ordinary parts ++ (sign ++ fingerprint_calls marks)) []
+    ∙ (ordinary_then kind number parts (sign ++ fingerprint_calls marks) own
+    ∙ (marks_are kind number marks before
+    ∙ (append_assoc (own ++ parts) (seal ∷ []) last
+    ∙ append_assoc own parts (seal ∷ last)))))
+
+-- SOFTWARE may be counted among the request's own attributes.
+regrouped : (own software parts : List Attr) (seal : Attr) (last : List Attr) → own ++ ((software ++ parts) ++ seal ∷ last) ≡ (own ++ software) ++ ((parts ++ seal ∷ []) ++ last)
+regrouped own software parts seal last =
+    ap (λ (l : List Attr). own ++ l) (append_assoc software parts (seal ∷ last))
+    ∙ (sym (append_assoc own software (parts ++ seal ∷ last))
+    ∙ ap (λ (l : List Attr). (own ++ software) ++ l) (sym (append_assoc parts (seal ∷ []) last)))
+
+-- ---- the first request
+
+software_unsigned : (software : Option (List ℕ)) → last_algorithm (attrs (software_parts software)) ≡ None
+unfolding last_algorithm
+software_unsigned None = refl
+software_unsigned (Some text) = refl
+
+-- The attributes of a request that is not signed: its own, SOFTWARE and FINGERPRINT.
+plain_as : (kind number : ℕ) (own : List Attr) (software : Option (List ℕ)) (marks : Bool)
+    → attributes_of kind number (map Ordinary own ++ (calls_of (described software no_addition) ++ fingerprint_calls marks))
+    ≡ own ++ (attrs (software_parts software) ++ marks_after marks (message_text kind number (own ++ attrs (software_parts software))))
+plain_as kind number own software marks =
+    let before = own ++ attrs (software_parts software) in
+    ap (λ (calls : List Add). attributes_of kind number (map Ordinary own ++ (calls ++ fingerprint_calls marks))) (sym (described_alone software))
+    ∙ (ordinary_then kind number own (calls_of_parts (software_parts software) ++ fingerprint_calls marks) []
+    ∙ (ordinary_then kind number (attrs (software_parts software)) (fingerprint_calls marks) own
+    ∙ (marks_are kind number marks before
+    ∙ append_assoc own (attrs (software_parts software)) (marks_after marks (message_text kind number before)))))
+
+-- If its own are no integrity attributes, it has none.
+pub plain_unsigned : (kind number : ℕ) (own : List Attr) (software : Option (List ℕ)) (marks : Bool) → last_algorithm own ≡ None
+    → last_algorithm (attributes_of kind number (map Ordinary own ++ (calls_of (described software no_addition) ++ fingerprint_calls marks))) ≡ None
+plain_unsigned kind number own software marks none =
+    let text = message_text kind number (own ++ attrs (software_parts software)) in
+    ap last_algorithm (plain_as kind number own software marks)
+    ∙ (last_algorithm_before own (attrs (software_parts software) ++ marks_after marks text) (last_algorithm_before (attrs (software_parts software)) (marks_after marks text) (marks_unsigned marks text) ∙ software_unsigned software)
+    ∙ none)
 
 -- ---- what can be read
 
@@ -242,29 +332,56 @@ module _ (client : Client) (request : TurnRequest) (number : ℕ) (s : Standing)
   abbrev shows : List Attr
   shows = attributes_of kind number (request_calls client request number)
 
-  abbrev following : List Attr
-  following = tail hides name hash s.challenge.realm s.challenge.nonce s.challenge.offered s.challenge.choice (standing_key s).bytes
-      (message_text kind number (own ++ attrs (request_parts hides s)))
+  abbrev software : List Attr
+  software = attrs (software_parts client.style.software)
 
-  visible_is : shows ≡ own ++ following
-  visible_is = ap (λ (a : Addition). attributes_of kind number (map Ordinary own ++ calls_of a)) (adds_of client request s signed occurs)
-      ∙ listed_as kind number own (attrs (request_parts hides s)) (standing_key s)
+  -- The attributes before the integrity attribute.
+  abbrev signed_attributes : List Attr
+  signed_attributes = own ++ attrs (software_parts client.style.software ++ request_parts hides s)
+
+  abbrev seal : Attr
+  seal = signature s.challenge.choice (standing_key s).bytes (message_text kind number signed_attributes)
+
+  abbrev following : List Attr
+  following = tail hides name hash s.challenge.realm s.challenge.nonce s.challenge.offered s.challenge.choice (standing_key s).bytes (message_text kind number signed_attributes)
+
+  abbrev last : List Attr
+  last = marks_after client.style.fingerprint (message_text kind number (signed_attributes ++ seal ∷ []))
+
+  visible_is : shows ≡ (own ++ software) ++ (following ++ last)
+  visible_is =
+      ap (λ (a : Addition). attributes_of kind number (map Ordinary own ++ (calls_of a ++ fingerprint_calls client.style.fingerprint))) (adds_of client request s signed occurs)
+      ∙ (listed_as kind number own (attrs (software_parts client.style.software ++ request_parts hides s)) (standing_key s) client.style.fingerprint
+      ∙ (ap (λ (l : List Attr). own ++ (l ++ seal ∷ last)) (software_first client.style.software (request_parts hides s))
+      ∙ regrouped own software (attrs (request_parts hides s)) seal last))
+
+  none_before : (k : ℕ) → IsFree k → last_of_kind k (own ++ software) ≡ None
+  none_before k free = last_after k own software (none_own k request number free) ∙ none_in_software k client.style.software free
 
   last_is : (k : ℕ) (a : Option Attr) → IsFree k → last_of_kind k following ≡ a → last_of_kind k shows ≡ a
-  last_is k a free is = ap (last_of_kind k) visible_is ∙ (last_after k own following (none_own k request number free) ∙ is)
+  last_is k a free is =
+      ap (last_of_kind k) visible_is
+      ∙ (last_after k (own ++ software) (following ++ last) (none_before k free)
+      ∙ (last_before k following last (none_in_marks k client.style.fingerprint (message_text kind number (signed_attributes ++ seal ∷ [])) free) ∙ is))
+
+  seal_is : last_algorithm following ≡ Some s.challenge.choice → last_algorithm shows ≡ Some s.challenge.choice
+  seal_is is =
+      ap last_algorithm visible_is
+      ∙ last_algorithm_both (own ++ software) (following ++ last) s.challenge.choice
+      (last_algorithm_before following last (marks_unsigned client.style.fingerprint (message_text kind number (signed_attributes ++ seal ∷ []))) ∙ is)
 
   claims : CanBeClaimed s → claim_of shows ≡ own_claim client.anonymous_username s
   unfolding text_decoded hash_decoded algorithm_decoded algorithm_read_refusal number_decoded raw.type_and_len_refusal numbers.number_refusal numbers.is_known
   claims can =
-      let ends = tail_is hides name hash s.challenge.realm s.challenge.nonce s.challenge.offered s.challenge.choice (standing_key s).bytes (message_text kind number (own ++ attrs (request_parts hides s))) in
+      let ends = tail_is hides name hash s.challenge.realm s.challenge.nonce s.challenge.offered s.challenge.choice (standing_key s).bytes (message_text kind number signed_attributes) in
       same_claim _ _ _ _ _ _ _ _ _ _ _ _ _ _
-      (ap last_algorithm visible_is ∙ last_algorithm_both own following s.challenge.choice ends.seal)
-      (ap (text_decoded username_kind longest_username) (last_is username_kind _ (record { transport = refl; lifetime = refl; requested = refl; additional = refl; fragment = refl; peer = refl; channel = refl; connection = refl }) ends.username) ∙ name_read hides)
-      (ap hash_decoded (last_is userhash_kind _ (record { transport = refl; lifetime = refl; requested = refl; additional = refl; fragment = refl; peer = refl; channel = refl; connection = refl }) ends.user_hash) ∙ hash_read hides)
-      (ap (text_decoded realm_kind longest_text) (last_is realm_kind _ (record { transport = refl; lifetime = refl; requested = refl; additional = refl; fragment = refl; peer = refl; channel = refl; connection = refl }) ends.reported_realm) ∙ ap (λ (o : Option StunParseError). unless_refused o s.challenge.realm) can.realm)
-      (ap (text_decoded nonce_kind longest_text) (last_is nonce_kind _ (record { transport = refl; lifetime = refl; requested = refl; additional = refl; fragment = refl; peer = refl; channel = refl; connection = refl }) ends.reported_nonce) ∙ ap (λ (o : Option StunParseError). unless_refused o s.challenge.nonce) can.nonce)
-      (last_is password_algorithms_kind _ (record { transport = refl; lifetime = refl; requested = refl; additional = refl; fragment = refl; peer = refl; channel = refl; connection = refl }) ends.reported_list)
-      (ap algorithm_decoded (last_is password_algorithm_kind _ (record { transport = refl; lifetime = refl; requested = refl; additional = refl; fragment = refl; peer = refl; channel = refl; connection = refl }) ends.reported_choice) ∙ choice_read s.challenge.offered s.challenge.choice)
+      (seal_is ends.seal)
+      (ap (text_decoded username_kind longest_username) (last_is username_kind _ (record { transport = refl; lifetime = refl; requested = refl; additional = refl; fragment = refl; peer = refl; channel = refl; connection = refl; software = refl; fingerprint = refl }) ends.username) ∙ name_read hides)
+      (ap hash_decoded (last_is userhash_kind _ (record { transport = refl; lifetime = refl; requested = refl; additional = refl; fragment = refl; peer = refl; channel = refl; connection = refl; software = refl; fingerprint = refl }) ends.user_hash) ∙ hash_read hides)
+      (ap (text_decoded realm_kind longest_text) (last_is realm_kind _ (record { transport = refl; lifetime = refl; requested = refl; additional = refl; fragment = refl; peer = refl; channel = refl; connection = refl; software = refl; fingerprint = refl }) ends.reported_realm) ∙ ap (λ (o : Option StunParseError). unless_refused o s.challenge.realm) can.realm)
+      (ap (text_decoded nonce_kind longest_text) (last_is nonce_kind _ (record { transport = refl; lifetime = refl; requested = refl; additional = refl; fragment = refl; peer = refl; channel = refl; connection = refl; software = refl; fingerprint = refl }) ends.reported_nonce) ∙ ap (λ (o : Option StunParseError). unless_refused o s.challenge.nonce) can.nonce)
+      (last_is password_algorithms_kind _ (record { transport = refl; lifetime = refl; requested = refl; additional = refl; fragment = refl; peer = refl; channel = refl; connection = refl; software = refl; fingerprint = refl }) ends.reported_list)
+      (ap algorithm_decoded (last_is password_algorithm_kind _ (record { transport = refl; lifetime = refl; requested = refl; additional = refl; fragment = refl; peer = refl; channel = refl; connection = refl; software = refl; fingerprint = refl }) ends.reported_choice) ∙ choice_read s.challenge.offered s.challenge.choice)
     where
       name_read : (h : Bool) → text_decoded username_kind longest_username (if h then None else Some (attr_of username_kind name)) ≡ (if h then None else Some name)
       name_read true = refl

@@ -11,6 +11,7 @@ use Rattle.stun_types_wire.specs.Grammar.{number_at, refusal}
 use Rattle.stun_types_wire.specs.declared.class.MessageClass.TheVariants.{Request}
 use Rattle.stun_types_wire.specs.MessageReading.{IsReadAs}
 use Rattle.stun_types_write.specs.Outcomes.{IsStartedAs, added}
+use Rattle.stun_types_wire.specs.Fingerprints.{fingerprint_of}
 use Rattle.stun_types_integrity.specs.Signing.{signature}
 use Rattle.stun_types_wire.specs.Text.{body_text, header_text, message_text}
 use Rattle.stun_types_base.specs.declared.family.AddressFamily.{AddressFamily}
@@ -24,14 +25,14 @@ use Rattle.stun_proto_client.specs.Client.{Client}
 use Rattle.stun_proto_client.specs.ClientSigning.{addition_for}
 use Rattle.turn_runs.specs.StunWire.{decoded_by}
 use Rattle.turn_client_proto_messages.specs.Composing.{IsOpen, IsSmall}
-use Rattle.turn_client_proto_messages.specs.Requests.{additional_family, addition_of, families_attributes, is_signed, request_attributes, request_calls, request_text, request_type}
+use Rattle.turn_client_proto_messages.specs.Requests.{additional_family, addition_of, authentication_of, families_attributes, fingerprint_calls, is_signed, request_attributes, request_calls, request_text, request_type}
 use Rattle.turn_client_proto_messages.specs.ShortTexts.{HasShortTexts}
 use Rattle.turn_client_proto_messages.specs.ReportedRequests.{CanBeRead, IsLawfulRequest, reported_request}
 use Rattle.turn_client_proto_messages.specs.declared.request.TurnRequest.{TurnRequest}
 use Rattle.turn_client_proto_messages.specs.declared.request.TurnRequest.TheVariants.{FirstAllocate, Allocate, Refresh, CreatePermission, ChannelBind, Connect, ConnectionBind}
-use Rattle.turn_client_proto_messages.proofs.Beside.{AreOther, client_other, other_both, signature_other}
+use Rattle.turn_client_proto_messages.proofs.Beside.{AreOther, client_other, described_other, fingerprint_other, other_both, signature_other}
 use Rattle.turn_client_proto_messages.proofs.Growing.{open_added, open_room}
-use Rattle.turn_client_proto_messages.proofs.Signing.{IsShortAddition, IsShortPart, client_short, nothing_short, parts_left, signer_calls}
+use Rattle.turn_client_proto_messages.proofs.Signing.{IsShortAddition, IsShortPart, addition_short, mark_accepted, parts_left, short_marked, signer_calls}
 use Rattle.turn_client_proto_messages.proofs.Small.{additional_small, channel_small, connection_small, dont_fragment_small, lifetime_small, peer_small, requested_small, transport_small}
 use Rattle.turn_client_proto_messages.proofs.ReportedBytes.{request_reported, reported_listed}
 use Rattle.turn_client_proto_messages.proofs.Writing.{text_class}
@@ -119,10 +120,10 @@ header_started kind number k = record {
 header_open : (kind number : ℕ) → kind < 2 ^ 14 → IsOpen (header_alone kind number)
 header_open kind number k = record { started = text_started kind number k; ended = refl; limit = refl }
 
--- A message that was started and took short attributes and a short addition.
-pub all_written : (kind number : ℕ) (attributes : List Attr) (made : Addition) → kind < 2 ^ 14 → AllByRecursion IsSmall attributes → length attributes ≤ 5 → IsShortAddition made
-    → IsWritten kind number (map Ordinary attributes ++ calls_of made) (after_calls (map Ordinary attributes ++ calls_of made) (header_alone kind number))
-all_written kind number attributes made k small few short =
+-- A message that was started and took short attributes, a short addition and maybe FINGERPRINT.
+pub all_written : (kind number : ℕ) (attributes : List Attr) (made : Addition) (marks : Bool) → kind < 2 ^ 14 → AllByRecursion IsSmall attributes → length attributes ≤ 5 → IsShortAddition made
+    → IsWritten kind number (map Ordinary attributes ++ (calls_of made ++ fingerprint_calls marks)) (after_calls (map Ordinary attributes ++ (calls_of made ++ fingerprint_calls marks)) (header_alone kind number))
+all_written kind number attributes made marks k small few short =
     let header = header_alone kind number in
     let size = header_length kind number in
     let head = attributes_left attributes header small (header_open kind number k) (omega (arith, size, few)) in
@@ -132,11 +133,13 @@ all_written kind number attributes made k small few short =
     let end = after_calls (calls_of_parts made.parts) middle in
     let longer = parts.size in
     let signer = signer_calls end made.signer parts.still (let most = short.few in omega (arith, longer, long, size, few, most)) in
+    let added = both_accepted (calls_of_parts made.parts) (calls_of_signer made.signer) middle parts.calls signer in
+    let marked = mark_accepted marks (after_calls (calls_of made) middle) (short_marked made middle short head.still (omega (arith, long, size, few))) in
     record {
       empty = empty [] None;
       header = header;
       started = header_started kind number k;
-      accepted = both_accepted (map Ordinary attributes) (calls_of made) header head.calls (both_accepted (calls_of_parts made.parts) (calls_of_signer made.signer) middle parts.calls signer);
+      accepted = both_accepted (map Ordinary attributes) (calls_of made ++ fingerprint_calls marks) header head.calls (both_accepted (calls_of made) (fingerprint_calls marks) middle added marked);
       is = refl;
     }
 
@@ -158,6 +161,10 @@ signer_lawful : (signer : Option Key) → AllByRecursion IsLawful (calls_of_sign
 signer_lawful None = tt
 signer_lawful (Some key) = (tt, tt)
 
+pub marks_lawful : (marks : Bool) → AllByRecursion IsLawful (fingerprint_calls marks)
+marks_lawful true = (tt, tt)
+marks_lawful false = tt
+
 -- ---- what they add
 
 pub ordinary_then : (mtype number : ℕ) (all : List Attr) (more : List Add) (before : List Attr) → attributes_after mtype number (map Ordinary all ++ more) before ≡ attributes_after mtype number more (before ++ all)
@@ -173,22 +180,37 @@ record HasAfter (all attributes : List Attr) : Type 0 where
   parts : all ≡ attributes ++ rest
   other : AreOther rest
 
-signer_after : (mtype number : ℕ) (signer : Option Key) (before : List Attr) → HasAfter (attributes_after mtype number (calls_of_signer signer) before) before
+signer_after : (mtype number : ℕ) (signer : Option Key) (marks : Bool) (before : List Attr) → HasAfter (attributes_after mtype number (calls_of_signer signer ++ fingerprint_calls marks) before) before
 unfolding attributes_after
-signer_after mtype number None before = record { rest = []; parts = sym (append-nil before); other = tt }
-signer_after mtype number (Some key) before = record {
+signer_after mtype number None false before = record { rest = []; parts = sym (append-nil before); other = tt }
+signer_after mtype number None true before = record {
+  rest = fingerprint_of (message_text mtype number before) ∷ [];
+  parts = refl;
+  other = (fingerprint_other (message_text mtype number before), tt);
+}
+signer_after mtype number (Some key) false before = record {
   rest = signature key.algorithm key.bytes (message_text mtype number before) ∷ [];
   parts = refl;
   other = (signature_other key.algorithm key.bytes (message_text mtype number before), tt);
 }
+signer_after mtype number (Some key) true before =
+    let seal = signature key.algorithm key.bytes (message_text mtype number before) in
+    let mark = fingerprint_of (message_text mtype number (before ++ seal ∷ [])) in
+    record {
+      rest = seal ∷ mark ∷ [];
+      parts = append_assoc before (seal ∷ []) (mark ∷ []);
+      other = (signature_other key.algorithm key.bytes (message_text mtype number before), (fingerprint_other (message_text mtype number (before ++ seal ∷ [])), tt));
+    }
 
-calls_after : (mtype number : ℕ) (attributes : List Attr) (made : Addition) → AreOther (attrs made.parts) → HasAfter (attributes_of mtype number (map Ordinary attributes ++ calls_of made)) attributes
-calls_after mtype number attributes made other =
-    let end = signer_after mtype number made.signer (attributes ++ attrs made.parts) in
+calls_after : (mtype number : ℕ) (attributes : List Attr) (made : Addition) (marks : Bool) → AreOther (attrs made.parts) → HasAfter (attributes_of mtype number (map Ordinary attributes ++ (calls_of made ++ fingerprint_calls marks))) attributes
+calls_after mtype number attributes made marks other =
+    let following = calls_of_signer made.signer ++ fingerprint_calls marks in
+    let end = signer_after mtype number made.signer marks (attributes ++ attrs made.parts) in
     record {
       rest = attrs made.parts ++ end.rest;
-      parts = ordinary_then mtype number attributes (calls_of made) []
-          ∙ ordinary_then mtype number (attrs made.parts) (calls_of_signer made.signer) attributes
+      parts = ap (λ (calls : List Add). attributes_of mtype number (map Ordinary attributes ++ calls)) (append_assoc (calls_of_parts made.parts) (calls_of_signer made.signer) (fingerprint_calls marks))
+          ∙ ordinary_then mtype number attributes (calls_of_parts made.parts ++ following) []
+          ∙ ordinary_then mtype number (attrs made.parts) following attributes
           ∙ end.parts
           ∙ append_assoc attributes (attrs made.parts) end.rest;
       other = other_both (attrs made.parts) end.rest other end.other;
@@ -196,15 +218,8 @@ calls_after mtype number attributes made other =
 
 -- ---- the addition of a request
 
-pub addition_short : (client : Client) (request : TurnRequest) → HasShortTexts client → IsShortAddition (addition_of client request)
-addition_short client request short = by (is_signed request)
-  where
-    by : (signed : Bool) → IsShortAddition (if signed then addition_for client Request else no_addition)
-    by true = client_short client short
-    by false = nothing_short
-
 addition_other : (client : Client) (request : TurnRequest) → AreOther (attrs (addition_of client request).parts)
-addition_other client request = by (is_signed request)
+addition_other client request = described_other client.style.software (authentication_of client request) (by (is_signed request))
   where
     by : (signed : Bool) → AreOther (attrs (if signed then addition_for client Request else no_addition).parts)
     by true = client_other client
@@ -221,21 +236,30 @@ type_small (ConnectionBind connection) = omega arith
 
 -- ---- what is read
 
--- A message of short attributes and a short addition is decoded as it was written.
+-- A message of short attributes, a short addition and maybe FINGERPRINT is decoded as it was written.
+marked_read : (kind number : ℕ) (attributes : List Attr) (made : Addition) (marks : Bool) → kind < 2 ^ 14 → number < 2 ^ 96 → AllByRecursion IsSmall attributes → length attributes ≤ 5 → IsShortAddition made
+    → IsReadAs kind number (attributes_of kind number (map Ordinary attributes ++ (calls_of made ++ fingerprint_calls marks)))
+    (message_text kind number (attributes_of kind number (map Ordinary attributes ++ (calls_of made ++ fingerprint_calls marks))))
+marked_read kind number attributes made marks k n small few short =
+    let calls = map Ordinary attributes ++ (calls_of made ++ fingerprint_calls marks) in
+    let draft = after_calls calls (header_alone kind number) in
+    let written = all_written kind number attributes made marks k small few short in
+    let adds = lawful_both (calls_of_parts made.parts) (calls_of_signer made.signer) (short_lawful made.parts short.each) (signer_lawful made.signer) in
+    let each = lawful_both (map Ordinary attributes) (calls_of made ++ fingerprint_calls marks) (small_lawful attributes small) (lawful_both (calls_of made) (fingerprint_calls marks) adds (marks_lawful marks)) in
+    subst (λ (b : List ℕ). IsReadAs kind number (attributes_of kind number calls) b) (written_text kind number calls draft written) (calls_read kind number calls draft k n each written)
+
+-- So is one without FINGERPRINT.
 pub whole_read : (kind number : ℕ) (attributes : List Attr) (made : Addition) → kind < 2 ^ 14 → number < 2 ^ 96 → AllByRecursion IsSmall attributes → length attributes ≤ 5 → IsShortAddition made
     → IsReadAs kind number (attributes_of kind number (map Ordinary attributes ++ calls_of made)) (message_text kind number (attributes_of kind number (map Ordinary attributes ++ calls_of made)))
 whole_read kind number attributes made k n small few short =
-    let calls = map Ordinary attributes ++ calls_of made in
-    let draft = after_calls calls (header_alone kind number) in
-    let written = all_written kind number attributes made k small few short in
-    let each = lawful_both (map Ordinary attributes) (calls_of made) (small_lawful attributes small) (lawful_both (calls_of_parts made.parts) (calls_of_signer made.signer) (short_lawful made.parts short.each) (signer_lawful made.signer)) in
-    subst (λ (b : List ℕ). IsReadAs kind number (attributes_of kind number calls) b) (written_text kind number calls draft written) (calls_read kind number calls draft k n each written)
+    subst (λ (calls : List Add). IsReadAs kind number (attributes_of kind number (map Ordinary attributes ++ calls)) (message_text kind number (attributes_of kind number (map Ordinary attributes ++ calls))))
+    (append-nil (calls_of made)) (marked_read kind number attributes made false k n small few short)
 
 pub request_read : (client : Client) (request : TurnRequest) (number : ℕ) → HasShortTexts client → IsLawfulRequest request → number < 2 ^ 96
     → IsReadAs (request_type request) number (attributes_of (request_type request) number (request_calls client request number)) (request_text client request number)
 unfolding request_text
 request_read client request number short lawful n =
-    whole_read (request_type request) number (request_attributes request number) (addition_of client request) (type_small request) n (attributes_small request number) (attributes_few request number lawful) (addition_short client request short)
+    marked_read (request_type request) number (request_attributes request number) (addition_of client request) client.style.fingerprint (type_small request) n (attributes_small request number) (attributes_few request number lawful) (addition_short client request short)
 
 pub message_law : (client : Client) (request : TurnRequest) (number : ℕ) → HasShortTexts client → IsLawfulRequest request → number < 2 ^ 96 → refusal (request_text client request number) ≡ None
 message_law client request number short lawful n = (request_read client request number short lawful n).message
@@ -248,7 +272,7 @@ pub reported_law : (client : Client) (request : TurnRequest) (number : ℕ) → 
 reported_law client request number short lawful n read =
     let kind = request_type request in
     let text = request_text client request number in
-    let following = calls_after kind number (request_attributes request number) (addition_of client request) (addition_other client request) in
+    let following = calls_after kind number (request_attributes request number) (addition_of client request) client.style.fingerprint (addition_other client request) in
     let shows = subst (λ (all : List Attr). IsReadAs kind number all text) following.parts (request_read client request number short lawful n) in
     reported_listed kind number (request_attributes request number ++ following.rest) text shows
     ∙ request_reported request number following.rest lawful read following.other

@@ -1,6 +1,6 @@
 -- The requests of a TURN client, as they are written (RFC 8656, sections 7.1, 8.1, 10.1 and 12.1; RFC 6062,
 -- sections 4.3 and 4.4).
-use Rattle.std.specs.Prelude.{ℕ, Bool, true, false, if◌then◌else◌, List, [], ◌∷◌, ◌++◌, map}
+use Rattle.std.specs.Prelude.{ℕ, Bool, true, false, if◌then◌else◌, List, [], ◌∷◌, ◌++◌, map, Option, Some, None}
 use Rattle.std.specs.List.{flat_map}
 use Rattle.std.specs.declared.net.ip_addr.IpAddr.{IpAddr}
 use Rattle.std.specs.declared.net.ip_addr.IpAddr.TheVariants as Ip
@@ -9,7 +9,8 @@ use Rattle.std.specs.declared.net.socket_addr.SocketAddr.TheVariants as Socket
 use Rattle.byteorder.specs.Endian.{big_bytes}
 use Rattle.stun_types_attributes.specs.Addresses.{address_value}
 use Rattle.stun_types_wire.specs.Attributes.{Attr}
-use Rattle.stun_types_add.specs.Calls.{Add, Ordinary, attributes_of}
+use Rattle.stun_types_add.specs.Calls.{Add, Fingerprint, Ordinary, attributes_of}
+use Rattle.stun_types_wire.specs.Registry.{longest_software, software_kind}
 use Rattle.stun_types_wire.specs.declared.class.MessageClass.TheVariants.{Request}
 use Rattle.stun_types_wire.specs.Text.{message_text}
 use Rattle.stun_types_wire.specs.Types.{type_of}
@@ -24,7 +25,7 @@ use Rattle.turn_types_peer.specs.PeerValues.{channel_value}
 use Rattle.turn_types_attributes.specs.TurnRegistry.{allocate_method, channel_bind_method, connect_method, connection_bind_method, create_permission_method, refresh_method}
 use Rattle.turn_types_attributes.specs.TurnRegistry.{additional_address_family_kind, channel_number_kind, connection_id_kind, dont_fragment_kind, lifetime_kind, requested_address_family_kind, requested_transport_kind, xor_peer_address_kind}
 use Rattle.turn_types_attributes.specs.TurnRegistry.{tcp_protocol, udp_protocol}
-use Rattle.stun_proto_auth.specs.Addition.{Addition, calls_of, no_addition}
+use Rattle.stun_proto_auth.specs.Addition.{Addition, PartOf, calls_of, no_addition}
 use Rattle.stun_proto_client.specs.Client as auth
 use Rattle.stun_proto_client.specs.ClientSigning.{addition_for}
 use Rattle.turn_client_proto_messages.specs.declared.request.TurnRequest.{TurnRequest}
@@ -122,13 +123,36 @@ is_signed (FirstAllocate transport families) = false
 is_signed _ = true
 
 -- What the client's authenticator adds to the request.
+abbrev pub authentication_of : auth.Client → TurnRequest → Addition
+authentication_of client request = if is_signed request then addition_for client Request else no_addition
+
+-- SOFTWARE (RFC 8489, section 14.14).
+abbrev pub software_part : List ℕ → PartOf
+software_part text = record { kind = software_kind; most = longest_software; value = text }
+
+-- SOFTWARE, if its text is set.
+abbrev pub software_parts : Option (List ℕ) → List PartOf
+software_parts None = []
+software_parts (Some text) = software_part text ∷ []
+
+-- The addition with SOFTWARE, if its text is set, before the other parts.
+abbrev pub described : Option (List ℕ) → Addition → Addition
+described software made = record { parts = software_parts software ++ made.parts; signer = made.signer }
+
+-- What the client adds to the request before FINGERPRINT: its SOFTWARE, and what authenticates the request.
 abbrev pub addition_of : auth.Client → TurnRequest → Addition
-addition_of client request = if is_signed request then addition_for client Request else no_addition
+addition_of client request = described client.style.software (authentication_of client request)
+
+-- The call that adds FINGERPRINT, if it is wanted (RFC 8489, section 14.7).
+abbrev pub fingerprint_calls : Bool → List Add
+fingerprint_calls true = Fingerprint ∷ []
+fingerprint_calls false = []
 
 -- The calls on a writer that add the attributes of the request after its header.
 abbrev pub request_calls : auth.Client → TurnRequest → ℕ → List Add
 request_calls client request transaction_id =
-    map Ordinary (request_attributes request transaction_id) ++ calls_of (addition_of client request)
+    map Ordinary (request_attributes request transaction_id)
+    ++ (calls_of (addition_of client request) ++ fingerprint_calls client.style.fingerprint)
 
 -- The bytes of the request.
 unfoldable pub request_text : auth.Client → TurnRequest → ℕ → List ℕ

@@ -5,7 +5,7 @@ use Rattle.std.specs.List.{flat_map, list_any}
 use Rattle.std.specs.Option.{option_map, option_or}
 use Rattle.std.specs.declared.net.socket_addr.SocketAddr.{SocketAddr}
 use Rattle.turn_desk_core.specs.StunTypesWire.Attributes.{Attr}
-use Rattle.turn_desk_core.specs.StunTypesAdd.Calls.{attributes_after, attributes_of}
+use Rattle.turn_desk_core.specs.StunTypesAdd.Calls.{attributes_of}
 use Rattle.turn_client_proto_messages.specs.StunTypesIntegrity.Integrity.{Validates, algorithm_of}
 use Rattle.turn_desk_core.specs.StunTypesWire.declared.algorithm.IntegrityAlgorithm.{IntegrityAlgorithm}
 use Rattle.turn_desk_core.specs.StunTypesWire.declared.algorithm.IntegrityAlgorithm.TheVariants.{Sha1, Sha256, Sha512}
@@ -36,7 +36,7 @@ use Rattle.turn_client_proto_messages.specs.OwnClaims.{own_claim, returned_list}
 use Rattle.turn_client_proto_messages.specs.Requests.{additional_family, dont_fragment_attribute, families_attributes, lifetime_attribute, allocation_lifetime, request_attributes, request_calls, request_text, request_type, transport_attribute}
 use Rattle.turn_client_proto_messages.specs.declared.request.TurnRequest.{TurnRequest}
 use Rattle.turn_client_proto_messages.specs.declared.request.TurnRequest.TheVariants.{Allocate, FirstAllocate}
-use Rattle.turn_client_proto_messages.proofs.Reading.{ordinary_then}
+use Rattle.turn_client_proto_messages.proofs.Claims.{plain_unsigned}
 use Rattle.turn_desk_core.specs.Requests.{IsServed}
 use Rattle.turn_desk_step_laws.specs.Users.{IsOfUser}
 use Rattle.turn_desk_step_laws.specs.Handshakes.{IsOfServer, user_of}
@@ -70,11 +70,6 @@ module _ (auth : Client) (transport : TransportType) (families : List AddressFam
   abbrev own : List Attr
   own = request_attributes first number
 
-  -- The request shows its own attributes.
-  shows_own : attributes_of (request_type first) number (request_calls auth first number) ≡ own
-  unfolding attributes_after
-  shows_own = ordinary_then (request_type first) number own [] []
-
   none_own : last_algorithm own ≡ None
   none_own =
       none_more (lifetime_attribute allocation_lifetime) (transport_attribute transport ∷ dont_fragment_attribute ∷ families_attributes families) refl
@@ -85,7 +80,7 @@ module _ (auth : Client) (transport : TransportType) (families : List AddressFam
   is_served_first read = record { message = read.message; request = ap class_of read.kind; method = inl (inl (ap method_of read.kind)) }
 
   pub is_unsigned : IsReadAs (request_type first) number (attributes_of (request_type first) number (request_calls auth first number)) (request_text auth first number) → (claimed (request_text auth first number)).integrity ≡ None
-  is_unsigned read = ap last_algorithm (read.shows ∙ shows_own) ∙ none_own
+  is_unsigned read = ap last_algorithm read.shows ∙ plain_unsigned (request_type first) number own auth.style.software auth.style.fingerprint none_own
 
 -- ---- a signed request
 

@@ -1,19 +1,12 @@
-use Rattle.std.proofs.Common.{◌∙◌, sym}
+use Rattle.std.proofs.Common.{Bool, ap, ◌∙◌}
+use Rattle.stun_types_add.specs.Calls.{after_calls}
 use Rattle.stun_types_write.specs.Lent.{own_draft}
-use Rattle.turn_client_proto_messages.proofs.Writing.{request_accepted, signed_text, unsigned_text}
+use Rattle.turn_client_proto_messages.specs.Requests.{fingerprint_calls}
+use Rattle.turn_client_proto_messages.proofs.Writing.{marked_text}
 use Rattle.turn_client_proto_messages.proofs.request.write_request.Goals as goal
 
-pub sign_outgoing_message_unchecked-requires-clause-accepted :
-    goal.sign_outgoing_message_unchecked-requires-clause-accepted
-sign_outgoing_message_unchecked-requires-clause-accepted c =
-    request_accepted c.args.auth.now c.args.request c.args.transaction_id (own_draft c.in_ok-draft.draft) c.requires c.in_ok-draft.ensures.request c.in_ok-draft.ensures.short
-
-pub returns-in_ok-signed : goal.returns-in_ok-signed
-returns-in_ok-signed c =
-    c.finish.ensures
-    ∙ signed_text c.args.auth.now c.args.request c.args.transaction_id (own_draft c.in_ok-draft.draft) (own_draft c.in_ok-signed.signed) (sym c.is_signed-is_signed.ensures ∙ c.if-is_signed.true) c.in_ok-draft.ensures.request c.in_ok-signed.ensures.ok
-
-pub returns-else-is_signed : goal.returns-else-is_signed
-returns-else-is_signed c =
-    c.finish-else-is_signed.ensures
-    ∙ unsigned_text c.args.auth.now c.args.request c.args.transaction_id (own_draft c.in_ok-draft.draft) (sym c.is_signed-is_signed.ensures ∙ c.if-is_signed.false) c.in_ok-draft.ensures.request
+pub returns : goal.returns
+returns c =
+    c.in_ok-bytes.ensures
+    ∙ ap (λ (marks : Bool). (after_calls (fingerprint_calls marks) (own_draft c.in_ok-draft.draft)).bytes) c.has_fingerprint.ensures
+    ∙ marked_text c.args.auth.now c.args.request c.args.transaction_id (own_draft c.in_ok-draft.draft) c.in_ok-draft.ensures
