@@ -99,10 +99,6 @@ int32_t step_call(struct walker *w, const struct step *s)
         return turn_client_socket(c, s->number, &s->to, &s->from, s->now);
     case CALL_CLOSED:
         return turn_client_closed(c, &s->from, &s->to, s->now);
-    case CALL_CREDENTIALS:
-    case CALL_SOFTWARE:
-    case CALL_FINGERPRINT:
-        return step_introduce(c, s);
     case CALL_CAUSE:
         return turn_client_cause(c, &w->cause);
     case CALL_REASON:
@@ -112,7 +108,7 @@ int32_t step_call(struct walker *w, const struct step *s)
     case CALL_MAPPED:
         return turn_client_mapped(c, &w->mapped);
     default:
-        return step_get(w, s);
+        return s->call >= CALL_RELAYED ? step_get(w, s) : step_introduce(c, s);
     }
 }
 
