@@ -39,6 +39,7 @@ Address = tuple[str, int]
 Buffer = Union[bytes, bytearray, memoryview]
 
 NAME_MAX = 513            # bytes of a user's name
+SOFTWARE_MAX = 763        # bytes of the text of SOFTWARE
 PAYLOAD_MAX = 65504       # bytes of a payload over UDP between server and peers
 MOMENT_MAX = 1 << 62      # nanoseconds
 _MESSAGE_MAX = 65555      # bytes of any message
@@ -783,7 +784,7 @@ class TurnClient:
 
     def set_software(self, text: str) -> None:
         """Sets the text of SOFTWARE, which requests carry from now on; an empty text for none, as at first. It has at
-        most 763 bytes. BadText, TooLarge, NoMemory."""
+        most SOFTWARE_MAX bytes. BadText, TooLarge, NoMemory."""
         given = text.encode("utf-8", "surrogatepass")
         self._status("software", given, len(given))
 

@@ -319,7 +319,8 @@ pub trait TurnClientApi: HasHandle {
     }
 
     /// Sets the text of SOFTWARE (RFC 8489, section 14.14), which requests carry from now on; an empty text for none, as
-    /// at first. Call it before the first `poll_transmit` to have it in each.
+    /// at first. It has at most [`SOFTWARE_MAX`](crate::SOFTWARE_MAX) bytes. Call it before the first `poll_transmit` to
+    /// have it in each.
     fn set_software(&mut self, text: &str) -> Result<(), SoftwareError> {
         // SAFETY: the handle is open; pointer and length are of a text that lives as long as the call.
         let status = unsafe { sys::turn_client_software(self.handle_mut().at(), text.as_ptr(), text.len()) };
