@@ -635,11 +635,13 @@ pub trait TurnClientApi: Debug + Send {
 
     /// Sets other credentials, which replace the present ones with the next challenge that the
     /// client accepts (RFC 8489, section 9.2.5): for passwords that expire, as those of a REST
-    /// service do. Call it before they expire.
+    /// service do. Call it before they expire, once the server accepts the others.
     ///
     /// - Until a challenge comes, the client signs and validates as before, so what is outstanding
     ///   still validates. The server challenges the first request that it no longer accepts, with
-    ///   401 or 438, and the client makes that request again under the new credentials.
+    ///   401 or 438, and the client makes that request again under the new credentials. Each
+    ///   challenge counts, also that for a stale nonce. From then on nothing counts that is signed
+    ///   under the former credentials.
     /// - Credentials that were set before and are not in use yet are dropped.
     /// - The user's name has at most 513 bytes.
     fn set_credentials(&mut self, credentials: TurnCredentials)
