@@ -777,8 +777,8 @@ class TurnClient:
 
     def set_credentials(self, username: str, password: str) -> None:
         """Sets other credentials, which replace the present ones with the next challenge that the client accepts: for
-        passwords that expire. Until then it signs and validates as before. Call it before they expire.
-        BadText, LongName, NoMemory."""
+        passwords that expire. Until then it signs and validates as before. Call it before they expire, once the
+        server accepts the others: each challenge counts, also that for a stale nonce. BadText, LongName, NoMemory."""
         name, secret = (it.encode("utf-8", "surrogatepass") for it in (username, password))
         self._status("credentials", name, len(name), secret, len(secret))
 

@@ -352,11 +352,12 @@ int32_t turn_client_open(turn_client *client, const turn_settings *settings,
 void turn_client_close(turn_client *client);
 
 /* Sets other credentials of the user, which replace the present ones with the next challenge that the client accepts
- * (RFC 8489, section 9.2.5): for passwords that expire, as those of a REST service do. Call it before they expire.
+ * (RFC 8489, section 9.2.5): for passwords that expire, as those of a REST service do. Call it before they expire, once
+ * the server accepts the others: each challenge counts, also that for a stale nonce.
  *
  * Until then the client signs and validates as before, so what it has sent is still answered. The server challenges the
- * first request that it no longer accepts, and the client makes that request again under the new credentials. A later
- * call replaces credentials that are not in use yet.
+ * first request that it no longer accepts, and the client makes that request again under the new credentials. From then
+ * on nothing counts that is signed under the former ones. A later call replaces credentials that are not in use yet.
  *
  *   username       UTF-8, at most TURN_NAME_MAX bytes. The client copies it and the password
  *   password       UTF-8

@@ -302,7 +302,8 @@ pub trait TurnClientApi: HasHandle {
     }
 
     /// Sets other credentials, which replace the present ones with the next challenge that the client accepts: for
-    /// passwords that expire. Until then it signs and validates as before. Call it before they expire.
+    /// passwords that expire. Until then it signs and validates as before. Call it before they expire, once the server
+    /// accepts the others: each challenge counts, also that for a stale nonce.
     fn set_credentials(&mut self, credentials: &TurnCredentials) -> Result<(), CredentialsError> {
         let (name, password) = (credentials.username(), credentials.password());
         // SAFETY: the handle is open; pointers and lengths are of texts that live as long as the call.
