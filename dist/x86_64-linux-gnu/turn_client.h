@@ -152,6 +152,7 @@ enum turn_status {
 };
 
 #define TURN_NAME_MAX 513                     /* bytes of a user's name */
+#define TURN_SOFTWARE_MAX 763                 /* bytes of the text of SOFTWARE */
 #define TURN_MESSAGE_MAX 65555                /* bytes of any message: the size of the buffer of turn_client_draw */
 #define TURN_SEND_EXTRA 64                    /* bytes of the buffer of turn_client_send beside the payload */
 #define TURN_PAYLOAD_MAX 65504                /* bytes of a payload over UDP between server and peers */
@@ -270,7 +271,8 @@ enum turn_cause_kind {
                                    * the settings require, as to hide the name */
     TURN_OTHER_FAMILY = 5,        /* the server allocated addresses of other families only */
     TURN_CAUSE_MEMORY = 6,        /* malloc failed, and the cause was not stored */
-    TURN_DELETED = 7,             /* turn_client_delete ended it */
+    TURN_DELETED = 7,             /* turn_client_delete was called before: whatever fails or ends after it, by a
+                                   * response or without one */
     TURN_EXPIRED = 8,             /* its time was over */
     TURN_SOCKET_CLOSED = 9,       /* does not occur: a call of the Rattle crate that this header has not */
     TURN_UNUSABLE = 10            /* the response was malformed, or lacked what the client needs of it */
@@ -348,6 +350,52 @@ int32_t turn_client_open(turn_client *client, const turn_settings *settings,
  *
  * The handle may be opened again. A handle that is not open stays as it is. */
 void turn_client_close(turn_client *client);
+
+/* Sets other credentials of the user, which replace the present ones with the next challenge that the client accepts
+ * (RFC 8489, section 9.2.5): for passwords that expire, as those of a REST service do. Call it before they expire, once
+ * the server accepts the others: each challenge counts, also that for a stale nonce.
+ *
+ * Until then the client signs and validates as before, so what it has sent is still answered. The server challenges the
+ * first request that it no longer accepts, and the client makes that request again under the new credentials. From then
+ * on nothing counts that is signed under the former ones. A later call replaces credentials that are not in use yet.
+ *
+ *   username       UTF-8, at most TURN_NAME_MAX bytes. The client copies it and the password
+ *   password       UTF-8
+ *
+ *   TURN_OK               they are set
+ *
+ *   Refused (nothing has changed):
+ *   TURN_BAD_LENGTH       `username_len` or `password_len` is more than PTRDIFF_MAX
+ *   TURN_BAD_TEXT         the name or the password is not UTF-8
+ *   TURN_LONG_NAME        the name has more than TURN_NAME_MAX bytes
+ *   TURN_NO_MEMORY        malloc failed
+ *   TURN_NO_CLIENT        the handle is not open */
+int32_t turn_client_credentials(turn_client *client, const char *username, size_t username_len,
+                                const char *password, size_t password_len);
+
+/* Sets the text of SOFTWARE (RFC 8489, section 14.14), which the client's requests carry from now on. A new client's
+ * carry none. Call it before the first turn_client_draw to have it in each.
+ *
+ *   text           UTF-8, at most TURN_SOFTWARE_MAX bytes. The client copies it. With a length of 0 requests carry none
+ *
+ *   TURN_OK               it is set
+ *
+ *   Refused (nothing has changed):
+ *   TURN_BAD_LENGTH       `text_len` is more than PTRDIFF_MAX
+ *   TURN_BAD_TEXT         the text is not UTF-8
+ *   TURN_TOO_LARGE        it has more than TURN_SOFTWARE_MAX bytes
+ *   TURN_NO_MEMORY        malloc failed
+ *   TURN_NO_CLIENT        the handle is not open */
+int32_t turn_client_software(turn_client *client, const char *text, size_t text_len);
+
+/* Sets whether the client's requests end with FINGERPRINT (RFC 8489, section 14.7) from now on. A new client's do not.
+ * It tells a receiver that shares the socket with other protocols which messages are STUN.
+ *
+ *   TURN_OK               it is set
+ *
+ *   Refused:
+ *   TURN_NO_CLIENT        the handle is not open */
+int32_t turn_client_fingerprint(turn_client *client, bool fingerprint);
 
 /* Requests the end of all allocations (RFC 8656, section 8.1). For the client they are over at once; see above for what
  * may still come. Then take turns until turn_client_poll returns TURN_CLOSED.
@@ -489,7 +537,7 @@ int32_t turn_client_cause(turn_client *client, turn_cause *cause);
 /* Copies the reason phrase of the error response to the start of `out`, a buffer of at least cause->reason_size bytes
  * (RFC 8489, section 14.8). It is UTF-8, of at most 763 bytes, and not ended by a zero. It is the server's, or of
  * whoever sent the response: print it only with its control characters removed. It has no bytes if the response had
- * none, or none that are UTF-8, or malloc failed when it came.
+ * none. (A phrase that is not UTF-8 makes the response malformed: TURN_UNUSABLE.)
  *
  *   TURN_OK               the bytes are in the buffer
  *   TURN_NOTHING          the kind of the cause is not TURN_REJECTED
