@@ -1,7 +1,7 @@
 """Builds wheels of the client for pip (PEP 517, PEP 660), with the standard library alone: no network, no compiler.
 
-`pip install ./bindings/python` calls build_wheel. The wheel has the packages turn_client, with its shared library, and
-turn_client_asyncio; each is the module of that name in this folder, with the mark that it has type hints. The shared
+`pip install ./bindings/python` calls build_wheel. The wheel has the package turn_client, which is turn_client.py with
+its shared library and the mark that it has type hints, and turn_client_asyncio as it is in this folder. The shared
 library is the one that turn_client.py finds: that of dist/x86_64-linux-gnu, unless TURN_CLIENT_LIB names another
 folder. `pip install -e ./bindings/python` calls build_editable, whose wheel only names this folder.
 
@@ -24,7 +24,7 @@ from typing import Any
 HERE = Path(__file__).resolve().parent
 TOP = HERE.parents[1]
 NAME, PROJECT = "turn_client", "turn-client"
-MODULES = "turn_client", "turn_client_asyncio"
+DRIVER = "turn_client_asyncio"
 SHARED = "libturn_client.so"
 LICENSES = "LICENSE-MIT", "LICENSE-APACHE"
 OUTSIDE = f"{PROJECT} is built in a clone of its repository: this folder alone has neither VERSION nor the library. " \
@@ -104,10 +104,10 @@ def information(of: str) -> dict[str, bytes]:
 
 
 def packages(shared: bytes) -> dict[str, bytes]:
-    given = {f"{NAME}/{SHARED}": shared}
-    for it in MODULES:
-        given |= {f"{it}/__init__.py": (HERE / f"{it}.py").read_bytes(), f"{it}/py.typed": b""}
-    return given
+    driver = {f"{DRIVER}/{it.name}": it.read_bytes()
+              for it in [*sorted((HERE / DRIVER).glob("*.py")), HERE / DRIVER / "py.typed"]}
+    client = (HERE / f"{NAME}.py").read_bytes()
+    return {f"{NAME}/__init__.py": client, f"{NAME}/{SHARED}": shared, f"{NAME}/py.typed": b"", **driver}
 
 
 def record(given: dict[str, bytes], path: str) -> bytes:

@@ -109,7 +109,8 @@ class Wheel(unittest.TestCase):
                     self.assertEqual(listed[name], [f"sha256={digest}", str(len(content))])
                 self.assertEqual(listed[names[-1]], ["", ""])
         self.assertRegex(made, rf"^turn_client-{re.escape(VERSION)}-py3-none-manylinux_2_\d+_x86_64[^-]*[.]whl$")
-        self.assertIn("turn_client/libturn_client.so", names)
+        for name in ("turn_client/libturn_client.so", "turn_client/py.typed", "turn_client_asyncio/py.typed"):
+            self.assertIn(name, names)
 
     def test_the_same_again(self) -> None:
         with tempfile.TemporaryDirectory() as one, tempfile.TemporaryDirectory() as two:
@@ -158,7 +159,7 @@ class Installed(unittest.TestCase):
         for path, end in ((module, "turn_client/__init__.py"), (driver, "turn_client_asyncio/__init__.py"),
                           (library, "turn_client/libturn_client.so")):
             self.assertTrue(path.startswith(site) and path.endswith(end), path)
-            self.assertTrue(Path(path).with_name("py.typed").exists() or path == library)
+            self.assertTrue(Path(path).with_name("py.typed").is_file())
         self.assertEqual((version, name), (VERSION, "alice"))
         self.assertRegex(self.pip("show", "turn-client"), f"(?m)^Version: {re.escape(VERSION)}$")
         self.pip("check")
@@ -171,7 +172,7 @@ class Installed(unittest.TestCase):
         self.pip("install", "--editable", str(HERE))
         version, module, driver, _, _ = self.imported()
         self.assertEqual((version, Path(module), Path(driver)),
-                         (VERSION, HERE / "turn_client.py", HERE / "turn_client_asyncio.py"))
+                         (VERSION, HERE / "turn_client.py", HERE / "turn_client_asyncio" / "__init__.py"))
         self.pip("uninstall", "--yes", "turn-client")
 
     def test_sdist_refused(self) -> None:
