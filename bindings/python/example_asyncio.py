@@ -17,22 +17,28 @@ import sys
 import time
 from typing import Any
 
-from turn_client import Address, Families, Rejected, Transport, TurnCause, TurnConfig
-from turn_client_asyncio import AllocationFailed, AllocationLost, PeerRefused, TurnTransport, create_turn_endpoint
+from turn_client import Address, Families, Rejected, Transport, TurnCause, TurnConfig, Unanswered
+from turn_client_asyncio import (
+    AllocationFailed, AllocationLost, PeerRefused, TurnTransport, create_turn_endpoint, open_turn_connection,
+)
 
 ALL_BACK, SOME_LOST, BAD_USAGE, FAILED, NO_ANSWER = range(5)
 STATUSES = ("exit status: 0 all came back, or nothing was to be sent; 1 something was lost; 2 options that can't be "
-            "read; 3 the server refused something, or the address is lost; 4 the server can't be reached")
+            "read; 3 the server refused something, or the address is lost; 4 no answer, or no connection to the server")
 PATIENCE = 2.0  # seconds that the last payloads are waited for
 NUMBER = 4      # bytes of the number at the front of a payload
+
+
+def payloads(count: int, size: int) -> list[bytes]:
+    """Each is its number, and bytes that depend on that."""
+    return [it.to_bytes(NUMBER, "big") + bytes(k & 0xFF for k in range(it, it + size - NUMBER)) for it in range(count)]
 
 
 class Payloads(asyncio.DatagramProtocol):
     """What goes to the peer, and what comes back."""
 
     def __init__(self, count: int, size: int) -> None:
-        self.payloads = [it.to_bytes(NUMBER, "big") + bytes(k & 0xFF for k in range(it, it + size - NUMBER))
-                         for it in range(count)]
+        self.payloads = payloads(count, size)
         self.awaited = set(self.payloads)
         self.all_back, self.lost = asyncio.Event(), asyncio.get_running_loop().create_future()
 
@@ -69,10 +75,31 @@ async def use(transport: TurnTransport, protocol: Payloads, options: argparse.Na
     await work
 
 
+async def connect(options: argparse.Namespace, config: TurnConfig, context: ssl.SSLContext | None) -> None:
+    """Sends the payloads over a connection to the peer."""
+    reader, writer = await open_turn_connection(options.server, config, options.connect, ssl=context,
+                                                follow=options.redirects)
+    sent = b"".join(payloads(options.count, options.size))
+
+    async def write() -> None:
+        for at in range(0, len(sent), options.size):
+            writer.write(sent[at : at + options.size])
+            await writer.drain()
+
+    _, came = await asyncio.gather(write(), reader.readexactly(len(sent)))
+    writer.close()
+    await writer.wait_closed()
+    options.status = ALL_BACK if came == sent else SOME_LOST
+    print(f"{options.count if came == sent else 0} of {options.count} payloads came back")
+
+
 async def run(options: argparse.Namespace) -> None:
-    families = Families.IPV6 if ":" in (options.peer or options.server)[0] else Families.IPV4
+    families = Families.IPV6 if ":" in (options.peer or options.connect or options.server)[0] else Families.IPV4
     config = TurnConfig(options.user, os.environ["TURN_PASSWORD"], address_families=families)
     context = ssl.create_default_context(cafile=options.tls) if options.tls else None
+    if options.connect:
+        await connect(options, config, context)
+        return
     began = time.monotonic()
     transport, protocol = await create_turn_endpoint(
         lambda: Payloads(options.count, options.size), options.server, config, options.peer, ssl=context,
@@ -120,6 +147,7 @@ def read_options() -> argparse.Namespace:
     add("--tcp", action="store_true", help="over TCP to the server")
     add("--tls", metavar="FILE", help="over TLS to the server, whose certificate these certificates vouch for")
     add("--peer", type=read_address, metavar="IP:PORT", help="the peer, which is to send back what it gets")
+    add("--connect", type=read_address, metavar="IP:PORT", help="the same, over a connection over TCP (RFC 6062)")
     add("--count", type=int, default=10, help="how many payloads; without it 10")
     add("--size", type=int, default=100, help="bytes of each; without it 100")
     add("--interval", type=int, default=1, metavar="MS", help="between two payloads; without it 1")
@@ -129,7 +157,7 @@ def read_options() -> argparse.Namespace:
     options = parser.parse_args()
     if "TURN_PASSWORD" not in os.environ:
         parser.error("a password is wanted: TURN_PASSWORD")
-    options.count, options.status = options.count if options.peer else 0, FAILED
+    options.count, options.status = options.count if options.peer or options.connect else 0, FAILED
     return options
 
 
@@ -141,6 +169,10 @@ def main() -> int:
         print(f"{error}\ncause: {text_of(error.cause)}")
         if isinstance(error, AllocationFailed) and error.alternate_server is not None:
             print(f"alternate server: {shown(error.alternate_server)}")
+        return NO_ANSWER if isinstance(error.cause, Unanswered) else FAILED
+    except asyncio.IncompleteReadError as error:
+        print(f"{error}\n0 of {options.count} payloads came back")
+        return SOME_LOST
     except OSError as error:
         print(f"no connection to {shown(options.server)}: {error}")
         return NO_ANSWER

@@ -440,7 +440,8 @@ class Ends(Case):
             transport._wake()
             await until(lambda: protocol.lost)
         self.assertIsInstance(protocol.lost[0], over.AllocationLost)
-        self.assertRegex(str(protocol.lost[0]), "the relayed address is gone")
+        self.assertEqual((str(protocol.lost[0]), getattr(protocol.lost[0], "cause", None)),
+                         ("the relayed address is gone: Its time was over.", turn.Expired()))
 
 
 @unittest.skipUnless(shutil.which("openssl"), "openssl isn't installed")

@@ -59,8 +59,8 @@ class Connection(Driver):
 
     def _refused(self, text: str, cause: TurnCause | None) -> None:
         self._error = PeerRefused(self._peer[0], text, cause, "connection to")
-        if not self.ready.done():
-            self.ready.set_exception(self._error)
+        if not self._ready.done():
+            self._ready.set_exception(self._error)
         self._close()
 
     # ---- its socket
@@ -108,8 +108,8 @@ class Connection(Driver):
         transport = _PeerTransport(self, self._data_line, self._peer)
         self._protocol.connection_made(transport)
         self.writer = asyncio.StreamWriter(transport, self._protocol, self.reader, self._loop)
-        if not self.ready.done():
-            self.ready.set_result(None)
+        if not self._ready.done():
+            self._ready.set_result(None)
 
     # ---- what goes and comes
 

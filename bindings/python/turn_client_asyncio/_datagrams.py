@@ -196,8 +196,8 @@ class TurnTransport(Driver, asyncio.DatagramTransport):
 
     def _fails_to_start(self, error: PeerRefused) -> None:
         """There is an address, and no way to the peer: whoever waits is told, and the address is given back."""
-        if not self.ready.done():
-            self.ready.set_exception(error)
+        if not self._ready.done():
+            self._ready.set_exception(error)
         self._close()
 
     # ---- channels
@@ -242,8 +242,8 @@ class TurnTransport(Driver, asyncio.DatagramTransport):
     def _makes(self) -> None:
         self._is_made = True
         self._call("connection_made", self)
-        if not self.ready.done():
-            self.ready.set_result(None)
+        if not self._ready.done():
+            self._ready.set_result(None)
 
     def _follow(self, event: TurnEvent, cause: TurnCause | None) -> None:
         if self._is_closing:

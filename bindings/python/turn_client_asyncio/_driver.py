@@ -8,8 +8,8 @@ from time import monotonic_ns
 from typing import TypeVar, Union
 
 from turn_client import (
-    Address, AllocateTcpSocket, AllocationCreateFailed, Closed, Families, TcpClose, Transmit, Transport, TurnCause,
-    TurnClient, TurnConfig, TurnError, TurnEvent, TurnRecvRet, WaitUntil,
+    Address, AllocateTcpSocket, AllocationCreateFailed, Closed, Expired, Families, TcpClose, Transmit, Transport,
+    TurnCause, TurnClient, TurnConfig, TurnError, TurnEvent, TurnRecvRet, WaitUntil,
 )
 
 from ._errors import AllocationFailed, AllocationLost, PeerRefused, why
@@ -24,7 +24,7 @@ DriverT = TypeVar("DriverT", bound="Driver")
 
 
 class Driver:
-    """Takes the turns of a client, until it is over. `ready` is done when there is an address."""
+    """Takes the turns of a client, until it is over. `_ready` is done when there is an address."""
 
     def __init__(self, line: Line, config: TurnConfig, transport: Transport) -> None:
         self._loop = asyncio.get_running_loop()
@@ -36,7 +36,7 @@ class Driver:
         self._due = 0
         self._failed: AllocationFailed | None = None
         self._has_address = self._is_closing = self._is_over = False
-        self.ready: asyncio.Future[None] = self._loop.create_future()
+        self._ready: asyncio.Future[None] = self._loop.create_future()
         self._ended: asyncio.Future[None] = self._loop.create_future()
         line.attach(self)
         self._wake()
@@ -108,7 +108,7 @@ class Driver:
         elif not self._has_address:
             self._end(self._failed or AllocationFailed(None))
         else:
-            cause = self._failed.cause if self._failed else None
+            cause = self._failed.cause if self._failed else Expired()
             self._end(AllocationLost(f"the relayed address is gone: {why(cause)}", cause))
 
     # ---- what a driver does with it
@@ -193,9 +193,9 @@ class Driver:
             line.transport.abort()  # nothing of it matters any more
         if error is not None and not self._has_address:
             error.__cause__ = self._line.error
-        if not self.ready.done():
-            self.ready.set_exception(error or ConnectionAbortedError("the endpoint was closed"))
-            self.ready.exception()  # whoever waits is told; if nobody does, nothing is logged
+        if not self._ready.done():
+            self._ready.set_exception(error or ConnectionAbortedError("the endpoint was closed"))
+            self._ready.exception()  # whoever waits is told; if nobody does, nothing is logged
         self._loop.call_soon(self._finish, error)
 
 
@@ -221,7 +221,7 @@ async def reached(route: Route, follow: int, make: Callable[[Line, Route], Drive
             line.transport.close()
             raise
         try:
-            await made.ready
+            await made._ready
             return made
         except AllocationFailed as error:
             elsewhere = error.alternate_server

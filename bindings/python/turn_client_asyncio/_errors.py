@@ -12,7 +12,7 @@ def why(cause: TurnCause | None) -> str:
     if isinstance(cause, Rejected):
         reason = "".join(it for it in cause.reason if it.isprintable())
         return f"rejected {cause.code} {'signed' if cause.is_signed else 'unsigned'} {reason}".rstrip()
-    return " ".join((type(cause).__doc__ or type(cause).__name__).split()) if cause else "its time was over"
+    return " ".join((type(cause).__doc__ or type(cause).__name__).split()) if cause else "no response"
 
 
 class AllocationFailed(ConnectionError):

@@ -129,7 +129,7 @@ class Route:
     async def open(self) -> Line:
         """OSError where there is no way."""
         loop = asyncio.get_running_loop()
-        host, port = self.server
+        host, port = self.server[:2]
         if self.transport == Transport.UDP:
             return (await loop.create_datagram_endpoint(DatagramLine, local_addr=self.local_addr,
                                                         remote_addr=(host, port)))[1]
