@@ -12,6 +12,7 @@ from __future__ import annotations
 import asyncio
 import contextlib
 import errno
+import io
 import logging
 import shutil
 import ssl
@@ -494,6 +495,21 @@ class Tls(Case):
         asyncio.get_running_loop().set_exception_handler(lambda loop, context: None)  # of the server
         with self.assertRaises(ssl.SSLCertVerificationError):
             await over.create_turn_endpoint(Notes, self.at, USER, ssl=True, server_hostname="localhost")
+
+
+class Readme(Case):
+    async def test_its_program(self) -> None:
+        """It prints what came back."""
+        at = await self.server.start()
+        page = (HERE / "README.md").read_text(encoding="utf-8")
+        program = next(it for it in page.split("```python\n") if "create_turn_endpoint(" in it and "import" in it[:6])
+        text, _, _ = program.partition("\nasyncio.run(main())\n```")
+        self.assertEqual(text.count('("127.0.0.1", 3478)'), 1)
+        names: dict[str, Any] = {}
+        exec(text.replace('("127.0.0.1", 3478)', repr(at)), names)  # noqa: S102
+        with contextlib.redirect_stdout(io.StringIO()) as printed:
+            await names["main"]()
+        self.assertEqual(printed.getvalue(), f"{RELAYED} b'hello'\n")
 
 
 class Connections(Case):
