@@ -288,6 +288,20 @@ class Walker:
         self.client.tcp_closed(read(step.given["from"]), read(step.given["to"]), step.now)
         return "TURN_OK", {}
 
+    # ---- how the client introduces itself
+
+    def credentials(self, step: Step) -> Any:
+        self.client.set_credentials(step.given["bytes"].decode(), step.given["password"].decode())
+        return "TURN_OK", {}
+
+    def software(self, step: Step) -> Any:
+        self.client.set_software(step.given["bytes"].decode())
+        return "TURN_OK", {}
+
+    def fingerprint(self, step: Step) -> Any:
+        self.client.set_fingerprint(step.given["number"] == 1)
+        return "TURN_OK", {}
+
     # ---- what is held
 
     def held(self, step: Step, elements: list[dict[str, Any]]) -> Any:
@@ -346,9 +360,7 @@ def many() -> Any:
     return t
 
 
-EXCHANGES = (samples.udp, samples.tcp, samples.connections, samples.both, samples.the_others, samples.unanswered,
-             samples.hidden, samples.lapsed, samples.strongest, samples.none_in_common, samples.rejected,
-             samples.redirected, samples.redirected_unsigned, samples.another_password, many)
+EXCHANGES = (*samples.EXCHANGES, many)
 
 
 class Exchanges(unittest.TestCase):
@@ -362,6 +374,10 @@ class Exchanges(unittest.TestCase):
 
     def test_connections(self) -> None:
         self.assertLessEqual({"connect", "socket", "closed", "connections"}, walk(self, samples.connections))
+
+    def test_introduction(self) -> None:
+        self.assertLessEqual({"credentials", "permit"}, walk(self, samples.replaced))
+        self.assertLessEqual({"software", "fingerprint", "bind"}, walk(self, samples.introduced))
 
     def test_others(self) -> None:
         for make in EXCHANGES[3:]:
@@ -451,6 +467,33 @@ class Refusals(unittest.TestCase):
         for kind, given in cases:
             with self.subTest(kind.__name__), self.assertRaises(kind):
                 opens(**given)
+
+    def test_introduction(self) -> None:
+        """Nothing that is refused changes what the first request has."""
+        client = opened(turn_client, samples.Exchange("refusals").settings)
+        client.set_credentials("a" * turn_client.NAME_MAX, "\u20ac")
+        client.set_software(samples.PROGRAM[1].decode())
+        client.set_fingerprint(True)
+        long = "a" * (turn_client.SOFTWARE_MAX + 1)
+        cases: list[tuple[type[turn_client.TurnError], Callable[[], object]]] = [
+            (turn_client.LongName, lambda: client.set_credentials("a" * (turn_client.NAME_MAX + 1), "secret")),
+            (turn_client.BadText, lambda: client.set_credentials("\ud800", "secret")),
+            (turn_client.BadText, lambda: client.set_credentials("alice", "\udfff")),
+            (turn_client.TooLarge, lambda: client.set_software(long)),
+            (turn_client.BadText, lambda: client.set_software("\ud800")),
+        ]
+        for kind, call in cases:
+            with self.subTest(kind.__name__), self.assertRaises(kind):
+                call()
+        self.assertEqual(client.poll_transmit(0).data, base.fingerprinted(base.first(base.UDP, samples.PROGRAM)))
+        client.set_software(long[:-1])
+        client.set_software("")
+        client.close()
+        closed: list[Callable[[], object]] = [lambda: client.set_credentials("alice", "secret"),
+                                              lambda: client.set_software(""), lambda: client.set_fingerprint(True)]
+        for call in closed:
+            with self.subTest(call), self.assertRaises(turn_client.NoClient):
+                call()
 
     def test_seeds(self) -> None:
         config = turn_client.TurnConfig("alice", "secret")
@@ -691,6 +734,19 @@ class Memory(unittest.TestCase):
             self.left.value = -1
         return False
 
+    def test_refused_introduction(self) -> None:
+        """Both texts want memory, and nothing has changed without it."""
+        client = self.opened()
+        calls: list[Callable[[], object]] = [lambda: client.set_credentials("bob", "another"),
+                                             lambda: client.set_software("text")]
+        for call in calls:
+            self.left.value = 0
+            with self.assertRaises(self.module.NoMemory):
+                call()
+            self.left.value = -1
+            call()
+        client.close()
+
     def test_refused(self) -> None:
         refused = 0
         while self.is_refused(refused):
@@ -722,7 +778,8 @@ class Structs(unittest.TestCase):
 
     def test_numbers(self) -> None:
         want = {
-            "TURN_NAME_MAX": turn_client.NAME_MAX, "TURN_PAYLOAD_MAX": turn_client.PAYLOAD_MAX,
+            "TURN_NAME_MAX": turn_client.NAME_MAX, "TURN_SOFTWARE_MAX": turn_client.SOFTWARE_MAX,
+            "TURN_PAYLOAD_MAX": turn_client.PAYLOAD_MAX,
             "TURN_MOMENT_MAX": turn_client.MOMENT_MAX, "TURN_MESSAGE_MAX": turn_client._MESSAGE_MAX,
             "TURN_SEND_EXTRA": turn_client._SEND_EXTRA, "TURN_CLIENT_VERSION_NUMBER": turn_client.library_version(),
             "TURN_NOTHING": turn_client._NOTHING, "TURN_IGNORED": turn_client._IGNORED,

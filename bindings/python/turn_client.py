@@ -41,6 +41,7 @@ Address = tuple[str, int]
 Buffer = Union[bytes, bytearray, memoryview]
 
 NAME_MAX = 513            # bytes of a user's name
+SOFTWARE_MAX = 763        # bytes of the text of SOFTWARE
 PAYLOAD_MAX = 65504       # bytes of a payload over UDP between server and peers
 MOMENT_MAX = 1 << 62      # nanoseconds
 _MESSAGE_MAX = 65555      # bytes of any message
@@ -386,8 +387,8 @@ class TcpConnectFailed:
 class Rejected:
     """The server rejected the request, by an error response with this code, 300 to 699. The reason phrase is the
     server's words, or those of whoever sent the response: remove control characters before it is printed. It is empty
-    if the response had none, or none that is UTF-8. A response that isn't signed, which means that it wasn't validated
-    under the password, may be anybody's."""
+    if the response had none. (One that isn't UTF-8 makes the response malformed: Unusable.) A response that isn't
+    signed, which means that it wasn't validated under the password, may be anybody's."""
 
     code: int
     reason: str
@@ -422,7 +423,7 @@ class CauseLost:
 
 @dataclass(frozen=True)
 class Deleted:
-    """delete ended it."""
+    """delete was called before: whatever fails or ends after it, by a response or without one."""
 
 
 @dataclass(frozen=True)
@@ -778,14 +779,14 @@ class TurnClient:
 
     def set_credentials(self, username: str, password: str) -> None:
         """Sets other credentials, which replace the present ones with the next challenge that the client accepts: for
-        passwords that expire. Until then it signs and validates as before. Call it before they expire.
-        BadText, LongName, NoMemory."""
+        passwords that expire. Until then it signs and validates as before. Call it before they expire, once the
+        server accepts the others: each challenge counts, also that for a stale nonce. BadText, LongName, NoMemory."""
         name, secret = (it.encode("utf-8", "surrogatepass") for it in (username, password))
         self._status("credentials", name, len(name), secret, len(secret))
 
     def set_software(self, text: str) -> None:
         """Sets the text of SOFTWARE, which requests carry from now on; an empty text for none, as at first. It has at
-        most 763 bytes. BadText, TooLarge, NoMemory."""
+        most SOFTWARE_MAX bytes. BadText, TooLarge, NoMemory."""
         given = text.encode("utf-8", "surrogatepass")
         self._status("software", given, len(given))
 

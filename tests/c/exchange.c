@@ -44,6 +44,9 @@ static void check_answer(int32_t got, int32_t want, const char *what, const char
 
 /* ---- what is refused before a step is done */
 
+/* Bytes that are no UTF-8. */
+static const uint8_t no_text[] = {'M', 0xfc, 'l'};
+
 /* Makes the call of a step that was changed, and wants this answer. */
 static void is_refused(struct walker *w, const struct step *changed, int32_t want, const char *why)
 {
@@ -140,6 +143,21 @@ static void refuse_unread(struct walker *w, const struct step *step)
     is_refused(w, &pull, TURN_UNREAD, "joined bytes wait");
 }
 
+/* A text that isn't UTF-8, or is too long. It isn't taken: what comes behind shows what was set before. */
+static void refuse_text(struct walker *w, const struct step *step)
+{
+    static uint8_t letters[TURN_SOFTWARE_MAX + 1];
+    const bool is_name = step->call == CALL_CREDENTIALS;
+    struct step changed = *step;
+    if (!is_name && step->call != CALL_SOFTWARE)
+        return;
+    memset(letters, 'a', sizeof letters);
+    changed.bytes = (struct bytes){letters, (is_name ? TURN_NAME_MAX : TURN_SOFTWARE_MAX) + 1};
+    is_refused(w, &changed, is_name ? TURN_LONG_NAME : TURN_TOO_LARGE, "a text that is too long");
+    changed.bytes = (struct bytes){no_text, sizeof no_text};
+    is_refused(w, &changed, TURN_BAD_TEXT, "no UTF-8");
+}
+
 /* The handle is open. */
 static void refuse_opening(struct walker *w, const struct step *step)
 {
@@ -178,6 +196,7 @@ static void walk_step(struct walker *w, const struct step *step)
 {
     refuse_opening(w, step);
     refuse_unread(w, step);
+    refuse_text(w, step);
     refuse_families(w, step);
     refuse_transport(w, step);
     refuse_room(w, step);
@@ -426,6 +445,53 @@ static void list_by_null(turn_client *client, const turn_settings *s)
               && turn_client_permissions(client, TURN_UDP, &s->local, NULL, 0) == 0, "lists without room, by null");
 }
 
+/* ---- how the client introduces itself */
+
+/* Other credentials: each refusal, in the order in which they are checked, and what is short enough. */
+static void set_credentials(turn_client *client, bool is_open)
+{
+    static char letters[TURN_NAME_MAX + 1];
+    const char *latin = (const char *)no_text;
+    const int32_t done = is_open ? TURN_OK : TURN_NO_CLIENT;
+    memset(letters, 'a', sizeof letters);
+    for (size_t i = 0; i < sizeof bad_lengths / sizeof *bad_lengths; i++) {
+        const size_t len = bad_lengths[i];
+        check_answer(turn_client_credentials(client, latin, len, latin, 3), TURN_BAD_LENGTH, "credentials", "a name");
+        check_answer(turn_client_credentials(client, latin, 3, latin, len), TURN_BAD_LENGTH, "credentials",
+                     "a password");
+    }
+    check_answer(turn_client_credentials(client, latin, 3, "secret", 6), TURN_BAD_TEXT, "credentials",
+                 "a name, no UTF-8");
+    check_answer(turn_client_credentials(client, letters, TURN_NAME_MAX + 1, latin, 3), TURN_BAD_TEXT, "credentials",
+                 "a password, no UTF-8, and a long name");
+    check_answer(turn_client_credentials(client, letters, TURN_NAME_MAX + 1, "secret", 6), TURN_LONG_NAME,
+                 "credentials", "a name of 514 bytes");
+    check_answer(turn_client_credentials(client, letters, TURN_NAME_MAX, letters, sizeof letters), done,
+                 "credentials", "a name of 513 bytes, and a longer password");
+    check_answer(turn_client_credentials(client, NULL, 0, NULL, 0), done, "credentials", "null texts");
+}
+
+/* The text of SOFTWARE, and FINGERPRINT. */
+static void set_software(turn_client *client, bool is_open)
+{
+    static char letters[TURN_SOFTWARE_MAX + 1];
+    const int32_t done = is_open ? TURN_OK : TURN_NO_CLIENT;
+    memset(letters, 'a', sizeof letters);
+    for (size_t i = 0; i < sizeof bad_lengths / sizeof *bad_lengths; i++)
+        check_answer(turn_client_software(client, letters, bad_lengths[i]), TURN_BAD_LENGTH, "software", "a text");
+    check_answer(turn_client_software(client, (const char *)no_text, sizeof no_text), TURN_BAD_TEXT, "software",
+                 "no UTF-8");
+    check_answer(turn_client_software(client, letters, TURN_SOFTWARE_MAX + 1), TURN_TOO_LARGE, "software",
+                 "764 bytes");
+    letters[TURN_SOFTWARE_MAX] = '\xfc';
+    check_answer(turn_client_software(client, letters, TURN_SOFTWARE_MAX + 1), TURN_BAD_TEXT, "software",
+                 "764 bytes, no UTF-8");
+    check_answer(turn_client_software(client, letters, TURN_SOFTWARE_MAX), done, "software", "763 bytes");
+    check_answer(turn_client_software(client, NULL, 0), done, "software", "a null text");
+    check_answer(turn_client_fingerprint(client, true), done, "fingerprint", "it is to be there");
+    check_answer(turn_client_fingerprint(client, false), done, "fingerprint", "it isn't");
+}
+
 static void lengths(void)
 {
     const unsigned long passed_before = passed, failed_before = failed;
@@ -437,6 +503,8 @@ static void lengths(void)
         feed_lengths(&client, good, is_open);
         send_lengths(&client, good, is_open);
         list_by_null(&client, good);
+        set_credentials(&client, is_open);
+        set_software(&client, is_open);
         if (!is_open)
             check_answer(turn_client_open(&client, good, NULL, 0, NULL, 0, &seed), TURN_OK, "open", "null texts");
     }

@@ -15,10 +15,11 @@ sys.dont_write_bytecode = True
 from samples_base import (  # noqa: E402
     A, ADDITIONAL_FAMILY, ALLOCATE, ALL_ALGORITHMS, B, BEHIND_PEER, BY_SHA1, BY_SHA256, BY_SHA512, CHANNEL_BIND,
     CHOSEN, CONNECT, CONNECTION_ATTEMPT, CONNECTION_BIND, CREATE_PERMISSION, ELSEWHERE, ERROR, Exchange, FAMILY,
-    FEATURED, HERE, HIDDEN, LONGEST, MS, NAME, NOBODY, ONE, OTHER, OWN, REFRESH, RELAYED, RELAYED_6, REPORT, SECOND,
-    SECRET, SEED, SERVER, SIX, STRANGER, STRONGEST, SUCCESS, TCP, TEXTS, TWO, TWO_ALGORITHMS, UDP, V6, allocate,
-    attempt, attempted, bind, c_fields, challenge, code, connect, data, elsewhere, fingerprinted, first, frame, grant,
-    host, identified, indication, join, lifetime, message, named, number, padded, permit, refresh, rejection, success,
+    FEATURED, FOURTH, HERE, HIDDEN, LONGEST, MS, NAME, NEXT, NOBODY, OLD, ONE, OTHER, OWN, REFRESH, RELAYED, RELAYED_6, REPORT,
+    SECOND, SECRET, SEED, SERVER, SIX, SOFTWARE, STRANGER, STRONGEST, SUCCESS, TCP, TEXTS, TWO, TWO_ALGORITHMS, UDP,
+    V6, allocate, attempt, attempted, bind, c_fields, challenge, code, connect, data, elsewhere, fingerprinted, first,
+    frame, grant, host, identified, indication, join, lifetime, message, named, number, padded, permit, refresh,
+    rejection, success,
 )
 
 
@@ -651,6 +652,202 @@ def lapsed():
     return t
 
 
+# ---- how the client introduces itself
+
+BY_NEXT = named(OTHER, NEXT)
+
+
+def permits_one(t, k, peer, when, told, user):
+    """A permission is asked for, and granted, under the credentials of a user."""
+    t.reaches("permit", peer)
+    t.at(when)
+    t.draws(permit(k, peer, told, user=user))
+    t.feeds(success(CREATE_PERMISSION, k, user=user))
+    t.tells("TURN_PERMISSION_CREATED", host(peer))
+    t.tells_no_more()
+
+
+def replaced_amid(t):
+    t.part("other credentials, while a request waits for its response")
+    t.reaches("permit", ONE)
+    t.at(100)
+    t.draws(permit(2, ONE))
+    t.sets_credentials((b"mallory", b"never used"))
+    t.sets_credentials(NEXT)
+    t.at(110)
+    t.feeds(success(CREATE_PERMISSION, 2))
+    t.tells("TURN_PERMISSION_CREATED", host(ONE))
+    t.tells_no_more()
+    t.part("until a challenge comes, requests go as before")
+    permits_one(t, 3, TWO, 150, named(), OLD)
+
+
+def replaced_by_challenge(t, reason):
+    t.part("the next challenge is answered under them")
+    t.reaches("permit", STRANGER)
+    t.at(200)
+    t.draws(permit(4, STRANGER))
+    t.at(210)
+    t.feeds(challenge(4, CREATE_PERMISSION, reason, OTHER))
+    t.tells_no_more()
+    t.at(250)
+    t.draws(permit(5, STRANGER, BY_NEXT, user=NEXT))
+    t.at(260)
+    t.feeds(success(CREATE_PERMISSION, 5, user=NEXT))
+    t.tells("TURN_PERMISSION_CREATED", host(STRANGER))
+    t.tells_no_more()
+    t.permits(ONE, TWO, STRANGER)
+
+
+def replaced():
+    """The password expires: other credentials are set, and the server no longer accepts the present ones."""
+    t = Exchange("other credentials")
+    t.begins()
+    t.challenged()
+    t.granted()
+    replaced_amid(t)
+    replaced_by_challenge(t, code(401, b"Unauthorized"))
+    t.part("the former key counts no more")
+    t.reaches("permit", FOURTH)
+    t.at(300)
+    t.draws(permit(6, FOURTH, BY_NEXT, user=NEXT))
+    t.feeds(success(CREATE_PERMISSION, 6), "TURN_IGNORED", "signed by the former key")
+    t.tells_no_more()
+    t.feeds(success(CREATE_PERMISSION, 6, user=NEXT))
+    t.tells("TURN_PERMISSION_CREATED", host(FOURTH))
+    t.tells_no_more()
+    t.part("the end")
+    t.at(350)
+    t.deleted(7, BY_NEXT, user=NEXT)
+    t.does("close")
+    return t
+
+
+def replaced_by_stale_nonce():
+    """A challenge with 438 counts as one with 401 does; here over TCP."""
+    t = Exchange("other credentials, and a stale nonce", "tcp")
+    t.begins()
+    t.challenged()
+    t.granted()
+    replaced_amid(t)
+    replaced_by_challenge(t, code(438, b"Stale Nonce"))
+    t.part("the end")
+    t.at(350)
+    t.deleted(6, BY_NEXT, user=NEXT)
+    t.does("close")
+    return t
+
+
+def replaced_at_first():
+    """Other credentials are set before the first challenge, which is answered under them."""
+    t = Exchange("other credentials, at first")
+    t.begins()
+    t.sets_credentials(NEXT)
+    t.draws(first())
+    t.feeds(challenge())
+    t.at(50)
+    t.draws(allocate(told=named(user=NEXT), user=NEXT))
+    t.feeds(grant(RELAYED, user=NEXT))
+    t.tells("TURN_ALLOCATION_CREATED", RELAYED)
+    t.tells_no_more()
+    t.part("the end")
+    t.at(100)
+    t.deleted(2, named(user=NEXT), user=NEXT)
+    t.does("close")
+    return t
+
+
+PROGRAM, OTHER_PROGRAM = (SOFTWARE, b"Pakhvizhe test"), (SOFTWARE, "Пахвиже".encode())
+
+
+def introduced_otherwise(t):
+    t.part("another text, and then neither")
+    t.does("software", bytes=OTHER_PROGRAM[1])
+    t.reaches("permit", ONE)
+    t.at(650)
+    t.draws(fingerprinted(permit(2, ONE, [OTHER_PROGRAM, *named()])))
+    t.feeds(fingerprinted(success(CREATE_PERMISSION, 2)))
+    t.tells("TURN_PERMISSION_CREATED", host(ONE))
+    t.sends(ONE, b"hello", indication(3, ONE, b"hello"), name="an indication has neither")
+    t.does("fingerprint", number=0)
+    t.reaches("bind", ONE)
+    t.at(700)
+    t.draws(bind(4, A, ONE, [OTHER_PROGRAM, *named()]))
+    t.feeds(success(CHANNEL_BIND, 4))
+    t.tells("TURN_CHANNEL_CREATED", ONE)
+    t.does("software", bytes=b"")
+    permits_one(t, 5, TWO, 750, named(), OLD)
+
+
+def introduced():
+    """Each request has SOFTWARE before what says who signs it, and ends with FINGERPRINT."""
+    t = Exchange("SOFTWARE and FINGERPRINT")
+    t.part("both ALLOCATEs have them")
+    t.does("open")
+    t.does("software", bytes=PROGRAM[1])
+    t.does("fingerprint", number=1)
+    t.draws(fingerprinted(first(UDP, PROGRAM)))
+    t.at(500)
+    t.draws(fingerprinted(first(UDP, PROGRAM)), name="the same request again")
+    t.feeds(fingerprinted(challenge()))
+    t.at(550)
+    t.draws(fingerprinted(allocate(UDP, PROGRAM)))
+    t.at(600)
+    t.feeds(fingerprinted(grant(RELAYED)))
+    t.tells("TURN_ALLOCATION_CREATED", RELAYED)
+    t.tells_no_more()
+    introduced_otherwise(t)
+    t.part("the end")
+    t.at(800)
+    t.does("fingerprint", number=1)
+    t.does("delete")
+    t.draws(fingerprinted(refresh(6, 0)))
+    t.feeds(success(REFRESH, 6, lifetime(0)))
+    t.ends()
+    t.does("close")
+    return t
+
+
+def introduced_to_peers():
+    """The name is hidden, and the digest SHA-256's. An answer to the server has neither."""
+    t = Exchange("SOFTWARE and FINGERPRINT, over TCP", "tcp", "tcp", integrity=3)
+    told = [PROGRAM, *HIDDEN]
+    t.part("a connection to a peer")
+    t.does("open")
+    t.does("software", bytes=PROGRAM[1])
+    t.does("fingerprint", number=1)
+    t.draws(fingerprinted(first(TCP, PROGRAM)))
+    t.feeds(challenge(0, ALLOCATE, code(401, b"Unauthorized"), FEATURED, TWO_ALGORITHMS))
+    t.at(50)
+    t.draws(fingerprinted(allocate(TCP, told=told, by=BY_SHA256)))
+    t.feeds(grant(RELAYED, by=BY_SHA256))
+    t.tells("TURN_ALLOCATION_CREATED", RELAYED)
+    t.reaches("permit", ONE)
+    t.at(100)
+    t.draws(fingerprinted(permit(2, ONE, told, BY_SHA256)))
+    t.feeds(success(CREATE_PERMISSION, 2, by=BY_SHA256))
+    t.tells("TURN_PERMISSION_CREATED", host(ONE))
+    t.reaches("connect", ONE)
+    t.at(150)
+    t.draws(fingerprinted(connect(3, ONE, told, BY_SHA256)))
+    t.feeds(success(CONNECT, 3, identified(7), by=BY_SHA256))
+    asks_socket(t, 7, ONE)
+    opens_socket(t, 7, ONE, FIRST)
+    t.at(200)
+    t.draws(fingerprinted(join(4, 7, told, BY_SHA256)), FIRST)
+    t.feeds(success(CONNECTION_BIND, 4, by=BY_SHA256), local=FIRST)
+    t.tells("TURN_TCP_CONNECTED", ONE)
+    t.part("a peer begins one")
+    t.feeds(attempt(1, 12, "198.51.100.1:9100", BY_SHA256))
+    asks_socket(t, 12, "198.51.100.1:9100")
+    opens_socket(t, 12, "198.51.100.1:9100", SECOND_SOCKET)
+    t.draws(attempted(1, kind=CONNECTION_ATTEMPT | SUCCESS, by=BY_SHA256))
+    t.at(250)
+    t.draws(fingerprinted(join(5, 12, told, BY_SHA256)), SECOND_SOCKET)
+    t.does("close")
+    return t
+
+
 # ---- what is timed
 
 LONG = bytes(range(240)) * 5
@@ -731,6 +928,12 @@ def timed_tcp():
     return t
 
 
+EXCHANGES = (
+    udp, tcp, connections, both, the_others, unanswered, hidden, lapsed, strongest, none_in_common, rejected, redirected,
+    redirected_unsigned, another_password, replaced, replaced_by_stale_nonce, replaced_at_first, introduced,
+    introduced_to_peers,
+)
+
 # ---- the file
 
 HEAD = """/* samples.h: exchanges of a client with a server, as steps (steps.h). Written by samples.py: change that.
@@ -753,10 +956,7 @@ def c_exchanges(name, exchanges):
 
 
 def main():
-    exchanges = [
-        udp(), tcp(), connections(), both(), the_others(), unanswered(), hidden(), lapsed(), strongest(),
-        none_in_common(), rejected(), redirected(), redirected_unsigned(), another_password(),
-    ]
+    exchanges = [make() for make in EXCHANGES]
     timed = [timed_udp(), timed_tcp()]
     tables = [*c_exchanges("exchanges", exchanges), *c_exchanges("timed", timed)]
     lines = [

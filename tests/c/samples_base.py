@@ -24,13 +24,16 @@ from traces_base import (  # noqa: E402
 )
 from traces_connection_sockets import CONNECTION_BIND  # noqa: E402
 from traces_connections import CONNECT, CONNECTION_ID  # noqa: E402
-from traces_payloads import DATA, ICMP, SEND, TOLD, fingerprinted, frame  # noqa: E402
+from traces_payloads import DATA, ICMP, SEND, SOFTWARE, TOLD, fingerprinted, frame  # noqa: E402
 
 SEED = bytes(range(1, 33))
 NAME, SECRET, DOMAIN = b"alice", b"secret", b"example.org"
+# of the same user, for the next hour: the name tells when they expire
+NEXT_NAME, NEXT_SECRET = b"1893456000:bob", b"next password"
+OLD, NEXT = (NAME, SECRET), (NEXT_NAME, NEXT_SECRET)
 OWN, SERVER, ELSEWHERE = "192.0.2.1:5000", "192.0.2.2:3478", "192.0.2.3:3478"
 RELAYED, RELAYED_6 = "203.0.113.5:50000", "[2001:db8::5]:50001"
-ONE, TWO, STRANGER = "198.51.100.1:9000", "198.51.100.2:9001", "198.51.100.9:9000"
+ONE, TWO, FOURTH, STRANGER = "198.51.100.1:9000", "198.51.100.2:9001", "198.51.100.4:9003", "198.51.100.9:9000"
 SIX, NOBODY = "[2001:db8::7]:9000", ":0"
 A, B = 0x4000, 0x4001
 # how long a request is waited for over TCP (RFC 8489, section 6.2.2)
@@ -59,21 +62,22 @@ BY_SHA1, BY_SHA256 = (INTEGRITY, hashlib.sha1, hashlib.md5), (INTEGRITY_SHA256, 
 BY_SHA512 = (INTEGRITY_SHA512, hashlib.sha512, hashlib.sha512)
 
 
-def message(kind, transaction, attributes, by=None):
-    """A message, signed under the key of the user where `by` says how (RFC 8489, sections 9.2 and 14.5)."""
+def message(kind, transaction, attributes, by=None, user=OLD):
+    """A message, signed under the key of a user where `by` says how (RFC 8489, sections 9.2 and 14.5)."""
     body = b"".join(attribute(*it) for it in attributes)
     if by is None:
         return struct.pack(">HHI", kind, len(body), MAGIC) + transaction + body
     integrity, digest, key_digest = by
     size = len(body) + 4 + digest().digest_size
     text = struct.pack(">HHI", kind, size, MAGIC) + transaction + body
-    key = key_digest(b":".join((NAME, DOMAIN, SECRET))).digest()
+    name, secret = user
+    key = key_digest(b":".join((name, DOMAIN, secret))).digest()
     return text + attribute(integrity, hmac.new(key, text, digest).digest())
 
 
-def named(nonce=ORDINARY):
+def named(nonce=ORDINARY, user=OLD):
     """What a request says of its user under a nonce."""
-    return [(USERNAME, NAME), (REALM, DOMAIN), (NONCE, nonce)]
+    return [(USERNAME, user[0]), (REALM, DOMAIN), (NONCE, nonce)]
 
 
 # under a nonce that tells of the features of RFC 8489, with two algorithms, of which the better one is chosen: the
@@ -99,16 +103,16 @@ def host(peer):
     return peer.rsplit(":", 1)[0] + ":0"
 
 
-def first(transport=UDP, *families):
-    return message(ALLOCATE, number(0), [lifetime(1800), transport, (DONT_FRAGMENT, b""), *families])
+def first(transport=UDP, *more, k=0):
+    return message(ALLOCATE, number(k), [lifetime(1800), transport, (DONT_FRAGMENT, b""), *more])
 
 
-def allocate(transport=UDP, *families, told=named(), by=BY_SHA1, k=1):
-    return message(ALLOCATE, number(k), [transport, lifetime(1800), *families, *told], by)
+def allocate(transport=UDP, *more, told=named(), by=BY_SHA1, k=1, user=OLD):
+    return message(ALLOCATE, number(k), [transport, lifetime(1800), *more, *told], by, user)
 
 
-def permit(k, peer, told=named(), by=BY_SHA1):
-    return message(CREATE_PERMISSION, number(k), [to(host(peer), number(k)), *told], by)
+def permit(k, peer, told=named(), by=BY_SHA1, user=OLD):
+    return message(CREATE_PERMISSION, number(k), [to(host(peer), number(k)), *told], by, user)
 
 
 def bind(k, channel, peer, told=named()):
@@ -116,29 +120,29 @@ def bind(k, channel, peer, told=named()):
     return message(CHANNEL_BIND, number(k), [*asked, *told], BY_SHA1)
 
 
-def refresh(k, seconds, told=named(), by=BY_SHA1):
-    return message(REFRESH, number(k), [lifetime(seconds), *told], by)
+def refresh(k, seconds, told=named(), by=BY_SHA1, user=OLD):
+    return message(REFRESH, number(k), [lifetime(seconds), *told], by, user)
 
 
-def connect(k, peer):
-    return message(CONNECT, number(k), [to(peer, number(k)), *named()], BY_SHA1)
+def connect(k, peer, told=named(), by=BY_SHA1):
+    return message(CONNECT, number(k), [to(peer, number(k)), *told], by)
 
 
 def identified(connection):
     return CONNECTION_ID, struct.pack(">I", connection)
 
 
-def join(k, connection):
-    return message(CONNECTION_BIND, number(k), [identified(connection), *named()], BY_SHA1)
+def join(k, connection, told=named(), by=BY_SHA1):
+    return message(CONNECTION_BIND, number(k), [identified(connection), *told], by)
 
 
-def attempted(k, *told, kind=CONNECTION_ATTEMPT):
+def attempted(k, *told, kind=CONNECTION_ATTEMPT, by=BY_SHA1):
     """The server's kth request by which it tells that a peer began a connection; or, under its number, the answer."""
-    return message(kind, bytes([k]) * 12, told, BY_SHA1)
+    return message(kind, bytes([k]) * 12, told, by)
 
 
-def attempt(k, connection, peer):
-    return attempted(k, identified(connection), to(peer, bytes([k]) * 12))
+def attempt(k, connection, peer, by=BY_SHA1):
+    return attempted(k, identified(connection), to(peer, bytes([k]) * 12), by=by)
 
 
 def indication(k, peer, value):
@@ -172,13 +176,13 @@ def challenge(k=0, method=ALLOCATE, reason=code(401, b"Unauthorized"), nonce=ORD
     return message(method | ERROR, number(k), [reason, (REALM, DOMAIN), (NONCE, nonce), *more])
 
 
-def success(method, k, *attributes, by=BY_SHA1):
-    return message(method | SUCCESS, number(k), attributes, by)
+def success(method, k, *attributes, by=BY_SHA1, user=OLD):
+    return message(method | SUCCESS, number(k), attributes, by, user)
 
 
-def grant(*addresses, seconds=1800, by=BY_SHA1):
+def grant(*addresses, seconds=1800, by=BY_SHA1, user=OLD):
     told = [(RELAYED_KIND, xored(it, number(1))) for it in addresses]
-    return success(ALLOCATE, 1, *told, lifetime(seconds), (MAPPED, xored(OWN, number(1))), by=by)
+    return success(ALLOCATE, 1, *told, lifetime(seconds), (MAPPED, xored(OWN, number(1))), by=by, user=user)
 
 
 def data(peer, value):
@@ -264,8 +268,7 @@ class Exchange:
         wanted = {"answer": answer, **want}
         shown = {"name": name} if name else {}
         shown |= {"call": f"CALL_{call.upper()}", "now": self.now, **given}
-        if "bytes" in given:
-            shown["bytes"] = c_span(given["bytes"])
+        shown |= {key: c_span(given[key]) for key in ("bytes", "password") if key in given}
         if "bytes" in want:
             wanted |= {"bytes": TEXTS.name(want["bytes"]), "size": len(want["bytes"])}
         if repeats:
@@ -315,6 +318,13 @@ class Exchange:
 
     def tells_no_more(self):
         self.does("event", "TURN_NOTHING")
+
+    # ---- how the client introduces itself
+
+    def sets_credentials(self, user):
+        """Other credentials are set, for the next challenge."""
+        name, secret = user
+        self.does("credentials", bytes=name, password=secret)
 
     # ---- what goes
 
@@ -420,12 +430,12 @@ class Exchange:
         self.tells_no_more()
         self.holds_relayed(RELAYED)
 
-    def deleted(self, k, told=named(), by=BY_SHA1, *cuts):
+    def deleted(self, k, told=named(), by=BY_SHA1, *cuts, user=OLD):
         """The end is asked for, and granted."""
         self.does("delete")
         self.holds_relayed()
-        self.draws(refresh(k, 0, told, by))
-        self.feeds_cut(success(REFRESH, k, lifetime(0), by=by), *cuts)
+        self.draws(refresh(k, 0, told, by, user))
+        self.feeds_cut(success(REFRESH, k, lifetime(0), by=by, user=user), *cuts)
         self.ends()
         self.tells_no_more()
         self.draws_nothing()

@@ -11,7 +11,8 @@ const char *const call_names[CALLS] = {
     [CALL_OPEN] = "open", [CALL_CLOSE] = "close", [CALL_DELETE] = "delete", [CALL_FEED] = "feed", [CALL_PULL] = "pull",
     [CALL_READ] = "read", [CALL_DRAW] = "draw", [CALL_SEND] = "send", [CALL_POLL] = "poll", [CALL_EVENT] = "event",
     [CALL_PERMIT] = "permit", [CALL_BIND] = "bind", [CALL_CONNECT] = "connect", [CALL_SOCKET] = "socket",
-    [CALL_CLOSED] = "closed", [CALL_CAUSE] = "cause", [CALL_REASON] = "reason", [CALL_DOMAIN] = "domain",
+    [CALL_CLOSED] = "closed", [CALL_CREDENTIALS] = "credentials", [CALL_SOFTWARE] = "software",
+    [CALL_FINGERPRINT] = "fingerprint", [CALL_CAUSE] = "cause", [CALL_REASON] = "reason", [CALL_DOMAIN] = "domain",
     [CALL_MAPPED] = "mapped", [CALL_RELAYED] = "relayed", [CALL_PERMISSIONS] = "permissions",
     [CALL_IS_PERMITTED] = "is_permitted", [CALL_CHANNELS] = "channels", [CALL_CONNECTIONS] = "connections",
 };
@@ -28,6 +29,20 @@ int32_t open_with(turn_client *client, const turn_settings *settings, struct byt
 static size_t held_max(const struct step *step)
 {
     return HELD_MAX - step->less;
+}
+
+/* How the client introduces itself in its requests. */
+static int32_t step_introduce(turn_client *c, const struct step *s)
+{
+    const char *text = (const char *)s->bytes.at;
+    switch (s->call) {
+    case CALL_CREDENTIALS:
+        return turn_client_credentials(c, text, s->bytes.len, (const char *)s->password.at, s->password.len);
+    case CALL_SOFTWARE:
+        return turn_client_software(c, text, s->bytes.len);
+    default:
+        return turn_client_fingerprint(c, s->number != 0);
+    }
 }
 
 /* The getters: how many there are. */
@@ -93,7 +108,7 @@ int32_t step_call(struct walker *w, const struct step *s)
     case CALL_MAPPED:
         return turn_client_mapped(c, &w->mapped);
     default:
-        return step_get(w, s);
+        return s->call >= CALL_RELAYED ? step_get(w, s) : step_introduce(c, s);
     }
 }
 

@@ -11,8 +11,9 @@
 /* the functions of turn_client.h */
 enum call {
     CALL_OPEN, CALL_CLOSE, CALL_DELETE, CALL_FEED, CALL_PULL, CALL_READ, CALL_DRAW, CALL_SEND, CALL_POLL, CALL_EVENT,
-    CALL_PERMIT, CALL_BIND, CALL_CONNECT, CALL_SOCKET, CALL_CLOSED, CALL_CAUSE, CALL_REASON, CALL_DOMAIN, CALL_MAPPED,
-    CALL_RELAYED, CALL_PERMISSIONS, CALL_IS_PERMITTED, CALL_CHANNELS, CALL_CONNECTIONS,
+    CALL_PERMIT, CALL_BIND, CALL_CONNECT, CALL_SOCKET, CALL_CLOSED, CALL_CREDENTIALS, CALL_SOFTWARE, CALL_FINGERPRINT,
+    CALL_CAUSE, CALL_REASON, CALL_DOMAIN, CALL_MAPPED, CALL_RELAYED, CALL_PERMISSIONS, CALL_IS_PERMITTED, CALL_CHANNELS,
+    CALL_CONNECTIONS,
     CALLS
 };
 
@@ -48,10 +49,12 @@ struct step {
     enum call call;
     uint64_t now;
     uint32_t transport;
-    uint32_t number;          /* of a connection; of getters which of what they hold is looked at */
+    uint32_t number;          /* of a connection; of getters which of what they hold is looked at; of fingerprint
+                                 whether it is to be there */
     turn_address from, to;    /* where one alone is given, `to`: the peer, or the relayed address; the own address of a
                                  socket is `from` */
-    struct bytes bytes;
+    struct bytes bytes;       /* of credentials the name */
+    struct bytes password;
     size_t less;              /* by so many bytes the buffer is too small */
     unsigned repeats;         /* in c_calls.c: how often it is called, where that changes nothing; 0 is once */
     struct told want;

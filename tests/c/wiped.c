@@ -21,7 +21,7 @@
 enum { ROOM = 1 << 26, BLOCKS = 1 << 15, SHOWN = 3 };
 
 /* By the texts of samples.h, and digests of `alice:example.org:secret` (RFC 8489, sections 9.2.2 and 18.5.1): MD5 for
- * HMAC-SHA1, SHA-256 and SHA-512 for the others. */
+ * HMAC-SHA1, SHA-256 and SHA-512 for the others. The last three are of the credentials that replace these. */
 static const struct {
     const char *name;
     size_t size;
@@ -36,6 +36,9 @@ static const struct {
                                     "\x5a\x22\xa2\x6a\x4e\x64\x35\xd6\x6f\x7f\xca\x2e\xf0\xad\x1d\xbb"
                                     "\x48\x96\x21\xb1\xc8\x6b\x17\x2e\x68\x0e\x03\xe7\x88\x12\x73\x82"
                                     "\xc7\x19\x45\xe8\x83\xaa\x95\x98\xde\xc7\xca\x62\x22\x6b\xd4\x4e"},
+    {"the next password", 13, "next password"},
+    {"the next name", 14, "1893456000:bob"},
+    {"the next key for HMAC-SHA1", 16, "\x28\x73\x86\xbb\x9d\x04\x22\x00\xa1\xc5\xb9\xd4\x3f\xa0\xa9\xfa"},
 };
 enum { SECRETS = sizeof secrets / sizeof *secrets };
 static bool is_stored[SECRETS];

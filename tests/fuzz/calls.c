@@ -35,6 +35,11 @@ static const uint32_t statuses[CALLS] = {
     [CALL_CONNECT] = ASKED | BIT(TURN_NO_PERMISSION),
     [CALL_SOCKET] = ASKED,
     [CALL_CLOSED] = BIT(TURN_OK) | BIT(TURN_BAD_FAMILY) | BIT(TURN_NO_MEMORY) | BIT(TURN_NO_CLIENT),
+    [CALL_CREDENTIALS] = BIT(TURN_OK) | BIT(TURN_BAD_TEXT) | BIT(TURN_LONG_NAME) | BIT(TURN_NO_MEMORY)
+        | BIT(TURN_NO_CLIENT),
+    [CALL_SOFTWARE] = BIT(TURN_OK) | BIT(TURN_BAD_TEXT) | BIT(TURN_TOO_LARGE) | BIT(TURN_NO_MEMORY)
+        | BIT(TURN_NO_CLIENT),
+    [CALL_FINGERPRINT] = BIT(TURN_OK) | BIT(TURN_NO_CLIENT),
     [CALL_CAUSE] = BIT(TURN_OK) | BIT(TURN_NO_CLIENT),
     [CALL_REASON] = BIT(TURN_OK) | BIT(TURN_NOTHING) | BIT(TURN_SMALL_BUFFER) | BIT(TURN_NO_CLIENT),
     [CALL_DOMAIN] = BIT(TURN_OK) | BIT(TURN_NOTHING) | BIT(TURN_SMALL_BUFFER) | BIT(TURN_NO_CLIENT),
@@ -50,6 +55,12 @@ static bool is_fatal(enum call call)
 bool is_note(enum call call)
 {
     return call >= CALL_CAUSE && call <= CALL_MAPPED;
+}
+
+/* Whether a call changes how the client introduces itself in its requests. */
+static bool is_introducing(enum call call)
+{
+    return call >= CALL_CREDENTIALS && call <= CALL_FINGERPRINT;
 }
 
 /* ---- what is refused first: arguments from the left, then room, then the handle */
@@ -74,9 +85,26 @@ static bool names_peer(enum call call)
     return names_transport(call) || call == CALL_CONNECT || call == CALL_SOCKET;
 }
 
-/* The refusal that the arguments alone ask for. */
+static bool is_ascii(struct bytes text)
+{
+    for (size_t i = 0; i < text.len; i++) {
+        if (text.at[i] >= 0x80)
+            return false;
+    }
+    return true;
+}
+
+/* Whether the length of a text is no reason to refuse it. */
+static bool is_short(const struct step *s)
+{
+    return s->call == CALL_CREDENTIALS ? s->bytes.len <= TURN_NAME_MAX : s->bytes.len <= TURN_SOFTWARE_MAX;
+}
+
+/* The refusal that the arguments alone ask for. Of a text that isn't ASCII `check_text` says more. */
 static int32_t refusal_of_arguments(const struct step *s)
 {
+    if (is_introducing(s->call) && is_ascii(s->bytes) && is_ascii(s->password) && !is_short(s))
+        return s->call == CALL_CREDENTIALS ? TURN_LONG_NAME : TURN_TOO_LARGE;
     if (names_transport(s->call) && s->transport != TURN_UDP && s->transport != TURN_TCP)
         return TURN_BAD_SETTING;
     if (names_two(s->call) && !(is_family(&s->from) && is_family(&s->to)))
@@ -210,6 +238,24 @@ static int32_t call_noting(turn_client *c, const struct step *s, struct walker *
     return answer;
 }
 
+static int32_t call_introducing(turn_client *c, const struct step *s)
+{
+    int32_t answer;
+    const char *text = room_copy(ROOM_USER, s->bytes.at, s->bytes.len);
+    const char *secret = room_copy(ROOM_PASSWORD, s->password.at, s->password.len);
+    if (s->call == CALL_CREDENTIALS)
+        answer = turn_client_credentials(c, text, s->bytes.len, secret, s->password.len);
+    else if (s->call == CALL_SOFTWARE)
+        answer = turn_client_software(c, text, s->bytes.len);
+    else
+        answer = turn_client_fingerprint(c, s->number != 0);
+    room_check_copy(ROOM_USER, s->bytes.at);
+    room_check_copy(ROOM_PASSWORD, s->password.at);
+    room_spoil(ROOM_USER);
+    room_spoil(ROOM_PASSWORD);
+    return answer;
+}
+
 static int32_t call_in_rooms(struct fuzzed *f, const struct step *s, size_t room)
 {
     const turn_address *from = room_copy(ROOM_FROM, &s->from, sizeof s->from);
@@ -224,6 +270,8 @@ static int32_t call_in_rooms(struct fuzzed *f, const struct step *s, size_t room
         answer = call_moving(f->client, s, from, to, &f->walker, room);
     else if (is_note(s->call))
         answer = call_noting(f->client, s, &f->walker, room);
+    else if (is_introducing(s->call))
+        answer = call_introducing(f->client, s);
     else
         answer = call_asking(f->client, s, from, to, &f->walker);
     room_check_copy(ROOM_FROM, &s->from);
@@ -421,13 +469,28 @@ static bool loses_notes(struct fuzzed *f, const struct step *s)
     return may_lose;
 }
 
+/* Of a call that is given texts: they are checked first, then memory is wanted for them, and then the handle. */
+static void check_text(const struct step *s, int32_t answer, int32_t refusal, bool had_no_memory)
+{
+    const bool is_good = is_ascii(s->bytes) && is_ascii(s->password);
+    const bool is_memory = answer == TURN_NO_MEMORY && had_no_memory && is_short(s);
+    if (is_good)
+        check(is_memory || answer == (refusal == NO_REFUSAL ? TURN_OK : refusal), "a text was refused otherwise");
+    else if (answer != TURN_BAD_TEXT)
+        check(is_short(s) ? answer != TURN_LONG_NAME && answer != TURN_TOO_LARGE : answer < 0, "a text's length");
+}
+
 static void check_reason(struct fuzzed *f, const struct step *s, int32_t answer, int32_t refusal, bool had_no_memory)
 {
     const bool is_of_arguments = answer == TURN_BAD_FAMILY || answer == TURN_BAD_SETTING || answer == TURN_UNREAD
         || answer == TURN_SMALL_BUFFER || answer == TURN_NO_CLIENT;
     check(answer >= TURN_BAD_LENGTH && answer <= TURN_CLOSE_SOCKET && (statuses[s->call] & BIT(answer)) != 0,
           "a status that the call hasn't");
-    check(refusal == NO_REFUSAL ? !is_of_arguments : answer == refusal, "another refusal than the arguments ask for");
+    if (is_introducing(s->call) && s->call != CALL_FINGERPRINT)
+        check_text(s, answer, refusal, had_no_memory);
+    else
+        check(refusal == NO_REFUSAL ? !is_of_arguments : answer == refusal,
+              "another refusal than the arguments ask for");
     check(!had_no_memory || answer == TURN_NO_MEMORY || s->call == CALL_CLOSE || loses_notes(f, s),
           "refused memory wasn't told");
     check(answer != TURN_NO_MEMORY || had_no_memory || s->call == CALL_SEND, "memory was there");
@@ -463,13 +526,17 @@ static void check_length(struct fuzzed *f, const struct step *s, size_t length)
     case CALL_READ: last_answer = turn_client_read(f->client, &byte, length); break;
     case CALL_REASON: last_answer = turn_client_reason(f->client, &byte, length); break;
     case CALL_DOMAIN: last_answer = turn_client_domain(f->client, &byte, length); break;
+    case CALL_CREDENTIALS:
+        last_answer = turn_client_credentials(f->client, (const char *)&byte, length, (const char *)&byte, 1);
+        break;
+    case CALL_SOFTWARE: last_answer = turn_client_software(f->client, (const char *)&byte, length); break;
     case CALL_DRAW: last_answer = turn_client_draw(f->client, s->now, &byte, length, &transmit); break;
     case CALL_SEND:
         last_answer = turn_client_send(f->client, s->transport, &s->to, &byte, length, s->now, &byte, 1, &transmit);
         break;
     default: return;
     }
-    const int32_t refusal = refusal_of_arguments(s);
+    const int32_t refusal = is_introducing(s->call) ? NO_REFUSAL : refusal_of_arguments(s);
     check(last_answer == (refusal == NO_REFUSAL ? TURN_BAD_LENGTH : refusal), "a length that nothing has was taken");
 }
 
@@ -508,15 +575,6 @@ static bool are_good(const turn_settings *s)
     return s->size == sizeof *s && is_family(&s->local) && is_family(&s->server) && is_to && is_between
         && s->families <= 3
         && s->integrity <= 7 && s->anonymous <= TURN_ANONYMOUS_DISABLED && s->compatible <= 1;
-}
-
-static bool is_ascii(struct bytes text)
-{
-    for (size_t i = 0; i < text.len; i++) {
-        if (text.at[i] >= 0x80)
-            return false;
-    }
-    return true;
 }
 
 static int32_t open_in_rooms(struct fuzzed *f, const turn_settings *settings, struct bytes user, struct bytes password)

@@ -17,12 +17,14 @@ from traces_base import (
     code, create_permission, entries, error, first, grant, lifetime, number, refresh, relayed, setup, signed_allocate,
     stale, success, unsigned, xored,
 )
+from traces_bound_connections_base import NOW, joining
 from traces_channels import A, ONE
+from traces_connection_sockets import CONNECTION_BIND
 from traces_connections import AT, asking, connect, decided
 from traces_permissions import FORBIDDEN, LAPSE, PEER_1, PEER_2, holding
 from traces_tcp_base import over
 
-ALTERNATE_SERVER, ALTERNATE_DOMAIN = 0x8023, 0x8003
+ALTERNATE_SERVER, ALTERNATE_DOMAIN, ADDRESS_ERROR_CODE = 0x8023, 0x8003, 0x8001
 NEXT, NEXT_6 = "198.51.100.7:3479", "[2001:db8::9]:3478"
 DOMAIN = b"turn.example.org"
 # an address of the client in front of a NAT
@@ -35,6 +37,11 @@ def plain(address):
     host, port = address.rsplit(":", 1)
     family, kind = (2, socket.AF_INET6) if host[0] == "[" else (1, socket.AF_INET)
     return bytes([0, family]) + struct.pack(">H", int(port)) + socket.inet_pton(kind, host.strip("[]"))
+
+
+def family_error(family):
+    """ADDRESS-ERROR-CODE (RFC 8656, section 18.12): there are no addresses of this family."""
+    return ADDRESS_ERROR_CODE, bytes([family, 0, 4, 40]) + b"Address Family not Supported"
 
 
 def elsewhere(address=NEXT, *more):
@@ -225,6 +232,9 @@ def unusable():
         ("A success without a lifetime", success(ALLOCATE, 1, relayed(OTHER, 1)), "unusable"),
         ("A success with an address of the other family", success(ALLOCATE, 1, relayed(SIXTH, 1), lifetime(1000)),
          "other-family"),
+        # A server that allocates no address has to reject the request (RFC 8656, section 7.2).
+        ("A success without an address, but with the error of its family",
+         success(ALLOCATE, 1, family_error(1), lifetime(1000)), "unusable"),
     ):
         t = Trace(setup())
         t.refused()
@@ -275,6 +285,19 @@ def one_family():
     t.cause()
     t.mapped(OUTSIDE)
     return "The server has no addresses of IPv4: that is why, and IPv6 has no such cause", t
+
+
+def other_family_rejected():
+    for remark, more in (("without its error", ()), ("with its error", (family_error(2),))):
+        t = Trace(setup(families="4,6"))
+        t.refused((ADDITIONAL_FAMILY, V6))
+        t.hear(50 * MS, success(ALLOCATE, 1, relayed(OTHER, 1), *more, lifetime(1000)))
+        t.event(f"AllocationCreated udp {OTHER}")
+        t.cause()
+        t.event("AllocationCreateFailed 6")
+        t.cause("other-family")
+        t.shows(OTHER)
+        yield f"A success has an address of IPv4, and none of IPv6, {remark}: that is why there is none", t
 
 
 def unanswered():
@@ -471,6 +494,9 @@ def challenged_again():
     return "Ten challenges of one permission end the client: the tenth is why", t
 
 
+# ---- what comes behind the end that the user asks for
+
+
 def deleted():
     t = holding()
     t.asks(50 * MS, 2, PEER_1)
@@ -478,15 +504,85 @@ def deleted():
     t.cause()
     t.poll(39550 * MS, 39550 * MS)
     t.event(f"PermissionCreateFailed udp {PEER_1}")
-    t.cause("unanswered")
+    t.cause("deleted")
     t.mapped(CLIENT)
-    return "The allocation is deleted while a permission is awaited, and no response to its request comes", t
+    yield "The allocation is deleted while a permission is awaited, and no response to its request comes", t
+    t = holding()
+    drawn = t.asks(50 * MS, 2, PEER_1)
+    t.say(f"delete {100 * MS}", "ok")
+    t.decides(100 * MS, drawn, "refuse 403", error(CREATE_PERMISSION, 2, FORBIDDEN))
+    t.event(f"PermissionCreateFailed udp {PEER_1}")
+    t.cause("deleted")
+    yield "The allocation is deleted while a permission is awaited, which is rejected then: the deletion is why", t
+    t = asking(AT)
+    t.say(f"delete {100 * MS}", "ok")
+    decided(t, 150 * MS, connect(3, AT), "refuse 447", error(0x00A, 3, code(447, b"Connection Timeout or Failure")))
+    t.event(f"TcpConnectFailed {AT}")
+    t.cause("deleted")
+    yield "The same of a connection", t
+    t, s = joining()
+    t.say(f"delete {NOW}", "ok")
+    s.piece(NOW, error(CONNECTION_BIND, 4, code(447)))
+    t.event(f"TcpConnectFailed {AT}")
+    t.cause("deleted")
+    yield "The same of a connection that is rejected over its socket", t
+
+
+def deleted_later():
+    t = holding()
+    drawn = t.asks(50 * MS, 2, PEER_1)
+    t.decides(100 * MS, drawn, "refuse 403", error(CREATE_PERMISSION, 2, FORBIDDEN))
+    t.say(f"delete {100 * MS}", "ok")
+    t.event(f"PermissionCreateFailed udp {PEER_1}")
+    t.rejected(403, b"Forbidden")
+    return "A permission is rejected, and before that is reported the allocation is deleted: the server is why", t
+
+
+def deletion_unanswered():
+    t = holding()
+    t.say(f"delete {50 * MS}", "ok")
+    t.draw(100 * MS, refresh(2, 0, HASHED))
+    t.poll(39550 * MS, None)
+    t.event("none")
+    t.cause()
+    t.shows()
+    return "No response to a deletion comes: the allocation ends, and no event reports it", t
+
+
+def deletion_challenged():
+    t = holding()
+    t.say(f"delete {50 * MS}", "ok")
+    t.draw(100 * MS, refresh(2, 0, HASHED))
+    for k in range(2, 11):
+        t.hear(50 * MS * k, stale(k, REFRESH))
+        t.draw(50 * MS * (k + 1), refresh(k + 1, 0, HASHED))
+    t.hear(550 * MS, stale(11, REFRESH))
+    t.event("AllocationCreateFailed 4")
+    t.cause("deleted")
+    return "Ten challenges of a deletion end the client, which was to end", t
+
+
+def not_deleted():
+    t = Trace(setup())
+    t.draw(0, first())
+    t.say("delete 0", "refused NoAllocation")
+    t.hear(0, unsigned(ALLOCATE | ERROR, 0, [code(508, FULL)]))
+    t.fails(0)
+    t.rejected(508, FULL, "unsigned")
+    yield "A deletion is refused, since there is no allocation: the server's error is why there is none", t
+    t = holding()
+    t.say(f"delete {50 * MS}", "ok")
+    t.say("error", "ok")
+    t.event("AllocationCreateFailed 4")
+    t.cause("socket-closed")
+    yield "The allocation is deleted, and then a layer above meets an error: that is why the client ends", t
 
 
 def cause_traces():
     yield from (
         looked_at_before(), looked_at_between(), looked_at_late(), *mapped(), *mapped_by_nobody(), mapped_stays(),
         wrong_password(), *refused_unsigned(), *refused_signed(), *unusable(), forged(), *no_algorithm(), one_family(),
-        *unanswered(), closed(), *redirected(), *not_redirected(), forbidden(), *two_errors(), not_outstanding(),
-        *channel_forbidden(), connection_forbidden(), permissions_end(), challenged_again(), deleted(),
+        *other_family_rejected(), *unanswered(), closed(), *redirected(), *not_redirected(), forbidden(), *two_errors(),
+        not_outstanding(), *channel_forbidden(), connection_forbidden(), permissions_end(), challenged_again(),
+        *deleted(), deleted_later(), deletion_unanswered(), deletion_challenged(), *not_deleted(),
     )

@@ -271,7 +271,8 @@ enum turn_cause_kind {
                                    * the settings require, as to hide the name */
     TURN_OTHER_FAMILY = 5,        /* the server allocated addresses of other families only */
     TURN_CAUSE_MEMORY = 6,        /* malloc failed, and the cause was not stored */
-    TURN_DELETED = 7,             /* turn_client_delete ended it */
+    TURN_DELETED = 7,             /* turn_client_delete was called before: whatever fails or ends after it, by a
+                                   * response or without one */
     TURN_EXPIRED = 8,             /* its time was over */
     TURN_SOCKET_CLOSED = 9,       /* does not occur: a call of the Rattle crate that this header has not */
     TURN_UNUSABLE = 10            /* the response was malformed, or lacked what the client needs of it */
@@ -351,11 +352,12 @@ int32_t turn_client_open(turn_client *client, const turn_settings *settings,
 void turn_client_close(turn_client *client);
 
 /* Sets other credentials of the user, which replace the present ones with the next challenge that the client accepts
- * (RFC 8489, section 9.2.5): for passwords that expire, as those of a REST service do. Call it before they expire.
+ * (RFC 8489, section 9.2.5): for passwords that expire, as those of a REST service do. Call it before they expire, once
+ * the server accepts the others: each challenge counts, also that for a stale nonce.
  *
  * Until then the client signs and validates as before, so what it has sent is still answered. The server challenges the
- * first request that it no longer accepts, and the client makes that request again under the new credentials. A later
- * call replaces credentials that are not in use yet.
+ * first request that it no longer accepts, and the client makes that request again under the new credentials. From then
+ * on nothing counts that is signed under the former ones. A later call replaces credentials that are not in use yet.
  *
  *   username       UTF-8, at most TURN_NAME_MAX bytes. The client copies it and the password
  *   password       UTF-8
@@ -535,7 +537,7 @@ int32_t turn_client_cause(turn_client *client, turn_cause *cause);
 /* Copies the reason phrase of the error response to the start of `out`, a buffer of at least cause->reason_size bytes
  * (RFC 8489, section 14.8). It is UTF-8, of at most 763 bytes, and not ended by a zero. It is the server's, or of
  * whoever sent the response: print it only with its control characters removed. It has no bytes if the response had
- * none, or none that are UTF-8, or malloc failed when it came.
+ * none. (A phrase that is not UTF-8 makes the response malformed: TURN_UNUSABLE.)
  *
  *   TURN_OK               the bytes are in the buffer
  *   TURN_NOTHING          the kind of the cause is not TURN_REJECTED

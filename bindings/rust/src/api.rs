@@ -528,7 +528,8 @@ pub enum TurnCause {
         /// The response's error code, 300 to 699.
         code: u16,
         /// Its reason phrase: the server's words, or those of whoever sent the response. Remove control characters
-        /// before it is printed. It is empty if the response had none, or none that is UTF-8, or memory for it ran out.
+        /// before it is printed. It is empty if the response had none. (One that isn't UTF-8 makes the response malformed:
+        /// [`Unusable`](Self::Unusable).)
         reason: String,
         /// Whether the response was validated under the password. If not, it may be anybody's.
         is_signed: bool,
@@ -544,7 +545,8 @@ pub enum TurnCause {
     OtherFamily,
     /// Memory for the cause ran out, so it wasn't stored.
     OutOfMemory,
-    /// [`TurnClientApi::delete`](crate::TurnClientApi::delete) ended it.
+    /// [`TurnClientApi::delete`](crate::TurnClientApi::delete) was called before: whatever fails or ends after it, by
+    /// a response or without one.
     Deleted,
     /// Its time was over.
     Expired,

@@ -302,7 +302,8 @@ pub trait TurnClientApi: HasHandle {
     }
 
     /// Sets other credentials, which replace the present ones with the next challenge that the client accepts: for
-    /// passwords that expire. Until then it signs and validates as before. Call it before they expire.
+    /// passwords that expire. Until then it signs and validates as before. Call it before they expire, once the server
+    /// accepts the others: each challenge counts, also that for a stale nonce.
     fn set_credentials(&mut self, credentials: &TurnCredentials) -> Result<(), CredentialsError> {
         let (name, password) = (credentials.username(), credentials.password());
         // SAFETY: the handle is open; pointers and lengths are of texts that live as long as the call.
@@ -319,7 +320,8 @@ pub trait TurnClientApi: HasHandle {
     }
 
     /// Sets the text of SOFTWARE (RFC 8489, section 14.14), which requests carry from now on; an empty text for none, as
-    /// at first. Call it before the first `poll_transmit` to have it in each.
+    /// at first. It has at most [`SOFTWARE_MAX`](crate::SOFTWARE_MAX) bytes. Call it before the first `poll_transmit` to
+    /// have it in each.
     fn set_software(&mut self, text: &str) -> Result<(), SoftwareError> {
         // SAFETY: the handle is open; pointer and length are of a text that lives as long as the call.
         let status = unsafe { sys::turn_client_software(self.handle_mut().at(), text.as_ptr(), text.len()) };

@@ -140,5 +140,8 @@ pub fn version() -> u32 {
 /// Bytes of a user's name at most.
 pub const NAME_MAX: usize = sys::NAME_MAX;
 
+/// Bytes of the text of SOFTWARE at most.
+pub const SOFTWARE_MAX: usize = sys::SOFTWARE_MAX;
+
 /// Bytes of data at most that go to a peer over UDP between it and the server.
 pub const PAYLOAD_MAX: usize = sys::PAYLOAD_MAX;

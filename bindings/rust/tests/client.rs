@@ -8,8 +8,9 @@ use std::time::Duration;
 use stored::walker::{address, open, Walker};
 use stored::{exchange, PASSWORD, SEED, USER};
 use turn_client::{
-    version, AllocateError, IntegrityAlgorithm, SendError, Transmit, TransportType, TurnCause, TurnClientApi,
-    TurnClientTcp, TurnClientUdp, TurnConfig, TurnCredentials, TurnEvent, TurnRecvRet, NAME_MAX, PAYLOAD_MAX,
+    version, AllocateError, CredentialsError, IntegrityAlgorithm, SendError, SoftwareError, Transmit, TransportType,
+    TurnCause, TurnClientApi, TurnClientTcp, TurnClientUdp, TurnConfig, TurnCredentials, TurnEvent, TurnRecvRet,
+    NAME_MAX, PAYLOAD_MAX, SOFTWARE_MAX,
 };
 
 const LOCAL: &str = "192.0.2.1:5000";
@@ -40,6 +41,31 @@ fn a_long_name_is_refused() {
     assert_eq!(allocate(&longest, TransportType::Udp), (None, None));
     let refusal = Some(AllocateError::LongName);
     assert_eq!(allocate(&longer, TransportType::Udp), (refusal, refusal));
+}
+
+#[test]
+fn other_credentials_with_a_long_name_are_refused() {
+    for name in ["over UDP", "over TCP"] {
+        let mut client = open(exchange(name));
+        let mut set = |size: usize| client.set_credentials(&TurnCredentials::new(&"a".repeat(size), PASSWORD));
+        assert_eq!(set(NAME_MAX), Ok(()));
+        assert_eq!(set(NAME_MAX + 1), Err(CredentialsError::LongName));
+    }
+}
+
+/// A refused text leaves the one that was set before: the first request has it, behind its three own attributes.
+#[test]
+fn a_long_text_of_software_is_refused() {
+    let mut client = open(exchange("over UDP"));
+    assert_eq!(SOFTWARE_MAX, 763);
+    assert_eq!(client.set_software(&"a".repeat(SOFTWARE_MAX)), Ok(()));
+    assert_eq!(
+        client.set_software(&"a".repeat(SOFTWARE_MAX + 1)),
+        Err(SoftwareError::TooLarge)
+    );
+    let sent = client.poll_transmit(Duration::ZERO).unwrap().unwrap();
+    let software = [&[0x80, 0x22, 0x02, 0xfb][..], &[b'a'; SOFTWARE_MAX], &[0]].concat();
+    assert!(sent.data.ends_with(&software));
 }
 
 #[test]

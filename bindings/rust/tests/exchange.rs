@@ -79,6 +79,19 @@ fn a_channel_ends() {
     walk("a channel ends");
 }
 
+#[test]
+fn other_credentials_are_set() {
+    walk("other credentials");
+    walk("other credentials, and a stale nonce");
+    walk("other credentials, at first");
+}
+
+#[test]
+fn requests_have_software_and_fingerprint() {
+    walk("SOFTWARE and FINGERPRINT");
+    walk("SOFTWARE and FINGERPRINT, over TCP");
+}
+
 /// A client goes to another thread between any two parts.
 #[test]
 fn on_other_threads() {

@@ -1,9 +1,9 @@
 //! The calls that change how a client introduces itself in its requests.
 
-ghost use Rattle.std.specs.Prelude.{◌≡◌, ◌≢◌, MatchResult};
+ghost use Rattle.std.specs.Prelude.{◌≡◌, ◌≢◌, ◌≤◌, IfOk, length};
+ghost use Rattle.stun_types_wire.specs.Registry.{longest_software};
 ghost use Rattle.turn_client_c_calls.specs.Calls.{OnClient, OnCore};
 ghost use Rattle.turn_client_c_calls.specs.Codes.{ok};
-ghost use Rattle.turn_client_c_calls.specs.Held.{Held};
 ghost use Rattle.turn_client_c_calls.specs.Speaking.{WhyNoSoftware, WhyNotSet, software_of};
 ghost use Rattle.turn_client_proto.specs.Core.Speaking.{with_fingerprint, with_next_credentials, with_software};
 
@@ -12,6 +12,8 @@ use crate::lengths::is_bad_length;
 use crate::status;
 use std::alloc::Global;
 use stun_types_auth_attributes::software::Software;
+use stun_types_base::memory::NoMemory;
+use stun_types_wire::error::StunWriteError;
 use stun_types_wire::registry::MAX_USERNAME_LENGTH;
 use turn_client_proto::api::TurnClientApi;
 use turn_types_attributes::credentials::TurnCredentials;
@@ -50,27 +52,20 @@ pub fn turn_client_credentials(
     status::OK
 }
 
-/// Returns the SOFTWARE with this text, which is short enough; none, if the text is empty. Fails
-/// with the status that says why.
-fn software_by(alloc: Global, text: &[u8]) -> Result<Option<Software>, i32>
-    ensures { MatchResult result (λ software. software ≡ software_of text.now)
-        (λ status. (old : Held) → (status ≢ ok) × WhyNoSoftware old text.now status) }
+/// Returns the SOFTWARE with this text; none, if the text is empty. Fails with `NoMemory` if an
+/// allocation fails.
+fn software_by(alloc: Global, text: &str) -> Result<Option<Software>, NoMemory>
+    requires { length text.now ≤ longest_software }
+    ensures { IfOk result (λ software. software ≡ software_of text.now) }
 {
-    if is_bad_length(text.len()) {
-        return Err(status::BAD_LENGTH);
-    }
-    let Ok(text) = str::from_utf8(text) else {
-        return Err(status::BAD_TEXT);
-    };
     if text.is_empty() {
         return Ok(None);
     }
-    if text.len() > Software::MAX_LEN {
-        return Err(status::TOO_LARGE);
-    }
     match Software::new(alloc, text) {
         Ok(software) => Ok(Some(software)),
-        Err(_) => Err(status::NO_MEMORY),
+        Err(StunWriteError::NoMemory) => Err(NoMemory),
+        // Not reached: the text is short enough.
+        Err(_) => unreachable!(),
     }
 }
 
@@ -83,9 +78,17 @@ pub fn turn_client_software(alloc: Global, client: &mut TurnHandle, text: &[u8])
     ensures stays { result ≢ ok → client.new.boxed_client.value ≡ client.old.boxed_client.value }
     ensures why { WhyNoSoftware client.old.boxed_client.value text.now result }
 {
-    let software = match software_by(alloc, text) {
-        Ok(software) => software,
-        Err(status) => return status,
+    if is_bad_length(text.len()) {
+        return status::BAD_LENGTH;
+    }
+    let Ok(text) = str::from_utf8(text) else {
+        return status::BAD_TEXT;
+    };
+    if text.len() > Software::MAX_LEN {
+        return status::TOO_LARGE;
+    }
+    let Ok(software) = software_by(alloc, text) else {
+        return status::NO_MEMORY;
     };
     let Some(mut whole) = client.take(alloc) else {
         return status::NO_CLIENT;

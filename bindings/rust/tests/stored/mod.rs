@@ -66,12 +66,14 @@ pub struct Step {
     /// In nanoseconds.
     pub now: u64,
     pub transport: &'static str,
-    /// Of a connection; of getters which of what they hold is looked at.
+    /// Of a connection; of getters which of what they hold is looked at; of `fingerprint` whether it is to be there.
     pub number: u32,
     pub from: &'static str,
     /// Where one address alone is given this is it, but for the own one of a socket.
     pub to: &'static str,
+    /// Of `credentials` the name.
     pub bytes: &'static [u8],
+    pub password: &'static [u8],
     pub want: Told,
 }
 
@@ -84,6 +86,7 @@ const STEP: Step = Step {
     from: "",
     to: "",
     bytes: &[],
+    password: &[],
     want: TOLD,
 };
 

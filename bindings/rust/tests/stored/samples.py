@@ -30,7 +30,7 @@ def rust_bytes(value):
 
 
 def rust_value(key, value):
-    if key == "bytes":
+    if key in ("bytes", "password"):
         return rust_bytes(value)
     if key in ADDRESSES and value.startswith(":"):
         return '""'
@@ -80,10 +80,7 @@ class Exchange(samples.Exchange):
 
 def main():
     samples.Exchange = Exchange
-    makers = (samples.udp, samples.tcp, samples.connections, samples.both, samples.the_others, samples.unanswered,
-              samples.hidden, samples.lapsed, samples.strongest, samples.none_in_common, samples.rejected,
-              samples.redirected, samples.redirected_unsigned, samples.another_password)
-    exchanges = [line for make in makers for line in make().rust_lines()]
+    exchanges = [line for make in samples.EXCHANGES for line in make().rust_lines()]
     texts = [f"const {name}: &[u8] = &{list(value)};" for value, name in TEXTS.items()]
     constants = [
         f'pub const USER: &str = "{samples.NAME.decode()}";',

@@ -154,6 +154,47 @@ const TEXT_147: &[u8] = &[1, 19, 0, 64, 33, 18, 164, 66, 144, 87, 214, 202, 2, 1
 const TEXT_148: &[u8] = &[0, 3, 0, 96, 33, 18, 164, 66, 53, 52, 139, 185, 48, 167, 68, 146, 175, 146, 129, 160, 0, 25, 0, 4, 17, 0, 0, 0, 0, 13, 0, 4, 0, 0, 7, 8, 0, 6, 0, 5, 97, 108, 105, 99, 101, 0, 0, 0, 0, 20, 0, 11, 101, 120, 97, 109, 112, 108, 101, 46, 111, 114, 103, 0, 0, 21, 0, 24, 97, 32, 110, 111, 110, 99, 101, 32, 111, 102, 32, 111, 114, 100, 105, 110, 97, 114, 121, 32, 116, 101, 120, 116, 0, 8, 0, 20, 115, 160, 89, 39, 104, 113, 0, 213, 0, 17, 161, 182, 23, 160, 198, 205, 219, 255, 35, 70];
 const TEXT_149: &[u8] = &[1, 19, 0, 64, 33, 18, 164, 66, 53, 52, 139, 185, 48, 167, 68, 146, 175, 146, 129, 160, 0, 9, 0, 16, 0, 0, 4, 1, 85, 110, 97, 117, 116, 104, 111, 114, 105, 122, 101, 100, 0, 20, 0, 11, 101, 120, 97, 109, 112, 108, 101, 46, 111, 114, 103, 0, 0, 21, 0, 24, 97, 32, 110, 111, 110, 99, 101, 32, 111, 102, 32, 111, 114, 100, 105, 110, 97, 114, 121, 32, 116, 101, 120, 116];
 const TEXT_150: &[u8] = &[85, 110, 97, 117, 116, 104, 111, 114, 105, 122, 101, 100];
+const TEXT_151: &[u8] = &[109, 97, 108, 108, 111, 114, 121];
+const TEXT_152: &[u8] = &[110, 101, 118, 101, 114, 32, 117, 115, 101, 100];
+const TEXT_153: &[u8] = &[49, 56, 57, 51, 52, 53, 54, 48, 48, 48, 58, 98, 111, 98];
+const TEXT_154: &[u8] = &[110, 101, 120, 116, 32, 112, 97, 115, 115, 119, 111, 114, 100];
+const TEXT_155: &[u8] = &[0, 8, 0, 92, 33, 18, 164, 66, 112, 166, 137, 123, 201, 193, 166, 42, 34, 171, 177, 131, 0, 18, 0, 8, 0, 1, 33, 18, 231, 33, 192, 75, 0, 6, 0, 5, 97, 108, 105, 99, 101, 0, 0, 0, 0, 20, 0, 11, 101, 120, 97, 109, 112, 108, 101, 46, 111, 114, 103, 0, 0, 21, 0, 24, 97, 32, 110, 111, 110, 99, 101, 32, 111, 102, 32, 111, 114, 100, 105, 110, 97, 114, 121, 32, 116, 101, 120, 116, 0, 8, 0, 20, 83, 0, 172, 238, 65, 199, 41, 186, 170, 191, 198, 253, 42, 229, 240, 29, 128, 164, 224, 81];
+const TEXT_156: &[u8] = &[1, 24, 0, 56, 33, 18, 164, 66, 112, 166, 137, 123, 201, 193, 166, 42, 34, 171, 177, 131, 0, 9, 0, 16, 0, 0, 4, 1, 85, 110, 97, 117, 116, 104, 111, 114, 105, 122, 101, 100, 0, 20, 0, 11, 101, 120, 97, 109, 112, 108, 101, 46, 111, 114, 103, 0, 0, 21, 0, 13, 97, 110, 111, 116, 104, 101, 114, 32, 110, 111, 110, 99, 101, 0, 0, 0];
+const TEXT_157: &[u8] = &[0, 8, 0, 92, 33, 18, 164, 66, 32, 97, 103, 81, 22, 215, 138, 99, 57, 169, 194, 103, 0, 18, 0, 8, 0, 1, 33, 18, 231, 33, 192, 75, 0, 6, 0, 14, 49, 56, 57, 51, 52, 53, 54, 48, 48, 48, 58, 98, 111, 98, 0, 0, 0, 20, 0, 11, 101, 120, 97, 109, 112, 108, 101, 46, 111, 114, 103, 0, 0, 21, 0, 13, 97, 110, 111, 116, 104, 101, 114, 32, 110, 111, 110, 99, 101, 0, 0, 0, 0, 8, 0, 20, 82, 108, 180, 204, 235, 113, 235, 156, 46, 57, 221, 87, 204, 72, 183, 227, 74, 78, 28, 63];
+const TEXT_158: &[u8] = &[1, 8, 0, 24, 33, 18, 164, 66, 32, 97, 103, 81, 22, 215, 138, 99, 57, 169, 194, 103, 0, 8, 0, 20, 10, 134, 200, 172, 218, 219, 167, 196, 137, 191, 181, 148, 218, 66, 129, 138, 11, 136, 200, 185];
+const TEXT_159: &[u8] = &[0, 8, 0, 92, 33, 18, 164, 66, 80, 54, 75, 155, 56, 173, 222, 151, 249, 143, 220, 251, 0, 18, 0, 8, 0, 1, 33, 18, 231, 33, 192, 70, 0, 6, 0, 14, 49, 56, 57, 51, 52, 53, 54, 48, 48, 48, 58, 98, 111, 98, 0, 0, 0, 20, 0, 11, 101, 120, 97, 109, 112, 108, 101, 46, 111, 114, 103, 0, 0, 21, 0, 13, 97, 110, 111, 116, 104, 101, 114, 32, 110, 111, 110, 99, 101, 0, 0, 0, 0, 8, 0, 20, 87, 49, 126, 152, 234, 166, 192, 103, 207, 94, 153, 126, 180, 170, 23, 48, 77, 48, 163, 66];
+const TEXT_160: &[u8] = &[1, 8, 0, 24, 33, 18, 164, 66, 80, 54, 75, 155, 56, 173, 222, 151, 249, 143, 220, 251, 0, 8, 0, 20, 238, 126, 67, 59, 246, 88, 22, 132, 152, 116, 113, 101, 60, 52, 197, 230, 250, 72, 250, 158];
+const TEXT_161: &[u8] = &[1, 8, 0, 24, 33, 18, 164, 66, 80, 54, 75, 155, 56, 173, 222, 151, 249, 143, 220, 251, 0, 8, 0, 20, 195, 158, 3, 3, 27, 220, 250, 54, 183, 144, 149, 223, 122, 195, 215, 99, 249, 64, 90, 21];
+const TEXT_162: &[u8] = &[0, 4, 0, 88, 33, 18, 164, 66, 12, 108, 196, 89, 12, 134, 162, 41, 209, 179, 184, 192, 0, 13, 0, 4, 0, 0, 0, 0, 0, 6, 0, 14, 49, 56, 57, 51, 52, 53, 54, 48, 48, 48, 58, 98, 111, 98, 0, 0, 0, 20, 0, 11, 101, 120, 97, 109, 112, 108, 101, 46, 111, 114, 103, 0, 0, 21, 0, 13, 97, 110, 111, 116, 104, 101, 114, 32, 110, 111, 110, 99, 101, 0, 0, 0, 0, 8, 0, 20, 231, 23, 36, 215, 45, 168, 35, 102, 170, 200, 173, 250, 165, 91, 228, 101, 204, 31, 46, 98];
+const TEXT_163: &[u8] = &[1, 4, 0, 32, 33, 18, 164, 66, 12, 108, 196, 89, 12, 134, 162, 41, 209, 179, 184, 192, 0, 13, 0, 4, 0, 0, 0, 0, 0, 8, 0, 20, 55, 77, 217, 108, 238, 51, 124, 251, 78, 90, 166, 229, 212, 165, 143, 4, 155, 122, 134, 145];
+const TEXT_164: &[u8] = &[1, 24, 0, 56, 33, 18, 164, 66, 112, 166, 137, 123, 201, 193, 166, 42, 34, 171, 177, 131, 0, 9, 0, 15, 0, 0, 4, 38, 83, 116, 97, 108, 101, 32, 78, 111, 110, 99, 101, 0, 0, 20, 0, 11, 101, 120, 97, 109, 112, 108, 101, 46, 111, 114, 103, 0, 0, 21, 0, 13, 97, 110, 111, 116, 104, 101, 114, 32, 110, 111, 110, 99, 101, 0, 0, 0];
+const TEXT_165: &[u8] = &[0, 4, 0, 88, 33, 18, 164, 66, 80, 54, 75, 155, 56, 173, 222, 151, 249, 143, 220, 251, 0, 13, 0, 4, 0, 0, 0, 0, 0, 6, 0, 14, 49, 56, 57, 51, 52, 53, 54, 48, 48, 48, 58, 98, 111, 98, 0, 0, 0, 20, 0, 11, 101, 120, 97, 109, 112, 108, 101, 46, 111, 114, 103, 0, 0, 21, 0, 13, 97, 110, 111, 116, 104, 101, 114, 32, 110, 111, 110, 99, 101, 0, 0, 0, 0, 8, 0, 20, 49, 198, 82, 206, 79, 145, 254, 136, 193, 35, 218, 178, 194, 228, 11, 32, 227, 220, 69, 118];
+const TEXT_166: &[u8] = &[1, 4, 0, 32, 33, 18, 164, 66, 80, 54, 75, 155, 56, 173, 222, 151, 249, 143, 220, 251, 0, 13, 0, 4, 0, 0, 0, 0, 0, 8, 0, 20, 208, 251, 125, 48, 133, 12, 252, 240, 181, 170, 250, 44, 72, 113, 182, 30, 247, 244, 193, 115];
+const TEXT_167: &[u8] = &[0, 3, 0, 104, 33, 18, 164, 66, 161, 28, 105, 105, 19, 252, 163, 167, 128, 152, 20, 79, 0, 25, 0, 4, 17, 0, 0, 0, 0, 13, 0, 4, 0, 0, 7, 8, 0, 6, 0, 14, 49, 56, 57, 51, 52, 53, 54, 48, 48, 48, 58, 98, 111, 98, 0, 0, 0, 20, 0, 11, 101, 120, 97, 109, 112, 108, 101, 46, 111, 114, 103, 0, 0, 21, 0, 24, 97, 32, 110, 111, 110, 99, 101, 32, 111, 102, 32, 111, 114, 100, 105, 110, 97, 114, 121, 32, 116, 101, 120, 116, 0, 8, 0, 20, 43, 152, 128, 119, 121, 243, 216, 121, 45, 10, 240, 26, 235, 71, 61, 205, 199, 114, 92, 54];
+const TEXT_168: &[u8] = &[1, 3, 0, 56, 33, 18, 164, 66, 161, 28, 105, 105, 19, 252, 163, 167, 128, 152, 20, 79, 0, 22, 0, 8, 0, 1, 226, 66, 234, 18, 213, 71, 0, 13, 0, 4, 0, 0, 7, 8, 0, 32, 0, 8, 0, 1, 50, 154, 225, 18, 166, 67, 0, 8, 0, 20, 99, 74, 95, 144, 80, 237, 7, 239, 72, 189, 93, 56, 254, 165, 254, 232, 123, 41, 38, 70];
+const TEXT_169: &[u8] = &[0, 4, 0, 96, 33, 18, 164, 66, 93, 43, 187, 232, 3, 225, 101, 35, 124, 231, 106, 15, 0, 13, 0, 4, 0, 0, 0, 0, 0, 6, 0, 14, 49, 56, 57, 51, 52, 53, 54, 48, 48, 48, 58, 98, 111, 98, 0, 0, 0, 20, 0, 11, 101, 120, 97, 109, 112, 108, 101, 46, 111, 114, 103, 0, 0, 21, 0, 24, 97, 32, 110, 111, 110, 99, 101, 32, 111, 102, 32, 111, 114, 100, 105, 110, 97, 114, 121, 32, 116, 101, 120, 116, 0, 8, 0, 20, 170, 47, 10, 144, 58, 10, 162, 153, 137, 124, 66, 150, 172, 251, 230, 17, 25, 230, 123, 199];
+const TEXT_170: &[u8] = &[1, 4, 0, 32, 33, 18, 164, 66, 93, 43, 187, 232, 3, 225, 101, 35, 124, 231, 106, 15, 0, 13, 0, 4, 0, 0, 0, 0, 0, 8, 0, 20, 134, 132, 219, 246, 207, 81, 105, 166, 85, 170, 184, 235, 144, 79, 158, 215, 139, 231, 158, 45];
+const TEXT_171: &[u8] = &[80, 97, 107, 104, 118, 105, 122, 104, 101, 32, 116, 101, 115, 116];
+const TEXT_172: &[u8] = &[0, 3, 0, 48, 33, 18, 164, 66, 159, 126, 105, 177, 25, 30, 70, 198, 207, 49, 209, 131, 0, 13, 0, 4, 0, 0, 7, 8, 0, 25, 0, 4, 17, 0, 0, 0, 0, 26, 0, 0, 128, 34, 0, 14, 80, 97, 107, 104, 118, 105, 122, 104, 101, 32, 116, 101, 115, 116, 0, 0, 128, 40, 0, 4, 18, 14, 145, 98];
+const TEXT_173: &[u8] = &[1, 19, 0, 72, 33, 18, 164, 66, 159, 126, 105, 177, 25, 30, 70, 198, 207, 49, 209, 131, 0, 9, 0, 16, 0, 0, 4, 1, 85, 110, 97, 117, 116, 104, 111, 114, 105, 122, 101, 100, 0, 20, 0, 11, 101, 120, 97, 109, 112, 108, 101, 46, 111, 114, 103, 0, 0, 21, 0, 24, 97, 32, 110, 111, 110, 99, 101, 32, 111, 102, 32, 111, 114, 100, 105, 110, 97, 114, 121, 32, 116, 101, 120, 116, 128, 40, 0, 4, 217, 83, 50, 25];
+const TEXT_174: &[u8] = &[0, 3, 0, 124, 33, 18, 164, 66, 161, 28, 105, 105, 19, 252, 163, 167, 128, 152, 20, 79, 0, 25, 0, 4, 17, 0, 0, 0, 0, 13, 0, 4, 0, 0, 7, 8, 128, 34, 0, 14, 80, 97, 107, 104, 118, 105, 122, 104, 101, 32, 116, 101, 115, 116, 0, 0, 0, 6, 0, 5, 97, 108, 105, 99, 101, 0, 0, 0, 0, 20, 0, 11, 101, 120, 97, 109, 112, 108, 101, 46, 111, 114, 103, 0, 0, 21, 0, 24, 97, 32, 110, 111, 110, 99, 101, 32, 111, 102, 32, 111, 114, 100, 105, 110, 97, 114, 121, 32, 116, 101, 120, 116, 0, 8, 0, 20, 145, 98, 62, 194, 234, 167, 247, 72, 251, 115, 170, 245, 224, 235, 143, 44, 5, 36, 152, 12, 128, 40, 0, 4, 234, 61, 172, 103];
+const TEXT_175: &[u8] = &[208, 159, 208, 176, 209, 133, 208, 178, 208, 184, 208, 182, 208, 181];
+const TEXT_176: &[u8] = &[0, 8, 0, 120, 33, 18, 164, 66, 93, 43, 187, 232, 3, 225, 101, 35, 124, 231, 106, 15, 0, 18, 0, 8, 0, 1, 33, 18, 231, 33, 192, 67, 128, 34, 0, 14, 208, 159, 208, 176, 209, 133, 208, 178, 208, 184, 208, 182, 208, 181, 0, 0, 0, 6, 0, 5, 97, 108, 105, 99, 101, 0, 0, 0, 0, 20, 0, 11, 101, 120, 97, 109, 112, 108, 101, 46, 111, 114, 103, 0, 0, 21, 0, 24, 97, 32, 110, 111, 110, 99, 101, 32, 111, 102, 32, 111, 114, 100, 105, 110, 97, 114, 121, 32, 116, 101, 120, 116, 0, 8, 0, 20, 189, 72, 211, 127, 211, 217, 205, 21, 204, 135, 161, 203, 138, 83, 41, 97, 132, 132, 56, 219, 128, 40, 0, 4, 108, 15, 147, 130];
+const TEXT_177: &[u8] = &[1, 8, 0, 32, 33, 18, 164, 66, 93, 43, 187, 232, 3, 225, 101, 35, 124, 231, 106, 15, 0, 8, 0, 20, 190, 114, 175, 61, 34, 68, 53, 122, 58, 107, 44, 104, 253, 93, 227, 134, 158, 195, 121, 113, 128, 40, 0, 4, 218, 167, 220, 177];
+const TEXT_178: &[u8] = &[0, 9, 0, 120, 33, 18, 164, 66, 112, 166, 137, 123, 201, 193, 166, 42, 34, 171, 177, 131, 0, 12, 0, 4, 64, 0, 0, 0, 0, 18, 0, 8, 0, 1, 2, 58, 231, 33, 192, 67, 128, 34, 0, 14, 208, 159, 208, 176, 209, 133, 208, 178, 208, 184, 208, 182, 208, 181, 0, 0, 0, 6, 0, 5, 97, 108, 105, 99, 101, 0, 0, 0, 0, 20, 0, 11, 101, 120, 97, 109, 112, 108, 101, 46, 111, 114, 103, 0, 0, 21, 0, 24, 97, 32, 110, 111, 110, 99, 101, 32, 111, 102, 32, 111, 114, 100, 105, 110, 97, 114, 121, 32, 116, 101, 120, 116, 0, 8, 0, 20, 188, 8, 241, 34, 109, 141, 61, 92, 26, 203, 172, 218, 6, 4, 29, 156, 7, 107, 126, 151];
+const TEXT_179: &[u8] = &[1, 8, 0, 24, 33, 18, 164, 66, 32, 97, 103, 81, 22, 215, 138, 99, 57, 169, 194, 103, 0, 8, 0, 20, 254, 110, 128, 41, 95, 160, 82, 169, 68, 89, 92, 81, 16, 37, 89, 6, 241, 168, 128, 49];
+const TEXT_180: &[u8] = &[0, 4, 0, 96, 33, 18, 164, 66, 80, 54, 75, 155, 56, 173, 222, 151, 249, 143, 220, 251, 0, 13, 0, 4, 0, 0, 0, 0, 0, 6, 0, 5, 97, 108, 105, 99, 101, 0, 0, 0, 0, 20, 0, 11, 101, 120, 97, 109, 112, 108, 101, 46, 111, 114, 103, 0, 0, 21, 0, 24, 97, 32, 110, 111, 110, 99, 101, 32, 111, 102, 32, 111, 114, 100, 105, 110, 97, 114, 121, 32, 116, 101, 120, 116, 0, 8, 0, 20, 205, 104, 86, 16, 97, 54, 56, 152, 197, 244, 117, 153, 76, 42, 225, 6, 64, 147, 150, 179, 128, 40, 0, 4, 67, 85, 117, 65];
+const TEXT_181: &[u8] = &[0, 3, 0, 48, 33, 18, 164, 66, 159, 126, 105, 177, 25, 30, 70, 198, 207, 49, 209, 131, 0, 13, 0, 4, 0, 0, 7, 8, 0, 25, 0, 4, 6, 0, 0, 0, 0, 26, 0, 0, 128, 34, 0, 14, 80, 97, 107, 104, 118, 105, 122, 104, 101, 32, 116, 101, 115, 116, 0, 0, 128, 40, 0, 4, 13, 88, 179, 225];
+const TEXT_182: &[u8] = &[0, 3, 0, 180, 33, 18, 164, 66, 161, 28, 105, 105, 19, 252, 163, 167, 128, 152, 20, 79, 0, 25, 0, 4, 6, 0, 0, 0, 0, 13, 0, 4, 0, 0, 7, 8, 128, 34, 0, 14, 80, 97, 107, 104, 118, 105, 122, 104, 101, 32, 116, 101, 115, 116, 0, 0, 0, 30, 0, 32, 67, 91, 121, 51, 9, 106, 48, 77, 60, 115, 76, 251, 131, 62, 201, 7, 91, 212, 122, 177, 192, 22, 3, 33, 174, 211, 28, 6, 168, 199, 0, 158, 0, 20, 0, 11, 101, 120, 97, 109, 112, 108, 101, 46, 111, 114, 103, 0, 0, 21, 0, 22, 111, 98, 77, 97, 116, 74, 111, 115, 50, 119, 65, 65, 65, 32, 97, 110, 100, 32, 109, 111, 114, 101, 0, 0, 128, 2, 0, 8, 0, 1, 0, 0, 0, 2, 0, 0, 0, 29, 0, 4, 0, 2, 0, 0, 0, 28, 0, 32, 145, 10, 94, 133, 44, 181, 237, 49, 107, 10, 183, 0, 216, 131, 94, 37, 35, 31, 228, 187, 81, 195, 52, 49, 226, 174, 138, 77, 242, 40, 36, 37, 128, 40, 0, 4, 222, 27, 157, 154];
+const TEXT_183: &[u8] = &[1, 3, 0, 68, 33, 18, 164, 66, 161, 28, 105, 105, 19, 252, 163, 167, 128, 152, 20, 79, 0, 22, 0, 8, 0, 1, 226, 66, 234, 18, 213, 71, 0, 13, 0, 4, 0, 0, 7, 8, 0, 32, 0, 8, 0, 1, 50, 154, 225, 18, 166, 67, 0, 28, 0, 32, 196, 182, 49, 27, 77, 95, 65, 251, 213, 152, 111, 80, 19, 134, 174, 63, 176, 147, 2, 211, 222, 22, 114, 44, 123, 227, 17, 184, 136, 164, 75, 205];
+const TEXT_184: &[u8] = &[0, 8, 0, 176, 33, 18, 164, 66, 93, 43, 187, 232, 3, 225, 101, 35, 124, 231, 106, 15, 0, 18, 0, 8, 0, 1, 33, 18, 231, 33, 192, 67, 128, 34, 0, 14, 80, 97, 107, 104, 118, 105, 122, 104, 101, 32, 116, 101, 115, 116, 0, 0, 0, 30, 0, 32, 67, 91, 121, 51, 9, 106, 48, 77, 60, 115, 76, 251, 131, 62, 201, 7, 91, 212, 122, 177, 192, 22, 3, 33, 174, 211, 28, 6, 168, 199, 0, 158, 0, 20, 0, 11, 101, 120, 97, 109, 112, 108, 101, 46, 111, 114, 103, 0, 0, 21, 0, 22, 111, 98, 77, 97, 116, 74, 111, 115, 50, 119, 65, 65, 65, 32, 97, 110, 100, 32, 109, 111, 114, 101, 0, 0, 128, 2, 0, 8, 0, 1, 0, 0, 0, 2, 0, 0, 0, 29, 0, 4, 0, 2, 0, 0, 0, 28, 0, 32, 156, 101, 240, 202, 127, 6, 131, 34, 223, 212, 130, 73, 18, 62, 181, 19, 185, 142, 48, 126, 155, 66, 102, 33, 16, 114, 47, 172, 129, 162, 222, 94, 128, 40, 0, 4, 152, 165, 157, 79];
+const TEXT_185: &[u8] = &[0, 10, 0, 176, 33, 18, 164, 66, 49, 11, 201, 77, 26, 163, 58, 7, 137, 190, 201, 148, 0, 18, 0, 8, 0, 1, 2, 58, 231, 33, 192, 67, 128, 34, 0, 14, 80, 97, 107, 104, 118, 105, 122, 104, 101, 32, 116, 101, 115, 116, 0, 0, 0, 30, 0, 32, 67, 91, 121, 51, 9, 106, 48, 77, 60, 115, 76, 251, 131, 62, 201, 7, 91, 212, 122, 177, 192, 22, 3, 33, 174, 211, 28, 6, 168, 199, 0, 158, 0, 20, 0, 11, 101, 120, 97, 109, 112, 108, 101, 46, 111, 114, 103, 0, 0, 21, 0, 22, 111, 98, 77, 97, 116, 74, 111, 115, 50, 119, 65, 65, 65, 32, 97, 110, 100, 32, 109, 111, 114, 101, 0, 0, 128, 2, 0, 8, 0, 1, 0, 0, 0, 2, 0, 0, 0, 29, 0, 4, 0, 2, 0, 0, 0, 28, 0, 32, 91, 48, 134, 100, 206, 138, 176, 26, 187, 224, 81, 191, 97, 8, 253, 234, 106, 58, 20, 42, 6, 38, 192, 178, 227, 52, 74, 96, 60, 140, 118, 66, 128, 40, 0, 4, 60, 209, 42, 106];
+const TEXT_186: &[u8] = &[1, 10, 0, 44, 33, 18, 164, 66, 49, 11, 201, 77, 26, 163, 58, 7, 137, 190, 201, 148, 0, 42, 0, 4, 0, 0, 0, 7, 0, 28, 0, 32, 121, 174, 236, 172, 249, 108, 32, 134, 75, 12, 207, 114, 241, 81, 197, 247, 177, 172, 64, 47, 206, 63, 3, 1, 26, 249, 73, 153, 63, 82, 31, 109];
+const TEXT_187: &[u8] = &[0, 11, 0, 172, 33, 18, 164, 66, 112, 166, 137, 123, 201, 193, 166, 42, 34, 171, 177, 131, 0, 42, 0, 4, 0, 0, 0, 7, 128, 34, 0, 14, 80, 97, 107, 104, 118, 105, 122, 104, 101, 32, 116, 101, 115, 116, 0, 0, 0, 30, 0, 32, 67, 91, 121, 51, 9, 106, 48, 77, 60, 115, 76, 251, 131, 62, 201, 7, 91, 212, 122, 177, 192, 22, 3, 33, 174, 211, 28, 6, 168, 199, 0, 158, 0, 20, 0, 11, 101, 120, 97, 109, 112, 108, 101, 46, 111, 114, 103, 0, 0, 21, 0, 22, 111, 98, 77, 97, 116, 74, 111, 115, 50, 119, 65, 65, 65, 32, 97, 110, 100, 32, 109, 111, 114, 101, 0, 0, 128, 2, 0, 8, 0, 1, 0, 0, 0, 2, 0, 0, 0, 29, 0, 4, 0, 2, 0, 0, 0, 28, 0, 32, 86, 133, 121, 83, 127, 99, 84, 162, 43, 117, 35, 191, 5, 125, 167, 145, 216, 59, 1, 26, 156, 226, 94, 106, 224, 207, 54, 87, 195, 179, 192, 59, 128, 40, 0, 4, 254, 104, 72, 166];
+const TEXT_188: &[u8] = &[1, 11, 0, 36, 33, 18, 164, 66, 112, 166, 137, 123, 201, 193, 166, 42, 34, 171, 177, 131, 0, 28, 0, 32, 175, 217, 165, 56, 23, 253, 66, 139, 135, 244, 183, 96, 204, 17, 252, 158, 135, 20, 166, 219, 18, 208, 248, 166, 241, 32, 52, 251, 151, 6, 98, 88];
+const TEXT_189: &[u8] = &[0, 12, 0, 56, 33, 18, 164, 66, 1, 1, 1, 1, 1, 1, 1, 1, 1, 1, 1, 1, 0, 42, 0, 4, 0, 0, 0, 12, 0, 18, 0, 8, 0, 1, 2, 158, 231, 33, 192, 67, 0, 28, 0, 32, 41, 182, 188, 227, 59, 241, 204, 81, 182, 165, 73, 121, 119, 111, 53, 117, 181, 189, 82, 197, 37, 151, 37, 160, 1, 168, 67, 193, 7, 90, 136, 75];
+const TEXT_190: &[u8] = &[1, 12, 0, 36, 33, 18, 164, 66, 1, 1, 1, 1, 1, 1, 1, 1, 1, 1, 1, 1, 0, 28, 0, 32, 89, 30, 133, 68, 53, 74, 78, 159, 226, 197, 221, 113, 234, 84, 207, 180, 52, 172, 120, 194, 233, 191, 169, 133, 171, 200, 206, 182, 37, 173, 233, 133];
+const TEXT_191: &[u8] = &[0, 11, 0, 172, 33, 18, 164, 66, 32, 97, 103, 81, 22, 215, 138, 99, 57, 169, 194, 103, 0, 42, 0, 4, 0, 0, 0, 12, 128, 34, 0, 14, 80, 97, 107, 104, 118, 105, 122, 104, 101, 32, 116, 101, 115, 116, 0, 0, 0, 30, 0, 32, 67, 91, 121, 51, 9, 106, 48, 77, 60, 115, 76, 251, 131, 62, 201, 7, 91, 212, 122, 177, 192, 22, 3, 33, 174, 211, 28, 6, 168, 199, 0, 158, 0, 20, 0, 11, 101, 120, 97, 109, 112, 108, 101, 46, 111, 114, 103, 0, 0, 21, 0, 22, 111, 98, 77, 97, 116, 74, 111, 115, 50, 119, 65, 65, 65, 32, 97, 110, 100, 32, 109, 111, 114, 101, 0, 0, 128, 2, 0, 8, 0, 1, 0, 0, 0, 2, 0, 0, 0, 29, 0, 4, 0, 2, 0, 0, 0, 28, 0, 32, 100, 9, 228, 199, 173, 64, 171, 35, 189, 223, 21, 120, 151, 255, 165, 54, 117, 57, 103, 63, 19, 190, 99, 177, 28, 247, 76, 231, 71, 195, 101, 214, 128, 40, 0, 4, 187, 255, 187, 167];
 pub const EXCHANGES: &[Exchange] = &[
     Exchange { name: "over UDP", local: "192.0.2.1:5000", server: "192.0.2.2:3478", transport: "udp", peers: "udp", 
         parts: &[
@@ -872,6 +913,234 @@ pub const EXCHANGES: &[Exchange] = &[
                 Step { name: "", call: "draw", now: 450000000, want: Told { answer: "TURN_NOTHING", ..TOLD }, ..STEP },
                 Step { name: "", call: "delete", now: 450000000, want: Told { answer: "TURN_NO_ALLOCATION", ..TOLD }, ..STEP },
                 Step { name: "", call: "close", now: 450000000, want: Told { answer: "TURN_OK", ..TOLD }, ..STEP },
+            ]),
+        ],
+        ..EXCHANGE
+    },
+    Exchange { name: "other credentials", local: "192.0.2.1:5000", server: "192.0.2.2:3478", transport: "udp", peers: "udp", 
+        parts: &[
+            ("other credentials: the allocation", &[
+                Step { name: "", call: "open", now: 0, want: Told { answer: "TURN_OK", ..TOLD }, ..STEP },
+                Step { name: "", call: "draw", now: 0, want: Told { answer: "TURN_OK", bytes: TEXT_1, transport: "udp", from: "192.0.2.1:5000", to: "192.0.2.2:3478", size: 40, ..TOLD }, ..STEP },
+                Step { name: "", call: "feed", now: 0, from: "192.0.2.2:3478", to: "192.0.2.1:5000", bytes: TEXT_2, want: Told { answer: "TURN_OK", ..TOLD }, ..STEP },
+                Step { name: "", call: "pull", now: 0, want: Told { answer: "TURN_NOTHING", ..TOLD }, ..STEP },
+                Step { name: "", call: "draw", now: 50000000, want: Told { answer: "TURN_OK", bytes: TEXT_5, transport: "udp", from: "192.0.2.1:5000", to: "192.0.2.2:3478", size: 116, ..TOLD }, ..STEP },
+                Step { name: "", call: "feed", now: 60000000, from: "192.0.2.2:3478", to: "192.0.2.1:5000", bytes: TEXT_67, want: Told { answer: "TURN_OK", ..TOLD }, ..STEP },
+                Step { name: "", call: "pull", now: 60000000, want: Told { answer: "TURN_NOTHING", ..TOLD }, ..STEP },
+                Step { name: "", call: "event", now: 60000000, want: Told { answer: "TURN_OK", kind: "TURN_ALLOCATION_CREATED", transport: "udp", peer: "203.0.113.5:50000", ..TOLD }, ..STEP },
+                Step { name: "", call: "event", now: 60000000, want: Told { answer: "TURN_NOTHING", ..TOLD }, ..STEP },
+                Step { name: "", call: "relayed", now: 60000000, number: 0, want: Told { answer: "1", transport: "udp", peer: "203.0.113.5:50000", ..TOLD }, ..STEP },
+            ]),
+            ("other credentials: other credentials, while a request waits for its response", &[
+                Step { name: "", call: "permit", now: 60000000, transport: "udp", to: "198.51.100.1:9000", want: Told { answer: "TURN_OK", ..TOLD }, ..STEP },
+                Step { name: "", call: "draw", now: 100000000, want: Told { answer: "TURN_OK", bytes: TEXT_7, transport: "udp", from: "192.0.2.1:5000", to: "192.0.2.2:3478", size: 112, ..TOLD }, ..STEP },
+                Step { name: "", call: "credentials", now: 100000000, bytes: TEXT_151, password: TEXT_152, want: Told { answer: "TURN_OK", ..TOLD }, ..STEP },
+                Step { name: "", call: "credentials", now: 100000000, bytes: TEXT_153, password: TEXT_154, want: Told { answer: "TURN_OK", ..TOLD }, ..STEP },
+                Step { name: "", call: "feed", now: 110000000, from: "192.0.2.2:3478", to: "192.0.2.1:5000", bytes: TEXT_8, want: Told { answer: "TURN_OK", ..TOLD }, ..STEP },
+                Step { name: "", call: "event", now: 110000000, want: Told { answer: "TURN_OK", kind: "TURN_PERMISSION_CREATED", transport: "udp", peer: "198.51.100.1:0", ..TOLD }, ..STEP },
+                Step { name: "", call: "event", now: 110000000, want: Told { answer: "TURN_NOTHING", ..TOLD }, ..STEP },
+            ]),
+            ("other credentials: until a challenge comes, requests go as before", &[
+                Step { name: "", call: "permit", now: 110000000, transport: "udp", to: "198.51.100.2:9001", want: Told { answer: "TURN_OK", ..TOLD }, ..STEP },
+                Step { name: "", call: "draw", now: 150000000, want: Told { answer: "TURN_OK", bytes: TEXT_68, transport: "udp", from: "192.0.2.1:5000", to: "192.0.2.2:3478", size: 112, ..TOLD }, ..STEP },
+                Step { name: "", call: "feed", now: 150000000, from: "192.0.2.2:3478", to: "192.0.2.1:5000", bytes: TEXT_69, want: Told { answer: "TURN_OK", ..TOLD }, ..STEP },
+                Step { name: "", call: "event", now: 150000000, want: Told { answer: "TURN_OK", kind: "TURN_PERMISSION_CREATED", transport: "udp", peer: "198.51.100.2:0", ..TOLD }, ..STEP },
+                Step { name: "", call: "event", now: 150000000, want: Told { answer: "TURN_NOTHING", ..TOLD }, ..STEP },
+            ]),
+            ("other credentials: the next challenge is answered under them", &[
+                Step { name: "", call: "permit", now: 150000000, transport: "udp", to: "198.51.100.9:9000", want: Told { answer: "TURN_OK", ..TOLD }, ..STEP },
+                Step { name: "", call: "draw", now: 200000000, want: Told { answer: "TURN_OK", bytes: TEXT_155, transport: "udp", from: "192.0.2.1:5000", to: "192.0.2.2:3478", size: 112, ..TOLD }, ..STEP },
+                Step { name: "", call: "feed", now: 210000000, from: "192.0.2.2:3478", to: "192.0.2.1:5000", bytes: TEXT_156, want: Told { answer: "TURN_OK", ..TOLD }, ..STEP },
+                Step { name: "", call: "event", now: 210000000, want: Told { answer: "TURN_NOTHING", ..TOLD }, ..STEP },
+                Step { name: "", call: "draw", now: 250000000, want: Told { answer: "TURN_OK", bytes: TEXT_157, transport: "udp", from: "192.0.2.1:5000", to: "192.0.2.2:3478", size: 112, ..TOLD }, ..STEP },
+                Step { name: "", call: "feed", now: 260000000, from: "192.0.2.2:3478", to: "192.0.2.1:5000", bytes: TEXT_158, want: Told { answer: "TURN_OK", ..TOLD }, ..STEP },
+                Step { name: "", call: "event", now: 260000000, want: Told { answer: "TURN_OK", kind: "TURN_PERMISSION_CREATED", transport: "udp", peer: "198.51.100.9:0", ..TOLD }, ..STEP },
+                Step { name: "", call: "event", now: 260000000, want: Told { answer: "TURN_NOTHING", ..TOLD }, ..STEP },
+                Step { name: "", call: "permissions", now: 260000000, number: 0, transport: "udp", to: "203.0.113.5:50000", want: Told { answer: "3", peer: "198.51.100.1:0", ..TOLD }, ..STEP },
+                Step { name: "", call: "permissions", now: 260000000, number: 1, transport: "udp", to: "203.0.113.5:50000", want: Told { answer: "3", peer: "198.51.100.2:0", ..TOLD }, ..STEP },
+                Step { name: "", call: "permissions", now: 260000000, number: 2, transport: "udp", to: "203.0.113.5:50000", want: Told { answer: "3", peer: "198.51.100.9:0", ..TOLD }, ..STEP },
+            ]),
+            ("other credentials: the former key counts no more", &[
+                Step { name: "", call: "permit", now: 260000000, transport: "udp", to: "198.51.100.4:9003", want: Told { answer: "TURN_OK", ..TOLD }, ..STEP },
+                Step { name: "", call: "draw", now: 300000000, want: Told { answer: "TURN_OK", bytes: TEXT_159, transport: "udp", from: "192.0.2.1:5000", to: "192.0.2.2:3478", size: 112, ..TOLD }, ..STEP },
+                Step { name: "signed by the former key", call: "feed", now: 300000000, from: "192.0.2.2:3478", to: "192.0.2.1:5000", bytes: TEXT_160, want: Told { answer: "TURN_IGNORED", ..TOLD }, ..STEP },
+                Step { name: "", call: "event", now: 300000000, want: Told { answer: "TURN_NOTHING", ..TOLD }, ..STEP },
+                Step { name: "", call: "feed", now: 300000000, from: "192.0.2.2:3478", to: "192.0.2.1:5000", bytes: TEXT_161, want: Told { answer: "TURN_OK", ..TOLD }, ..STEP },
+                Step { name: "", call: "event", now: 300000000, want: Told { answer: "TURN_OK", kind: "TURN_PERMISSION_CREATED", transport: "udp", peer: "198.51.100.4:0", ..TOLD }, ..STEP },
+                Step { name: "", call: "event", now: 300000000, want: Told { answer: "TURN_NOTHING", ..TOLD }, ..STEP },
+            ]),
+            ("other credentials: the end", &[
+                Step { name: "", call: "delete", now: 350000000, want: Told { answer: "TURN_OK", ..TOLD }, ..STEP },
+                Step { name: "", call: "relayed", now: 350000000, number: 0, want: Told { answer: "0", ..TOLD }, ..STEP },
+                Step { name: "", call: "draw", now: 350000000, want: Told { answer: "TURN_OK", bytes: TEXT_162, transport: "udp", from: "192.0.2.1:5000", to: "192.0.2.2:3478", size: 108, ..TOLD }, ..STEP },
+                Step { name: "", call: "feed", now: 350000000, from: "192.0.2.2:3478", to: "192.0.2.1:5000", bytes: TEXT_163, want: Told { answer: "TURN_OK", ..TOLD }, ..STEP },
+                Step { name: "", call: "pull", now: 350000000, want: Told { answer: "TURN_NOTHING", ..TOLD }, ..STEP },
+                Step { name: "", call: "poll", now: 350000000, want: Told { answer: "TURN_CLOSED", ..TOLD }, ..STEP },
+                Step { name: "", call: "event", now: 350000000, want: Told { answer: "TURN_NOTHING", ..TOLD }, ..STEP },
+                Step { name: "", call: "draw", now: 350000000, want: Told { answer: "TURN_NOTHING", ..TOLD }, ..STEP },
+                Step { name: "", call: "close", now: 350000000, want: Told { answer: "TURN_OK", ..TOLD }, ..STEP },
+            ]),
+        ],
+        ..EXCHANGE
+    },
+    Exchange { name: "other credentials, and a stale nonce", local: "192.0.2.1:5000", server: "192.0.2.2:3478", transport: "tcp", peers: "udp", 
+        parts: &[
+            ("other credentials, and a stale nonce: the allocation", &[
+                Step { name: "", call: "open", now: 0, want: Told { answer: "TURN_OK", ..TOLD }, ..STEP },
+                Step { name: "", call: "draw", now: 0, want: Told { answer: "TURN_OK", bytes: TEXT_1, transport: "tcp", from: "192.0.2.1:5000", to: "192.0.2.2:3478", size: 40, ..TOLD }, ..STEP },
+                Step { name: "", call: "feed", now: 0, from: "192.0.2.2:3478", to: "192.0.2.1:5000", bytes: TEXT_2, want: Told { answer: "TURN_OK", ..TOLD }, ..STEP },
+                Step { name: "", call: "pull", now: 0, want: Told { answer: "TURN_NOTHING", ..TOLD }, ..STEP },
+                Step { name: "", call: "draw", now: 50000000, want: Told { answer: "TURN_OK", bytes: TEXT_5, transport: "tcp", from: "192.0.2.1:5000", to: "192.0.2.2:3478", size: 116, ..TOLD }, ..STEP },
+                Step { name: "", call: "feed", now: 60000000, from: "192.0.2.2:3478", to: "192.0.2.1:5000", bytes: TEXT_67, want: Told { answer: "TURN_OK", ..TOLD }, ..STEP },
+                Step { name: "", call: "pull", now: 60000000, want: Told { answer: "TURN_NOTHING", ..TOLD }, ..STEP },
+                Step { name: "", call: "event", now: 60000000, want: Told { answer: "TURN_OK", kind: "TURN_ALLOCATION_CREATED", transport: "udp", peer: "203.0.113.5:50000", ..TOLD }, ..STEP },
+                Step { name: "", call: "event", now: 60000000, want: Told { answer: "TURN_NOTHING", ..TOLD }, ..STEP },
+                Step { name: "", call: "relayed", now: 60000000, number: 0, want: Told { answer: "1", transport: "udp", peer: "203.0.113.5:50000", ..TOLD }, ..STEP },
+            ]),
+            ("other credentials, and a stale nonce: other credentials, while a request waits for its response", &[
+                Step { name: "", call: "permit", now: 60000000, transport: "udp", to: "198.51.100.1:9000", want: Told { answer: "TURN_OK", ..TOLD }, ..STEP },
+                Step { name: "", call: "draw", now: 100000000, want: Told { answer: "TURN_OK", bytes: TEXT_7, transport: "tcp", from: "192.0.2.1:5000", to: "192.0.2.2:3478", size: 112, ..TOLD }, ..STEP },
+                Step { name: "", call: "credentials", now: 100000000, bytes: TEXT_151, password: TEXT_152, want: Told { answer: "TURN_OK", ..TOLD }, ..STEP },
+                Step { name: "", call: "credentials", now: 100000000, bytes: TEXT_153, password: TEXT_154, want: Told { answer: "TURN_OK", ..TOLD }, ..STEP },
+                Step { name: "", call: "feed", now: 110000000, from: "192.0.2.2:3478", to: "192.0.2.1:5000", bytes: TEXT_8, want: Told { answer: "TURN_OK", ..TOLD }, ..STEP },
+                Step { name: "", call: "event", now: 110000000, want: Told { answer: "TURN_OK", kind: "TURN_PERMISSION_CREATED", transport: "udp", peer: "198.51.100.1:0", ..TOLD }, ..STEP },
+                Step { name: "", call: "event", now: 110000000, want: Told { answer: "TURN_NOTHING", ..TOLD }, ..STEP },
+            ]),
+            ("other credentials, and a stale nonce: until a challenge comes, requests go as before", &[
+                Step { name: "", call: "permit", now: 110000000, transport: "udp", to: "198.51.100.2:9001", want: Told { answer: "TURN_OK", ..TOLD }, ..STEP },
+                Step { name: "", call: "draw", now: 150000000, want: Told { answer: "TURN_OK", bytes: TEXT_68, transport: "tcp", from: "192.0.2.1:5000", to: "192.0.2.2:3478", size: 112, ..TOLD }, ..STEP },
+                Step { name: "", call: "feed", now: 150000000, from: "192.0.2.2:3478", to: "192.0.2.1:5000", bytes: TEXT_69, want: Told { answer: "TURN_OK", ..TOLD }, ..STEP },
+                Step { name: "", call: "event", now: 150000000, want: Told { answer: "TURN_OK", kind: "TURN_PERMISSION_CREATED", transport: "udp", peer: "198.51.100.2:0", ..TOLD }, ..STEP },
+                Step { name: "", call: "event", now: 150000000, want: Told { answer: "TURN_NOTHING", ..TOLD }, ..STEP },
+            ]),
+            ("other credentials, and a stale nonce: the next challenge is answered under them", &[
+                Step { name: "", call: "permit", now: 150000000, transport: "udp", to: "198.51.100.9:9000", want: Told { answer: "TURN_OK", ..TOLD }, ..STEP },
+                Step { name: "", call: "draw", now: 200000000, want: Told { answer: "TURN_OK", bytes: TEXT_155, transport: "tcp", from: "192.0.2.1:5000", to: "192.0.2.2:3478", size: 112, ..TOLD }, ..STEP },
+                Step { name: "", call: "feed", now: 210000000, from: "192.0.2.2:3478", to: "192.0.2.1:5000", bytes: TEXT_164, want: Told { answer: "TURN_OK", ..TOLD }, ..STEP },
+                Step { name: "", call: "event", now: 210000000, want: Told { answer: "TURN_NOTHING", ..TOLD }, ..STEP },
+                Step { name: "", call: "draw", now: 250000000, want: Told { answer: "TURN_OK", bytes: TEXT_157, transport: "tcp", from: "192.0.2.1:5000", to: "192.0.2.2:3478", size: 112, ..TOLD }, ..STEP },
+                Step { name: "", call: "feed", now: 260000000, from: "192.0.2.2:3478", to: "192.0.2.1:5000", bytes: TEXT_158, want: Told { answer: "TURN_OK", ..TOLD }, ..STEP },
+                Step { name: "", call: "event", now: 260000000, want: Told { answer: "TURN_OK", kind: "TURN_PERMISSION_CREATED", transport: "udp", peer: "198.51.100.9:0", ..TOLD }, ..STEP },
+                Step { name: "", call: "event", now: 260000000, want: Told { answer: "TURN_NOTHING", ..TOLD }, ..STEP },
+                Step { name: "", call: "permissions", now: 260000000, number: 0, transport: "udp", to: "203.0.113.5:50000", want: Told { answer: "3", peer: "198.51.100.1:0", ..TOLD }, ..STEP },
+                Step { name: "", call: "permissions", now: 260000000, number: 1, transport: "udp", to: "203.0.113.5:50000", want: Told { answer: "3", peer: "198.51.100.2:0", ..TOLD }, ..STEP },
+                Step { name: "", call: "permissions", now: 260000000, number: 2, transport: "udp", to: "203.0.113.5:50000", want: Told { answer: "3", peer: "198.51.100.9:0", ..TOLD }, ..STEP },
+            ]),
+            ("other credentials, and a stale nonce: the end", &[
+                Step { name: "", call: "delete", now: 350000000, want: Told { answer: "TURN_OK", ..TOLD }, ..STEP },
+                Step { name: "", call: "relayed", now: 350000000, number: 0, want: Told { answer: "0", ..TOLD }, ..STEP },
+                Step { name: "", call: "draw", now: 350000000, want: Told { answer: "TURN_OK", bytes: TEXT_165, transport: "tcp", from: "192.0.2.1:5000", to: "192.0.2.2:3478", size: 108, ..TOLD }, ..STEP },
+                Step { name: "", call: "feed", now: 350000000, from: "192.0.2.2:3478", to: "192.0.2.1:5000", bytes: TEXT_166, want: Told { answer: "TURN_OK", ..TOLD }, ..STEP },
+                Step { name: "", call: "pull", now: 350000000, want: Told { answer: "TURN_NOTHING", ..TOLD }, ..STEP },
+                Step { name: "", call: "poll", now: 350000000, want: Told { answer: "TURN_CLOSED", ..TOLD }, ..STEP },
+                Step { name: "", call: "event", now: 350000000, want: Told { answer: "TURN_NOTHING", ..TOLD }, ..STEP },
+                Step { name: "", call: "draw", now: 350000000, want: Told { answer: "TURN_NOTHING", ..TOLD }, ..STEP },
+                Step { name: "", call: "close", now: 350000000, want: Told { answer: "TURN_OK", ..TOLD }, ..STEP },
+            ]),
+        ],
+        ..EXCHANGE
+    },
+    Exchange { name: "other credentials, at first", local: "192.0.2.1:5000", server: "192.0.2.2:3478", transport: "udp", peers: "udp", 
+        parts: &[
+            ("other credentials, at first: the allocation", &[
+                Step { name: "", call: "open", now: 0, want: Told { answer: "TURN_OK", ..TOLD }, ..STEP },
+                Step { name: "", call: "credentials", now: 0, bytes: TEXT_153, password: TEXT_154, want: Told { answer: "TURN_OK", ..TOLD }, ..STEP },
+                Step { name: "", call: "draw", now: 0, want: Told { answer: "TURN_OK", bytes: TEXT_1, transport: "udp", from: "192.0.2.1:5000", to: "192.0.2.2:3478", size: 40, ..TOLD }, ..STEP },
+                Step { name: "", call: "feed", now: 0, from: "192.0.2.2:3478", to: "192.0.2.1:5000", bytes: TEXT_2, want: Told { answer: "TURN_OK", ..TOLD }, ..STEP },
+                Step { name: "", call: "draw", now: 50000000, want: Told { answer: "TURN_OK", bytes: TEXT_167, transport: "udp", from: "192.0.2.1:5000", to: "192.0.2.2:3478", size: 124, ..TOLD }, ..STEP },
+                Step { name: "", call: "feed", now: 50000000, from: "192.0.2.2:3478", to: "192.0.2.1:5000", bytes: TEXT_168, want: Told { answer: "TURN_OK", ..TOLD }, ..STEP },
+                Step { name: "", call: "event", now: 50000000, want: Told { answer: "TURN_OK", kind: "TURN_ALLOCATION_CREATED", transport: "udp", peer: "203.0.113.5:50000", ..TOLD }, ..STEP },
+                Step { name: "", call: "event", now: 50000000, want: Told { answer: "TURN_NOTHING", ..TOLD }, ..STEP },
+            ]),
+            ("other credentials, at first: the end", &[
+                Step { name: "", call: "delete", now: 100000000, want: Told { answer: "TURN_OK", ..TOLD }, ..STEP },
+                Step { name: "", call: "relayed", now: 100000000, number: 0, want: Told { answer: "0", ..TOLD }, ..STEP },
+                Step { name: "", call: "draw", now: 100000000, want: Told { answer: "TURN_OK", bytes: TEXT_169, transport: "udp", from: "192.0.2.1:5000", to: "192.0.2.2:3478", size: 116, ..TOLD }, ..STEP },
+                Step { name: "", call: "feed", now: 100000000, from: "192.0.2.2:3478", to: "192.0.2.1:5000", bytes: TEXT_170, want: Told { answer: "TURN_OK", ..TOLD }, ..STEP },
+                Step { name: "", call: "pull", now: 100000000, want: Told { answer: "TURN_NOTHING", ..TOLD }, ..STEP },
+                Step { name: "", call: "poll", now: 100000000, want: Told { answer: "TURN_CLOSED", ..TOLD }, ..STEP },
+                Step { name: "", call: "event", now: 100000000, want: Told { answer: "TURN_NOTHING", ..TOLD }, ..STEP },
+                Step { name: "", call: "draw", now: 100000000, want: Told { answer: "TURN_NOTHING", ..TOLD }, ..STEP },
+                Step { name: "", call: "close", now: 100000000, want: Told { answer: "TURN_OK", ..TOLD }, ..STEP },
+            ]),
+        ],
+        ..EXCHANGE
+    },
+    Exchange { name: "SOFTWARE and FINGERPRINT", local: "192.0.2.1:5000", server: "192.0.2.2:3478", transport: "udp", peers: "udp", 
+        parts: &[
+            ("SOFTWARE and FINGERPRINT: both ALLOCATEs have them", &[
+                Step { name: "", call: "open", now: 0, want: Told { answer: "TURN_OK", ..TOLD }, ..STEP },
+                Step { name: "", call: "software", now: 0, bytes: TEXT_171, want: Told { answer: "TURN_OK", ..TOLD }, ..STEP },
+                Step { name: "", call: "fingerprint", now: 0, number: 1, want: Told { answer: "TURN_OK", ..TOLD }, ..STEP },
+                Step { name: "", call: "draw", now: 0, want: Told { answer: "TURN_OK", bytes: TEXT_172, transport: "udp", from: "192.0.2.1:5000", to: "192.0.2.2:3478", size: 68, ..TOLD }, ..STEP },
+                Step { name: "the same request again", call: "draw", now: 500000000, want: Told { answer: "TURN_OK", bytes: TEXT_172, transport: "udp", from: "192.0.2.1:5000", to: "192.0.2.2:3478", size: 68, ..TOLD }, ..STEP },
+                Step { name: "", call: "feed", now: 500000000, from: "192.0.2.2:3478", to: "192.0.2.1:5000", bytes: TEXT_173, want: Told { answer: "TURN_OK", ..TOLD }, ..STEP },
+                Step { name: "", call: "draw", now: 550000000, want: Told { answer: "TURN_OK", bytes: TEXT_174, transport: "udp", from: "192.0.2.1:5000", to: "192.0.2.2:3478", size: 144, ..TOLD }, ..STEP },
+                Step { name: "", call: "feed", now: 600000000, from: "192.0.2.2:3478", to: "192.0.2.1:5000", bytes: TEXT_6, want: Told { answer: "TURN_OK", ..TOLD }, ..STEP },
+                Step { name: "", call: "event", now: 600000000, want: Told { answer: "TURN_OK", kind: "TURN_ALLOCATION_CREATED", transport: "udp", peer: "203.0.113.5:50000", ..TOLD }, ..STEP },
+                Step { name: "", call: "event", now: 600000000, want: Told { answer: "TURN_NOTHING", ..TOLD }, ..STEP },
+            ]),
+            ("SOFTWARE and FINGERPRINT: another text, and then neither", &[
+                Step { name: "", call: "software", now: 600000000, bytes: TEXT_175, want: Told { answer: "TURN_OK", ..TOLD }, ..STEP },
+                Step { name: "", call: "permit", now: 600000000, transport: "udp", to: "198.51.100.1:9000", want: Told { answer: "TURN_OK", ..TOLD }, ..STEP },
+                Step { name: "", call: "draw", now: 650000000, want: Told { answer: "TURN_OK", bytes: TEXT_176, transport: "udp", from: "192.0.2.1:5000", to: "192.0.2.2:3478", size: 140, ..TOLD }, ..STEP },
+                Step { name: "", call: "feed", now: 650000000, from: "192.0.2.2:3478", to: "192.0.2.1:5000", bytes: TEXT_177, want: Told { answer: "TURN_OK", ..TOLD }, ..STEP },
+                Step { name: "", call: "event", now: 650000000, want: Told { answer: "TURN_OK", kind: "TURN_PERMISSION_CREATED", transport: "udp", peer: "198.51.100.1:0", ..TOLD }, ..STEP },
+                Step { name: "an indication has neither", call: "send", now: 650000000, transport: "udp", to: "198.51.100.1:9000", bytes: TEXT_0, want: Told { answer: "TURN_OK", bytes: TEXT_14, transport: "udp", from: "192.0.2.1:5000", to: "192.0.2.2:3478", size: 44, ..TOLD }, ..STEP },
+                Step { name: "", call: "fingerprint", now: 650000000, number: 0, want: Told { answer: "TURN_OK", ..TOLD }, ..STEP },
+                Step { name: "", call: "bind", now: 650000000, transport: "udp", to: "198.51.100.1:9000", want: Told { answer: "TURN_OK", ..TOLD }, ..STEP },
+                Step { name: "", call: "draw", now: 700000000, want: Told { answer: "TURN_OK", bytes: TEXT_178, transport: "udp", from: "192.0.2.1:5000", to: "192.0.2.2:3478", size: 140, ..TOLD }, ..STEP },
+                Step { name: "", call: "feed", now: 700000000, from: "192.0.2.2:3478", to: "192.0.2.1:5000", bytes: TEXT_17, want: Told { answer: "TURN_OK", ..TOLD }, ..STEP },
+                Step { name: "", call: "event", now: 700000000, want: Told { answer: "TURN_OK", kind: "TURN_CHANNEL_CREATED", transport: "udp", peer: "198.51.100.1:9000", ..TOLD }, ..STEP },
+                Step { name: "", call: "software", now: 700000000, bytes: TEXT_4, want: Told { answer: "TURN_OK", ..TOLD }, ..STEP },
+                Step { name: "", call: "permit", now: 700000000, transport: "udp", to: "198.51.100.2:9001", want: Told { answer: "TURN_OK", ..TOLD }, ..STEP },
+                Step { name: "", call: "draw", now: 750000000, want: Told { answer: "TURN_OK", bytes: TEXT_125, transport: "udp", from: "192.0.2.1:5000", to: "192.0.2.2:3478", size: 112, ..TOLD }, ..STEP },
+                Step { name: "", call: "feed", now: 750000000, from: "192.0.2.2:3478", to: "192.0.2.1:5000", bytes: TEXT_179, want: Told { answer: "TURN_OK", ..TOLD }, ..STEP },
+                Step { name: "", call: "event", now: 750000000, want: Told { answer: "TURN_OK", kind: "TURN_PERMISSION_CREATED", transport: "udp", peer: "198.51.100.2:0", ..TOLD }, ..STEP },
+                Step { name: "", call: "event", now: 750000000, want: Told { answer: "TURN_NOTHING", ..TOLD }, ..STEP },
+            ]),
+            ("SOFTWARE and FINGERPRINT: the end", &[
+                Step { name: "", call: "fingerprint", now: 800000000, number: 1, want: Told { answer: "TURN_OK", ..TOLD }, ..STEP },
+                Step { name: "", call: "delete", now: 800000000, want: Told { answer: "TURN_OK", ..TOLD }, ..STEP },
+                Step { name: "", call: "draw", now: 800000000, want: Told { answer: "TURN_OK", bytes: TEXT_180, transport: "udp", from: "192.0.2.1:5000", to: "192.0.2.2:3478", size: 116, ..TOLD }, ..STEP },
+                Step { name: "", call: "feed", now: 800000000, from: "192.0.2.2:3478", to: "192.0.2.1:5000", bytes: TEXT_128, want: Told { answer: "TURN_OK", ..TOLD }, ..STEP },
+                Step { name: "", call: "poll", now: 800000000, want: Told { answer: "TURN_CLOSED", ..TOLD }, ..STEP },
+                Step { name: "", call: "close", now: 800000000, want: Told { answer: "TURN_OK", ..TOLD }, ..STEP },
+            ]),
+        ],
+        ..EXCHANGE
+    },
+    Exchange { name: "SOFTWARE and FINGERPRINT, over TCP", local: "192.0.2.1:5000", server: "192.0.2.2:3478", transport: "tcp", peers: "tcp", integrity: 3, 
+        parts: &[
+            ("SOFTWARE and FINGERPRINT, over TCP: a connection to a peer", &[
+                Step { name: "", call: "open", now: 0, want: Told { answer: "TURN_OK", ..TOLD }, ..STEP },
+                Step { name: "", call: "software", now: 0, bytes: TEXT_171, want: Told { answer: "TURN_OK", ..TOLD }, ..STEP },
+                Step { name: "", call: "fingerprint", now: 0, number: 1, want: Told { answer: "TURN_OK", ..TOLD }, ..STEP },
+                Step { name: "", call: "draw", now: 0, want: Told { answer: "TURN_OK", bytes: TEXT_181, transport: "tcp", from: "192.0.2.1:5000", to: "192.0.2.2:3478", size: 68, ..TOLD }, ..STEP },
+                Step { name: "", call: "feed", now: 0, from: "192.0.2.2:3478", to: "192.0.2.1:5000", bytes: TEXT_97, want: Told { answer: "TURN_OK", ..TOLD }, ..STEP },
+                Step { name: "", call: "draw", now: 50000000, want: Told { answer: "TURN_OK", bytes: TEXT_182, transport: "tcp", from: "192.0.2.1:5000", to: "192.0.2.2:3478", size: 200, ..TOLD }, ..STEP },
+                Step { name: "", call: "feed", now: 50000000, from: "192.0.2.2:3478", to: "192.0.2.1:5000", bytes: TEXT_183, want: Told { answer: "TURN_OK", ..TOLD }, ..STEP },
+                Step { name: "", call: "event", now: 50000000, want: Told { answer: "TURN_OK", kind: "TURN_ALLOCATION_CREATED", transport: "tcp", peer: "203.0.113.5:50000", ..TOLD }, ..STEP },
+                Step { name: "", call: "permit", now: 50000000, transport: "tcp", to: "198.51.100.1:9000", want: Told { answer: "TURN_OK", ..TOLD }, ..STEP },
+                Step { name: "", call: "draw", now: 100000000, want: Told { answer: "TURN_OK", bytes: TEXT_184, transport: "tcp", from: "192.0.2.1:5000", to: "192.0.2.2:3478", size: 196, ..TOLD }, ..STEP },
+                Step { name: "", call: "feed", now: 100000000, from: "192.0.2.2:3478", to: "192.0.2.1:5000", bytes: TEXT_101, want: Told { answer: "TURN_OK", ..TOLD }, ..STEP },
+                Step { name: "", call: "event", now: 100000000, want: Told { answer: "TURN_OK", kind: "TURN_PERMISSION_CREATED", transport: "tcp", peer: "198.51.100.1:0", ..TOLD }, ..STEP },
+                Step { name: "", call: "connect", now: 100000000, transport: "tcp", to: "198.51.100.1:9000", want: Told { answer: "TURN_OK", ..TOLD }, ..STEP },
+                Step { name: "", call: "draw", now: 150000000, want: Told { answer: "TURN_OK", bytes: TEXT_185, transport: "tcp", from: "192.0.2.1:5000", to: "192.0.2.2:3478", size: 196, ..TOLD }, ..STEP },
+                Step { name: "", call: "feed", now: 150000000, from: "192.0.2.2:3478", to: "192.0.2.1:5000", bytes: TEXT_186, want: Told { answer: "TURN_OK", ..TOLD }, ..STEP },
+                Step { name: "", call: "poll", now: 150000000, want: Told { answer: "TURN_OPEN_SOCKET", number: 7, transport: "tcp", from: "192.0.2.1:5000", to: "192.0.2.2:3478", peer: "198.51.100.1:9000", ..TOLD }, ..STEP },
+                Step { name: "", call: "socket", now: 150000000, transport: "tcp", to: "198.51.100.1:9000", number: 7, from: "192.0.2.1:5001", want: Told { answer: "TURN_OK", ..TOLD }, ..STEP },
+                Step { name: "", call: "draw", now: 200000000, want: Told { answer: "TURN_OK", bytes: TEXT_187, transport: "tcp", from: "192.0.2.1:5001", to: "192.0.2.2:3478", size: 192, ..TOLD }, ..STEP },
+                Step { name: "", call: "feed", now: 200000000, from: "192.0.2.2:3478", to: "192.0.2.1:5001", bytes: TEXT_188, want: Told { answer: "TURN_OK", ..TOLD }, ..STEP },
+                Step { name: "", call: "event", now: 200000000, want: Told { answer: "TURN_OK", kind: "TURN_TCP_CONNECTED", transport: "tcp", peer: "198.51.100.1:9000", ..TOLD }, ..STEP },
+            ]),
+            ("SOFTWARE and FINGERPRINT, over TCP: a peer begins one", &[
+                Step { name: "", call: "feed", now: 200000000, from: "192.0.2.2:3478", to: "192.0.2.1:5000", bytes: TEXT_189, want: Told { answer: "TURN_OK", ..TOLD }, ..STEP },
+                Step { name: "", call: "poll", now: 200000000, want: Told { answer: "TURN_OPEN_SOCKET", number: 12, transport: "tcp", from: "192.0.2.1:5000", to: "192.0.2.2:3478", peer: "198.51.100.1:9100", ..TOLD }, ..STEP },
+                Step { name: "", call: "socket", now: 200000000, transport: "tcp", to: "198.51.100.1:9100", number: 12, from: "192.0.2.1:5002", want: Told { answer: "TURN_OK", ..TOLD }, ..STEP },
+                Step { name: "", call: "draw", now: 200000000, want: Told { answer: "TURN_OK", bytes: TEXT_190, transport: "tcp", from: "192.0.2.1:5000", to: "192.0.2.2:3478", size: 56, ..TOLD }, ..STEP },
+                Step { name: "", call: "draw", now: 250000000, want: Told { answer: "TURN_OK", bytes: TEXT_191, transport: "tcp", from: "192.0.2.1:5002", to: "192.0.2.2:3478", size: 192, ..TOLD }, ..STEP },
+                Step { name: "", call: "close", now: 250000000, want: Told { answer: "TURN_OK", ..TOLD }, ..STEP },
             ]),
         ],
         ..EXCHANGE

@@ -384,6 +384,23 @@ impl Walker {
         }
     }
 
+    /// How the client introduces itself in its requests.
+    fn introduce(&mut self, step: &Step) -> Told {
+        let text = |bytes| std::str::from_utf8(bytes).expect("a text");
+        let client = self.client();
+        match step.call {
+            "credentials" => {
+                let credentials = TurnCredentials::new(text(step.bytes), text(step.password));
+                done(client.set_credentials(&credentials))
+            }
+            "software" => done(client.set_software(text(step.bytes))),
+            _ => {
+                client.set_fingerprint(step.number != 0);
+                answer("TURN_OK")
+            }
+        }
+    }
+
     fn get(&mut self, step: &Step) -> Told {
         let (which, client) = (step.number, self.client());
         match step.call {
@@ -471,6 +488,7 @@ impl Walker {
             "poll" => tell_poll(self.client().poll(now).unwrap()),
             "event" => self.client().poll_event().map_or(answer("TURN_NOTHING"), tell_event),
             "cause" | "reason" | "domain" | "mapped" => self.note(step),
+            "credentials" | "software" | "fingerprint" => self.introduce(step),
             _ => self.ask(step, now),
         }
     }
