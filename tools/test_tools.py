@@ -345,6 +345,7 @@ class Version(unittest.TestCase):
     HEADER, CARGO = "bindings/c/include/turn_client.h", "bindings/rust/Cargo.toml"
     LIBRARY = "crates/turn_client_c/src/lib.rt"
     WHEEL, CHANGES = "bindings/python/make_wheel.py", "CHANGELOG.md"
+    MODULE = "bindings/python/turn_client.py"
     DIST = "dist/x86_64-linux-gnu"
 
     def setUp(self):
@@ -352,7 +353,8 @@ class Version(unittest.TestCase):
         self.addCleanup(room.cleanup)
         self.top = Path(room.name)
         files = ("MANIFEST", "turn_client.pc", "turn_client.h")
-        copied = ("VERSION", "bindings/c/build", self.HEADER, self.CARGO, self.LIBRARY, self.WHEEL, self.CHANGES)
+        copied = ("VERSION", "bindings/c/build", self.HEADER, self.CARGO, self.LIBRARY, self.WHEEL, self.MODULE,
+                  self.CHANGES)
         for file in (*copied, *(f"{self.DIST}/{it}" for it in files)):
             self.top.joinpath(file).parent.mkdir(parents=True, exist_ok=True)
             shutil.copy(TOP / file, self.top / file)
@@ -382,7 +384,7 @@ class Version(unittest.TestCase):
     def test_a_wrong_version_is_seen_in_each_place(self):
         stands, number = self.stands, version.number_of(self.stands)
         parts = dict(zip(("MAJOR", "MINOR", "PATCH"), stands.split(".")))
-        read = '(HERE.parents[1] / "VERSION").read_text(encoding="utf-8").strip()'
+        read = '(TOP / "VERSION").read_text(encoding="utf-8").strip()'
         rows = (
             (self.HEADER, f'VERSION "{stands}"', 'VERSION "9.8.7"', "TURN_CLIENT_VERSION states 9.8.7"),
             *((self.HEADER, f"_{it} {parts[it]}", f"_{it} 9", f"TURN_CLIENT_VERSION_{it} states 9") for it in parts),
@@ -392,6 +394,7 @@ class Version(unittest.TestCase):
             (self.CARGO, f'version = "{stands}"', 'version = "9.8.7"', f"{self.CARGO} states 9.8.7"),
             (self.WHEEL, read, '"9.8.7"', f"{self.WHEEL}: VERSION states 9.8.7"),
             (self.WHEEL, "Version: {VERSION}", "Version: 9.8.7", f"{self.WHEEL}: METADATA states 9.8.7"),
+            (self.MODULE, f'__version__ = "{stands}"', '__version__ = "9.8.7"', f"{self.MODULE} states 9.8.7"),
             ("bindings/c/build", "Version: $version", "Version: 9.8.7", "bindings/c/build states 9.8.7"),
             (self.CHANGES, f"## [{stands}]", "## [9.8.7]", f"{self.CHANGES}, its newest version states 9.8.7"),
             (f"{self.DIST}/MANIFEST", f"version = {stands}", "version = 9.8.7", "MANIFEST 9.8.7"),

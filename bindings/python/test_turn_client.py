@@ -500,7 +500,9 @@ class Refusals(unittest.TestCase):
 
         def first(seed: bytes | None) -> bytes:
             with turn_client.TurnClient(read(base.OWN), read(base.SERVER), config, seed=seed) as client:
-                return client.poll_transmit(0).data
+                sent = client.poll_transmit(0)
+            assert sent is not None
+            return sent.data
 
         with self.assertRaises(turn_client.ZeroSeed):
             first(bytes(32))

@@ -35,6 +35,8 @@ from pathlib import Path
 from types import TracebackType
 from typing import Any, ClassVar, TypeVar, Union
 
+__version__ = "0.1.0"  # of the file VERSION
+
 Address = tuple[str, int]
 Buffer = Union[bytes, bytearray, memoryview]
 

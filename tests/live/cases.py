@@ -70,7 +70,7 @@ def restart(server, peer):
 class Case:
     name: str
     want: int = ALL_BACK
-    transport: str = "udp"  # to the server
+    transport: str = "udp"  # to the server: udp, tcp, or tls over TCP
     host: str = "127.0.0.1"  # the server's
     count: int = 20  # payloads
     size: int = 100  # bytes of each
@@ -97,6 +97,8 @@ class Case:
     pace: int = 1  # how many times as fast the clocks of server and program run; `lasts` and `spans` are real
     is_idle: bool = False  # it waits more than it works, and runs beside others
     is_long: bool = False  # it takes ten minutes
+    driver: bool = False  # it is one of programs over a driver of the repository, not of those with a loop of their own
+    is_distrusted: bool = False  # the program trusts another certificate than the server's
 
 
 def _both_ways(transport, host):
@@ -200,6 +202,32 @@ def connections():
     return [one, replace(one, name=one.name.replace("IPv4", "IPv6"), host="::1", family="6")]
 
 
+def drivers():
+    """What a driver does in place of the program: turn_client_asyncio."""
+    both = [replace(case, name=f"driver: {case.name}") for case in (*payloads(), *connections())]
+    tls = [replace(case, transport="tls", name=case.name.replace(", TCP", "") + ", TLS") for case in both
+           if case.transport == "tcp"]
+    large = Case("driver: 100 of 8,000 bytes, UDP", count=100, size=8000, interval=20)
+    rejected = {it.name: it for it in refusals()}
+    wrong, denied, absent = (replace(rejected[name], name=f"driver: {name}") for name in (
+        "a wrong password, UDP", "a peer that the server denies", "no server, UDP"))
+    redirected = replace(redirections()[0], name="driver: a server that names another one, UDP",
+                         says=("cause: rejected 300 unsigned", r"alternate server: 127\.0\.0\.1:\d+\n"))
+    followed = replace(redirected, name="driver: another server, which is followed, UDP", want=ALL_BACK, peer="run",
+                       options=("--redirects", "1"), visits=1, says=("public address: ",))
+    untrusted = Case("driver: a certificate that nobody vouches for", NO_ANSWER, transport="tls", peer="none",
+                     is_distrusted=True, says=("CERTIFICATE_VERIFY_FAILED",))
+    # the renewal is rejected after 35 seconds, and the allocation ends after 70
+    restarted = Case("driver: killed and restarted, UDP", FAILED, count=100, interval=50, seconds=90, during=restart,
+                     server=SHORT_SERVER, is_idle=True, logged=(("error 437", 1),), lasts=(69, 80),
+                     says=("the relayed address is gone",))
+    killed = Case("driver: killed, TCP", FAILED, transport="tcp", during=kill, says=("the server is closed",), **STEADY)
+    hour = next(it for it in lifetimes() if it.name == "lifetimes of 70 s, for an hour, UDP")
+    found = [*both, *tls, large, replace(large, name="driver: 100 of 8,000 bytes, TLS", transport="tls"), wrong, denied,
+             absent, redirected, followed, untrusted, restarted, killed, replace(hour, name=f"driver: {hour.name}")]
+    return [replace(it, driver=True) for it in found]
+
+
 def renewals():
     one = Case("renewed for 655 s, channel, UDP", count=RENEWING_PAYLOADS,
                interval=RENEWING_INTERVAL, seconds=RENEWING_SECONDS, spans=600, server=RENEWING_SERVER,
@@ -211,4 +239,4 @@ def renewals():
 
 def all_of_them(is_quick):
     return [*([] if is_quick else renewals()), *lifetimes(), *troubles(), *refusals(), *redirections(), *payloads(),
-            *settings(), *connections()]
+            *settings(), *connections(), *drivers()]

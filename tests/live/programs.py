@@ -22,6 +22,7 @@ class Program:
     command: tuple
     transports: tuple
     takes: frozenset
+    driver: bool = False  # whether it leaves the client to a driver of the repository
 
     def options(self, case):
         """The options of a case, in those words that the program has. Lacks tells that it has none."""
@@ -65,13 +66,13 @@ class Absent:
     why: str
 
 
-def _made(name, command, transports, cwd=None):
+def _made(name, command, transports, cwd=None, driver=False):
     """A program whose options are those that its help names."""
     told = subprocess.run([*command, "--help"], capture_output=True, text=True, check=False, cwd=cwd)
     takes = frozenset(re.findall(r"--[a-z][a-z0-9-]*", told.stdout + told.stderr))
     if told.returncode != 0 or "--server" not in takes:
         return Absent(name, "its help names no options")
-    return Program(name, tuple(command), transports, takes)
+    return Program(name, tuple(command), transports, takes, driver)
 
 
 def _build(command, cwd, log):
@@ -108,16 +109,19 @@ def of_rust(archive, folder):
 
 
 def of_python(archive, folder):
-    """bindings/python/example.py, with the shared library that bindings/python/build makes of the archive."""
-    name, source = "bindings/python/example.py", os.path.join(ROOT, "bindings", "python")
+    """bindings/python/example.py, and example_asyncio.py over turn_client_asyncio, with the shared library that
+    bindings/python/build makes of the archive."""
+    names, source = ("example.py", "example_asyncio.py"), os.path.join(ROOT, "bindings", "python")
     if not os.path.isdir(source):
-        return [Absent(name, "no folder bindings/python/")]
+        return [Absent(f"bindings/python/{name}", "no folder bindings/python/") for name in names]
     copy = os.path.join(folder, "python")
     shutil.copytree(source, copy, dirs_exist_ok=True, ignore=shutil.ignore_patterns(".*", "__pycache__"))
     library = os.path.join(archive, "libturn_client.a")
     if not _build([os.path.join(copy, "build"), library], copy, os.path.join(folder, "build-python.log")):
-        return [Absent(name, "it isn't built: see build-python.log")]
-    return [_made(name, [sys.executable, os.path.join(copy, "example.py")], ("udp", "tcp"))]
+        return [Absent(f"bindings/python/{name}", "it isn't built: see build-python.log") for name in names]
+    transports = ("udp", "tcp"), ("udp", "tcp", "tls")
+    return [_made(f"bindings/python/{name}", [sys.executable, os.path.join(copy, name)], by, driver="tls" in by)
+            for name, by in zip(names, transports)]
 
 
 def all_of_them(archive, folder):

@@ -4,6 +4,7 @@ import os
 import random
 import re
 import secrets
+import shutil
 import signal
 import socket
 import subprocess
@@ -17,6 +18,11 @@ RELAY_FROM, RELAY_TO = 100, 199  # of these the relayed ones
 READY_WITHIN = 10  # seconds
 
 COOKIE = bytes.fromhex("2112a442")
+# a certificate for a case over TLS, whose names are those by which programs reach the server
+CERTIFICATE, KEY, ANOTHER = "certificate.pem", "key.pem", "another.pem"
+CERTIFIED = ("openssl", "req", "-x509", "-newkey", "ec", "-pkeyopt", "ec_paramgen_curve:P-256", "-nodes", "-days", "2",
+             "-subj", "/CN=localhost", "-addext", "subjectAltName=IP:127.0.0.1,IP:::1,DNS:localhost")
+
 BINDING_REQUEST = bytes.fromhex("00010000") + COOKIE
 
 
@@ -92,11 +98,21 @@ def _answers(host, port):
             return False
 
 
-class Server:
-    """One coturn. Its log stands in its folder; `variables` are more of its environment."""
+def certify(folder):
+    """Makes a certificate with its key in a folder, and another one. Where that can't be, a RuntimeError says why."""
+    if shutil.which(CERTIFIED[0]) is None:
+        raise RuntimeError("there is no openssl, which makes the certificate: apt-get install openssl")
+    for key, certificate in (("another-key.pem", ANOTHER), (KEY, CERTIFICATE)):
+        made = (*CERTIFIED, "-keyout", os.path.join(folder, key), "-out", os.path.join(folder, certificate))
+        subprocess.run(made, stdin=subprocess.DEVNULL, stderr=subprocess.DEVNULL, check=True)
 
-    def __init__(self, processes, port, folder, options, variables=None):
-        self.port, self._variables = port, variables or {}
+
+class Server:
+    """One coturn. Its log stands in its folder; `variables` are more of its environment. With TLS it has a certificate
+    of its own in its folder, and takes that at the port behind `port`, too."""
+
+    def __init__(self, processes, port, folder, options, variables=None, has_tls=False):
+        self.port, self._variables, self._has_tls = port, variables or {}, has_tls
         self.log = os.path.join(folder, "coturn.log")
         self._processes, self._folder, self._options = processes, folder, options
         self._process = None
@@ -104,13 +120,16 @@ class Server:
     def _command(self):
         folder = self._folder
         own = ["--listening-ip=" + host for host in HOSTS] + ["--relay-ip=" + host for host in HOSTS]
+        own += [f"--cert={folder}/{CERTIFICATE}", f"--pkey={folder}/{KEY}"] if self._has_tls else ["--no-tls"]
         return [PROGRAM, "-n", *own, f"--listening-port={self.port}", f"--tls-listening-port={self.port + 1}",
                 f"--min-port={self.port + RELAY_FROM}", f"--max-port={self.port + RELAY_TO}", "--lt-cred-mech",
-                "--realm=" + REALM, f"--user={USER}:{PASSWORD}", "--allow-loopback-peers", "--no-tls", "--no-dtls",
+                "--realm=" + REALM, f"--user={USER}:{PASSWORD}", "--allow-loopback-peers", "--no-dtls",
                 "--no-cli", "--relay-threads=1", "--verbose", "--log-file=" + self.log, "--simple-log",
                 f"--pidfile={folder}/coturn.pid", f"--userdb={folder}/coturn.users", *self._options]
 
     def start(self):
+        if self._has_tls:
+            certify(self._folder)
         with open(os.path.join(self._folder, "coturn.out"), "ab") as out:
             self._process = self._processes.start(self._command(), stdout=out, stderr=out,
                                                   env={**os.environ, **self._variables})
