@@ -135,7 +135,7 @@ class Driver:
         """No connections are requested over an allocation over UDP."""
 
     def _drops(self, local: Address) -> None:
-        """See there."""
+        """Without such a connection there is no socket to close."""
 
     # ---- what goes and comes
 
