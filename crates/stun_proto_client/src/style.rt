@@ -1,5 +1,5 @@
-//! What a client's requests carry besides what they ask for and what authenticates them: SOFTWARE and
-//! FINGERPRINT.
+//! What a client's requests carry besides what they ask for and what authenticates them: SOFTWARE
+//! and FINGERPRINT.
 
 ghost use Rattle.std.specs.Prelude.{◌≡◌};
 ghost use Rattle.std.specs.Option.{option_copied};

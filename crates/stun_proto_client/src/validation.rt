@@ -34,8 +34,9 @@ impl LongTermClientAuth {
     ///
     /// - An error response with 401 or 438, a realm and a nonce is a challenge, whatever else it
     ///   has. It is stored with the strongest algorithm that both sides support, credentials of
-    ///   `set_next_credentials` replace the others, and the result is `ResendRequest`. If the nonce announces no list of algorithms, or the list is absent, the
-    ///   server supports `Sha1`; but a hardened client refuses a list that is announced and absent.
+    ///   `set_next_credentials` replace the others, and the result is `ResendRequest`. If the nonce
+    ///   announces no list of algorithms, or the list is absent, the server supports `Sha1`; but a
+    ///   hardened client refuses a list that is announced and absent.
     ///   A list that has an algorithm unknown here counts as absent, except for a hardened client,
     ///   which passes over unknown ones (section 9.2.5).
     /// - Any other message is `Validated` if its last integrity attribute is of the chosen
