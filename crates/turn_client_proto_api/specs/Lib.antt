@@ -2,6 +2,7 @@ pub mod Causes
 pub mod Config
 pub mod Families
 pub mod FamilyOrders
+pub mod Options
 pub mod Payloads
 pub mod Sends
 pub mod SetWaitsView

@@ -13,6 +13,8 @@ use Rattle.stun_proto_auth.specs.contracts.supported.SupportedIntegrityPartialEq
 use Rattle.stun_proto_auth.specs.contracts.supported.SupportedIntegrityEq.TheImpl.Laws as supported_laws
 use Rattle.turn_client_proto_api.specs.contracts.families.RequestedFamiliesPartialEq.TheImpl as families
 use Rattle.turn_client_proto_api.specs.contracts.families.RequestedFamiliesEq.TheImpl.Laws as families_laws
+use Rattle.turn_client_proto_api.specs.contracts.options.AllocateOptionsPartialEq.TheImpl as options
+use Rattle.turn_client_proto_api.specs.contracts.options.AllocateOptionsEq.TheImpl.Laws as options_laws
 use Rattle.turn_client_proto_api.specs.Config.{Config}
 use Rattle.turn_client_proto_api.specs.SameWaits.{same_waits, same_waits_equiv}
 
@@ -59,7 +61,9 @@ same_config = eq_of_both (on (λ (c : Config). c.credentials) same_account)
     (eq_of_both (on (λ (c : Config). c.hardened) same_bool)
     (eq_of_both (on (λ (c : Config). c.max_connection_attempts) (option_eq nat_eq))
     (eq_of_both (on (λ (c : Config). c.short_lifetimes) same_bool)
-    (on (λ (c : Config). c.waits) same_waits))))))))
+    (eq_of_both (on (λ (c : Config). c.options) (options.eq-value).it)
+    (eq_of_both (on (λ (c : Config). c.pace) nat_eq)
+    (on (λ (c : Config). c.waits) same_waits))))))))))
 
 pub same_config_equiv : IsEquivalence same_config
 same_config_equiv = and_equiv (on_equiv (λ (c : Config). c.credentials) same_account_equiv)
@@ -70,4 +74,6 @@ same_config_equiv = and_equiv (on_equiv (λ (c : Config). c.credentials) same_ac
     (and_equiv (on_equiv (λ (c : Config). c.hardened) same_bool_equiv)
     (and_equiv (on_equiv (λ (c : Config). c.max_connection_attempts) (options_equiv nat_eq_equiv))
     (and_equiv (on_equiv (λ (c : Config). c.short_lifetimes) same_bool_equiv)
-    (on_equiv (λ (c : Config). c.waits) same_waits_equiv))))))))
+    (and_equiv (on_equiv (λ (c : Config). c.options) options_laws.laws-law)
+    (and_equiv (on_equiv (λ (c : Config). c.pace) nat_eq_equiv)
+    (on_equiv (λ (c : Config). c.waits) same_waits_equiv))))))))))

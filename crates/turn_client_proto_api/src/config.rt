@@ -1,6 +1,6 @@
 //! The settings of a TURN client.
 
-ghost use Rattle.std.specs.Prelude.{◌≡◌, ◌≢◌, [], ◌∷◌, Some, None, IfOk, nat_eq};
+ghost use Rattle.std.specs.Prelude.{◌≡◌, ◌≢◌, [], ◌∷◌, Some, None, IfOk, OnErr, OnOk, nat_eq};
 ghost use Rattle.std.specs.FinMap as finite;
 ghost use Rattle.std.specs.Duration.{as_nanos};
 ghost use Rattle.std.specs.List.{IsDistinct};
@@ -10,7 +10,9 @@ ghost use Rattle.turn_client_proto_api.specs.Config.{default_config};
 ghost use Rattle.turn_client_proto_api.specs.Families.{is_same_family, with_family};
 ghost use Rattle.turn_client_proto_api.specs.SameConfigs.{same_account};
 
+use crate::error::ZeroLifetime;
 use crate::families::RequestedFamilies;
+use crate::options::{AllocateOptions, RelayedPort};
 use crate::waits::{SetWaits, is_same};
 use std::alloc::Global;
 use std::marker::Model;
@@ -33,7 +35,7 @@ use turn_types_attributes::credentials::TurnCredentials;
 /// - what it supports and requests when it signs (RFC 8489, section 9.2);
 /// - against which messages it is hardened, and how many connections of peers may wait;
 /// - whether a REFRESH may shorten an allocation (RFC 8656, section 8);
-/// - how long it waits for responses.
+/// - how long it waits for responses, and between two messages that it sends.
 ///
 /// The lists of families and of algorithms are never empty and have no duplicates. In contracts it
 /// is the record `Config` of `specs/Config.antt`.
@@ -47,10 +49,16 @@ pub struct TurnConfig {
     hardened: bool,
     max_connection_attempts: Option<usize>,
     short_lifetimes: bool,
+    options: AllocateOptions,
+    pace: Duration,
     waits: Option<SetWaits>,
 }
 
+/// The least time between two sent messages, in milliseconds, unless it is set otherwise.
+const PACE: u64 = 50;
+
 impl Model for TurnConfig {
+    ghost use Rattle.std.specs.Duration.{as_nanos};
     ghost use Rattle.turn_client_proto_api.specs.Config.{Config};
     ghost use Rattle.turn_client_proto_api.specs.SetWaitsView.{waits_of};
 
@@ -65,6 +73,8 @@ impl Model for TurnConfig {
       hardened = c.hardened;
       max_connection_attempts = c.max_connection_attempts;
       short_lifetimes = c.short_lifetimes;
+      options = c.options;
+      pace = as_nanos c.pace;
       waits = waits_of c.waits;
     } };
 }
@@ -73,7 +83,8 @@ impl TurnConfig {
     /// Creates the settings of a client with these credentials, which it takes. They request an
     /// allocation over UDP of one IPv4 address, with `Sha1` as the only algorithm. The name is
     /// hidden if the server supports it. The client is not hardened, any number of connections that
-    /// peers open may wait, and no REFRESH shortens an allocation. The waits are those of a new
+    /// peers open may wait, and no REFRESH shortens an allocation. It asks for a lifetime of half an
+    /// hour and for any port, and leaves 50 ms between two messages. The waits are those of a new
     /// agent.
     pub fn new(credentials: TurnCredentials) -> TurnConfig
         ensures { result ≡ default_config credentials }
@@ -87,6 +98,8 @@ impl TurnConfig {
             hardened: false,
             max_connection_attempts: None,
             short_lifetimes: false,
+            options: AllocateOptions::new(),
+            pace: Duration::from_millis(PACE),
             waits: None,
         }
     }
@@ -110,6 +123,8 @@ impl TurnConfig {
             hardened: self.hardened,
             max_connection_attempts: self.max_connection_attempts,
             short_lifetimes: self.short_lifetimes,
+            options: self.options,
+            pace: self.pace,
             waits: self.waits,
         })
     }
@@ -295,6 +310,61 @@ impl TurnConfig {
         self.short_lifetimes = is_believed;
     }
 
+    /// Returns what an ALLOCATE asks for besides transport and families.
+    pub fn allocate_options(&self) -> AllocateOptions
+        ensures { result ≡ self.now.options }
+    {
+        self.options
+    }
+
+    /// Sets the lifetime, in seconds, that each ALLOCATE and each REFRESH that renews an allocation
+    /// requests (RFC 8656, sections 7.1, 8.1 and 18.2): 1800 in new settings. The server decides: it
+    /// may grant more or less. When an allocation is renewed follows from what was granted.
+    ///
+    /// # Errors
+    ///
+    /// - `ZeroLifetime`: `seconds` is 0. Nothing changes.
+    pub fn set_requested_lifetime(&mut self, seconds: u32) -> Result<(), ZeroLifetime>
+        ensures set { OnOk result ((seconds ≢ 0) × (self.new ≡ record self.old {
+          options = record self.old.options { lifetime = seconds };
+        })) }
+        ensures refused { OnErr result ((seconds ≡ 0) × (self.new ≡ self.old)) }
+    {
+        if seconds == 0 {
+            return Err(ZeroLifetime);
+        }
+        self.options.lifetime = seconds;
+        Ok(())
+    }
+
+    /// Sets the port that is requested for the relayed address (RFC 8656, sections 7.1, 18.7 and
+    /// 18.10): any in new settings. A server that can't give it rejects the ALLOCATE with 508, one
+    /// that doesn't know the attribute with 420.
+    pub fn set_relayed_port(&mut self, port: RelayedPort)
+        ensures { self.new ≡ record self.old {
+          options = record self.old.options { port = port };
+        } }
+    {
+        self.options.port = port;
+    }
+
+    /// Returns the least time between two messages that the client sends (`set_pace`).
+    pub fn pace(&self) -> Duration
+        ensures { as_nanos result ≡ self.now.pace }
+    {
+        self.pace
+    }
+
+    /// Sets the least time between two messages that the client sends: 50 ms in new settings. 0 lets
+    /// it send at once whatever is to be sent. Retransmissions and replies to the server don't wait
+    /// for it. An ICE agent that paces all its checks (RFC 8445, section 14.2) sets 0 and draws a
+    /// message when it is its turn.
+    pub fn set_pace(&mut self, pace: Duration)
+        ensures { self.new ≡ record self.old { pace = as_nanos pace } }
+    {
+        self.pace = pace;
+    }
+
     /// Sets how long each request waits for its response (RFC 8489, section 6.2.1).
     ///
     /// - `initial`: the wait after the first transmission. Each further wait is twice as long.
@@ -394,6 +464,8 @@ impl PartialEq for TurnConfig {
             && self.hardened == other.hardened
             && is_same_limit(self.max_connection_attempts, other.max_connection_attempts)
             && self.short_lifetimes == other.short_lifetimes
+            && self.options == other.options
+            && self.pace.as_nanos() == other.pace.as_nanos()
             && is_same(self.waits, other.waits)
     }
 }

@@ -4,6 +4,12 @@ use stun_types_base::instant::Instant;
 use stun_types_base::memory::NoMemory;
 use thiserror::Error;
 
+/// A lifetime of 0 can't be requested: a REFRESH with it deletes the allocation (RFC 8656, section
+/// 8.1).
+#[derive(Clone, Copy, Debug, PartialEq, Eq, Error)]
+#[error("a lifetime of 0 deletes the allocation")]
+pub struct ZeroLifetime;
+
 /// Why no channel is requested (RFC 8656, section 12.1).
 #[derive(Clone, Copy, Debug, PartialEq, Eq, Error)]
 #[non_exhaustive]

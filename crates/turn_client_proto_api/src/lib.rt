@@ -10,6 +10,7 @@ pub mod data;
 pub mod error;
 pub mod event;
 pub mod families;
+pub mod options;
 pub mod queue;
 pub mod send;
 pub(crate) mod waits;

@@ -16,6 +16,7 @@ use Rattle.stun_types_wire.specs.Types.{class_of}
 use Rattle.stun_types_base.specs.declared.family.AddressFamily.{AddressFamily}
 use Rattle.stun_types_base.specs.declared.family.AddressFamily.TheVariants.{IPV4, IPV6}
 use Rattle.turn_client_proto_api.specs.declared.event.TurnEvent.TheVariants.{AllocationCreateFailed}
+use Rattle.turn_client_proto_messages.specs.ReportedRequests.{IsLawfulAllocate}
 use Rattle.turn_client_proto_messages.specs.declared.request.TurnRequest.TheVariants.{Allocate}
 use Rattle.turn_client_proto_messages.specs.Reported.{first_code, is_code}
 use Rattle.turn_client_proto_core.specs.Allocating.{IsAllocated}
@@ -39,7 +40,7 @@ numbers_sent _ = []
 -- The client after it queued another signed ALLOCATE, with `transaction_id`.
 unfoldable pub allocates_again : ℕ → ℕ → Protocol → Protocol
 allocates_again transaction_id now p =
-    let asking = requested (after_number p) (Allocate p.allocates p.families) transaction_id now in
+    let asking = requested (after_number p) (Allocate p.allocates p.families p.options) transaction_id now in
     record asking { phase = Authenticating (numbers_sent p.phase ++ transaction_id ∷ []) }
 
 -- ---- a challenge
@@ -50,6 +51,7 @@ pub record IsAllocatingAgain (p : Protocol) (bytes : List ℕ) (now : ℕ) (hand
     : Type 0 where
   pub number : ℕ
   pub is_next : IsNextNumber p number
+  pub lawful : IsLawfulAllocate p.families p.options
   pub outcome : IsHandled (challenged bytes (allocates_again number now p)) handled new
 
 abbrev pub IsChallenged : Protocol → List ℕ → ℕ → Bool → Protocol → Type 0
@@ -109,12 +111,13 @@ allocates_other family transaction_id now p =
       families = family ∷ [];
       events = p.events ++ AllocationCreateFailed IPV4 ∷ [];
     } in
-    record (requested narrowed (Allocate p.allocates (family ∷ [])) transaction_id now) { phase = Authenticating (transaction_id ∷ []) }
+    record (requested narrowed (Allocate p.allocates (family ∷ []) p.options) transaction_id now) { phase = Authenticating (transaction_id ∷ []) }
 
 pub record IsAskingForOther (p : Protocol) (family : AddressFamily) (now : ℕ) (handled : Bool) (new : Protocol)
     : Type 0 where
   pub number : ℕ
   pub is_next : IsNextNumber p number
+  pub lawful : IsLawfulAllocate (family ∷ []) p.options
   pub outcome : IsHandled (allocates_other family number now p) handled new
 
 abbrev pub IsErrorAnswered : Option AddressFamily → Protocol → ℕ → Bool → Protocol → Type 0

@@ -1,5 +1,6 @@
 -- A new client.
 use Rattle.std.specs.Prelude.{◌≡◌, ℕ, List, [], Some, None}
+use Rattle.std.specs.Duration.{as_nanos}
 use Rattle.std.specs.FinMap as map
 use Rattle.std.specs.declared.net.socket_addr.SocketAddr.{SocketAddr}
 use Rattle.rand_chacha.specs.ChaCha.{of_seed}
@@ -32,5 +33,7 @@ pub record IsNew (transport : TransportType) (here server : SocketAddr) (config 
   pub closing : p.closing ≡ []
   pub max_connection_attempts : p.max_connection_attempts ≡ config.max_connection_attempts
   pub short_lifetimes : p.short_lifetimes ≡ config.short_lifetimes
+  pub options : p.options ≡ config.options
+  pub pace : as_nanos p.pace ≡ config.pace
   pub resends : p.resends ≡ 0
   pub rng : p.rng ≡ of_seed seed

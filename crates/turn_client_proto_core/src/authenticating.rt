@@ -6,6 +6,7 @@ ghost use Rattle.stun_proto_auth.specs.Claims.{code_visible};
 ghost use Rattle.stun_types_wire.specs.Attributes.{kind_at};
 ghost use Rattle.stun_types_wire.specs.Grammar.{number_at};
 ghost use Rattle.stun_types_wire.specs.Types.{class_of};
+ghost use Rattle.turn_client_proto_messages.specs.ReportedRequests.{IsLawfulAllocate};
 ghost use Rattle.turn_client_proto_messages.specs.declared.request.TurnRequest.TheVariants.{Allocate};
 ghost use Rattle.turn_client_proto_core.specs.Asking.{requested};
 ghost use Rattle.turn_client_proto_core.specs.Authenticating.{IsAccepted, IsAllocateAnswered, IsChallenged, IsErrorAnswered, IsFirstJudged, IsSignedJudged, IsUnauthenticated, allocates_again, allocates_other, ends_unsigned, family_left, is_final_error, numbers_sent, other_family};
@@ -32,6 +33,7 @@ use stun_types_wire::transaction::TransactionId;
 use turn_client_proto_api::event::TurnEvent;
 use turn_client_proto_api::families::RequestedFamilies;
 use turn_client_proto_messages::reported::first_code;
+use turn_client_proto_messages::laws::proof_requests_are_lawful;
 use turn_client_proto_messages::request::TurnRequest;
 
 /// Returns IPv6 if both families were requested: the family to try after the server had no IPv4
@@ -77,10 +79,12 @@ impl Protocol {
     fn allocate_again(&mut self, now: Instant) -> Result<(), NoMemory>
         ensures ok { OnOk result ((number : ℕ) × IsNextNumber self.old number
             × (self.new ≡ allocates_again number now self.old)) }
+        ensures lawful { OnOk result (IsLawfulAllocate self.old.families self.old.options) }
         ensures err { OnErr result (IsUnderWay self.old self.new) }
     {
         let number = self.generate_id()?;
-        let request = TurnRequest::Allocate(self.allocates, self.families);
+        let request = TurnRequest::Allocate(self.allocates, self.families, self.options);
+        proof_requests_are_lawful(&request);
         self.ask(number, request, now)?;
         let phase = mem::replace(&mut self.phase, Phase::Ended);
         let mut numbers = numbers_sent(self.alloc, phase);
@@ -240,13 +244,15 @@ impl Protocol {
     fn allocate_other(&mut self, family: AddressFamily, now: Instant) -> Result<(), NoMemory>
         ensures ok { OnOk result ((number : ℕ) × IsNextNumber self.old number
             × (self.new ≡ allocates_other family number now self.old)) }
+        ensures lawful { OnOk result (IsLawfulAllocate (family ∷ []) self.old.options) }
         ensures err { OnErr result (IsUnderWay self.old self.new) }
     {
         let number = self.generate_id()?;
         self.families = RequestedFamilies::only(family);
         let failure = TurnEvent::AllocationCreateFailed(AddressFamily::IPV4);
         self.events.push_back(failure)?;
-        let request = TurnRequest::Allocate(self.allocates, self.families);
+        let request = TurnRequest::Allocate(self.allocates, self.families, self.options);
+        proof_requests_are_lawful(&request);
         self.ask(number, request, now)?;
         let mut numbers = ListOf::new(self.alloc);
         numbers.push(number)?;

@@ -38,6 +38,8 @@ impl Protocol {
         let families = config.requested_families();
         let max_connection_attempts = config.max_connection_attempts();
         let short_lifetimes = config.short_lifetimes();
+        let options = config.allocate_options();
+        let pace = config.pace();
         Protocol {
             alloc,
             server: remote,
@@ -53,6 +55,8 @@ impl Protocol {
             closing: QueueOf::new(alloc),
             max_connection_attempts,
             short_lifetimes,
+            options,
+            pace,
             resends: 0,
             rng: ChaCha20Rng::from_seed(seed),
         }

@@ -7,6 +7,7 @@ ghost use Rattle.turn_client_proto_core.specs.Numbering.{awaits};
 use rand_chacha::ChaCha20Rng;
 use std::alloc::Global;
 use std::net::SocketAddr;
+use std::time::Duration;
 use stun_proto_agent::agent::StunAgent;
 use stun_types_base::instant::Instant;
 use stun_types_base::list::ListOf;
@@ -16,6 +17,7 @@ use turn_client_proto_allocation::listed::Allocations;
 use turn_client_proto_allocation::numbers::has_number;
 use turn_client_proto_api::event::TurnEvent;
 use turn_client_proto_api::families::RequestedFamilies;
+use turn_client_proto_api::options::AllocateOptions;
 use turn_client_proto_api::queue::QueueOf;
 use turn_client_proto_messages::queued::Queued;
 use turn_client_proto_messages::signer::Signer;
@@ -83,6 +85,10 @@ pub struct Protocol {
     pub max_connection_attempts: Option<usize>,
     /// Whether a REFRESH may shorten an allocation (`TurnConfig::set_short_lifetimes`).
     pub short_lifetimes: bool,
+    /// What an ALLOCATE asks for besides transport and families.
+    pub options: AllocateOptions,
+    /// The least time between two messages that the client sends (`TurnConfig::set_pace`).
+    pub pace: Duration,
     /// The count of challenges answered since a response was last accepted.
     pub resends: u32,
     /// The generator of the transaction IDs.

@@ -14,7 +14,9 @@ use Rattle.stun_proto_auth.specs.declared.feature.Feature.{Feature}
 use Rattle.stun_proto_auth.specs.Addition.{Addition, attrs}
 use Rattle.stun_proto_client.specs.Client.{Client, Standing, standing_of}
 use Rattle.stun_proto_client.specs.ClientSigning.{addition_by, addition_for, choice_parts, hides_name, name_part, request_parts}
-use Rattle.turn_client_proto_messages.specs.Requests.{additional_family, described, families_attributes}
+use Rattle.turn_client_proto_api.specs.declared.options.RelayedPort.{RelayedPort}
+use Rattle.turn_client_proto_api.specs.declared.options.RelayedPort.TheVariants.{Any, Even, EvenAndNextReserved, Reserved}
+use Rattle.turn_client_proto_messages.specs.Requests.{additional_family, described, families_attributes, families_beside, port_attributes}
 
 abbrev pub is_of : ℕ → Attr → Bool
 is_of kind a = eqb a.kind kind
@@ -78,11 +80,17 @@ additional_other (IPV4 ∷ families) = additional_other families
 additional_other (IPV6 ∷ families) =
     (record { transport = refl; relayed = refl; lifetime = refl; peer = refl; channel = refl; connection = refl }, additional_other families)
 
-pub families_other : (families : List AddressFamily) → AreOther (families_attributes families)
+families_other : (families : List AddressFamily) → AreOther (families_attributes families)
 families_other [] = tt
 families_other (IPV4 ∷ []) = tt
 families_other (IPV6 ∷ []) = (record { transport = refl; relayed = refl; lifetime = refl; peer = refl; channel = refl; connection = refl }, tt)
 families_other (a ∷ b ∷ rest) = additional_other (a ∷ b ∷ rest)
+
+pub relayed_other : (families : List AddressFamily) (port : RelayedPort) → AreOther (port_attributes port ++ families_beside port families)
+relayed_other families Any = families_other families
+relayed_other families Even = (record { transport = refl; relayed = refl; lifetime = refl; peer = refl; channel = refl; connection = refl }, families_other families)
+relayed_other families EvenAndNextReserved = (record { transport = refl; relayed = refl; lifetime = refl; peer = refl; channel = refl; connection = refl }, families_other families)
+relayed_other families (Reserved token) = (record { transport = refl; relayed = refl; lifetime = refl; peer = refl; channel = refl; connection = refl }, tt)
 
 -- ---- what a client adds
 

@@ -33,9 +33,11 @@ use Rattle.stun_proto_auth.specs.Claims.{Claimed, algorithm_decoded, algorithms_
 use Rattle.stun_proto_client.specs.Client.{Challenge, Client, Standing, standing_by, standing_key, standing_of}
 use Rattle.stun_proto_client.specs.ClientSigning.{choice_parts, hides_name, name_part, request_parts}
 use Rattle.stun_proto_auth.specs.SupportedAlgorithms.{number_by}
+use Rattle.turn_client_proto_api.specs.declared.options.RelayedPort.{RelayedPort}
+use Rattle.turn_client_proto_api.specs.declared.options.RelayedPort.TheVariants.{Any, Even, EvenAndNextReserved, Reserved}
 use Rattle.turn_client_proto_messages.specs.OwnClaims.{own_claim, returned_list}
 use Rattle.turn_client_proto_messages.specs.ReadTexts.{HasKnownList, HasReadTexts, IsReadChallenge}
-use Rattle.turn_client_proto_messages.specs.Requests.{additional_family, allocation_lifetime, channel_attribute, connection_attribute, described, dont_fragment_attribute, families_attributes, fingerprint_calls, is_signed, lifetime_attribute, peer_attribute, peer_of, request_attributes, request_calls, request_text, request_type, software_parts, transport_attribute}
+use Rattle.turn_client_proto_messages.specs.Requests.{additional_family, channel_attribute, connection_attribute, described, dont_fragment_attribute, even_port_attribute, families_attributes, families_beside, fingerprint_calls, is_signed, lifetime_attribute, peer_attribute, peer_of, port_attributes, relayed_attributes, request_attributes, request_calls, request_text, request_type, reservation_attribute, software_parts, transport_attribute}
 use Rattle.turn_client_proto_messages.specs.ShortTexts.{HasShortTexts, IsShortChallenge}
 use Rattle.turn_client_proto_messages.specs.ReportedRequests.{IsLawfulRequest}
 use Rattle.turn_client_proto_messages.specs.declared.request.TurnRequest.{TurnRequest}
@@ -56,6 +58,8 @@ record IsFree (kind : ℕ) : Type 0 where
   peer : (0x12 == kind) ≡ false
   channel : (0x0C == kind) ≡ false
   connection : (0x2A == kind) ≡ false
+  even_port : (0x18 == kind) ≡ false
+  reservation : (0x22 == kind) ≡ false
   software : (0x8022 == kind) ≡ false
   fingerprint : (0x8028 == kind) ≡ false
 
@@ -80,14 +84,20 @@ none_requested kind (IPV4 ∷ []) free = none_here kind
 none_requested kind (IPV6 ∷ []) free = none_more kind (attr_of 0x17 (family_value IPV6)) [] free.requested (none_here kind)
 none_requested kind (a ∷ b ∷ rest) free = none_in_families kind (a ∷ b ∷ rest) free
 
+none_relayed : (kind : ℕ) (families : List AddressFamily) (port : RelayedPort) → IsFree kind → last_of_kind kind (port_attributes port ++ families_beside port families) ≡ None
+none_relayed kind families Any free = none_requested kind families free
+none_relayed kind families Even free = none_more kind (even_port_attribute false) (families_attributes families) free.even_port (none_requested kind families free)
+none_relayed kind families EvenAndNextReserved free = none_more kind (even_port_attribute true) (families_attributes families) free.even_port (none_requested kind families free)
+none_relayed kind families (Reserved token) free = none_more kind (reservation_attribute token) [] free.reservation (none_here kind)
+
 none_own : (kind : ℕ) (request : TurnRequest) (number : ℕ) → IsFree kind → last_of_kind kind (request_attributes request number) ≡ None
-none_own kind (FirstAllocate transport families) number free =
-    none_more kind (lifetime_attribute allocation_lifetime) (transport_attribute transport ∷ dont_fragment_attribute ∷ families_attributes families) free.lifetime
-    (none_more kind (transport_attribute transport) (dont_fragment_attribute ∷ families_attributes families) free.transport
-    (none_more kind dont_fragment_attribute (families_attributes families) free.fragment (none_requested kind families free)))
-none_own kind (Allocate transport families) number free =
-    none_more kind (transport_attribute transport) (lifetime_attribute allocation_lifetime ∷ families_attributes families) free.transport
-    (none_more kind (lifetime_attribute allocation_lifetime) (families_attributes families) free.lifetime (none_requested kind families free))
+none_own kind (FirstAllocate transport families options) number free =
+    none_more kind (lifetime_attribute options.lifetime) (transport_attribute transport ∷ dont_fragment_attribute ∷ relayed_attributes families options) free.lifetime
+    (none_more kind (transport_attribute transport) (dont_fragment_attribute ∷ relayed_attributes families options) free.transport
+    (none_more kind dont_fragment_attribute (relayed_attributes families options) free.fragment (none_relayed kind families options.port free)))
+none_own kind (Allocate transport families options) number free =
+    none_more kind (transport_attribute transport) (lifetime_attribute options.lifetime ∷ relayed_attributes families options) free.transport
+    (none_more kind (lifetime_attribute options.lifetime) (relayed_attributes families options) free.lifetime (none_relayed kind families options.port free))
 none_own kind (Refresh lifetime) number free = none_more kind (lifetime_attribute lifetime) [] free.lifetime (none_here kind)
 none_own kind (CreatePermission ip) number free = none_more kind (peer_attribute number (peer_of ip)) [] free.peer (none_here kind)
 none_own kind (ChannelBind channel peer) number free =
@@ -376,12 +386,12 @@ module _ (client : Client) (request : TurnRequest) (number : ℕ) (s : Standing)
       let ends = tail_is hides name hash s.challenge.realm s.challenge.nonce s.challenge.offered s.challenge.choice (standing_key s).bytes (message_text kind number signed_attributes) in
       same_claim _ _ _ _ _ _ _ _ _ _ _ _ _ _
       (seal_is ends.seal)
-      (ap (text_decoded username_kind longest_username) (last_is username_kind _ (record { transport = refl; lifetime = refl; requested = refl; additional = refl; fragment = refl; peer = refl; channel = refl; connection = refl; software = refl; fingerprint = refl }) ends.username) ∙ name_read hides)
-      (ap hash_decoded (last_is userhash_kind _ (record { transport = refl; lifetime = refl; requested = refl; additional = refl; fragment = refl; peer = refl; channel = refl; connection = refl; software = refl; fingerprint = refl }) ends.user_hash) ∙ hash_read hides)
-      (ap (text_decoded realm_kind longest_text) (last_is realm_kind _ (record { transport = refl; lifetime = refl; requested = refl; additional = refl; fragment = refl; peer = refl; channel = refl; connection = refl; software = refl; fingerprint = refl }) ends.reported_realm) ∙ ap (λ (o : Option StunParseError). unless_refused o s.challenge.realm) can.realm)
-      (ap (text_decoded nonce_kind longest_text) (last_is nonce_kind _ (record { transport = refl; lifetime = refl; requested = refl; additional = refl; fragment = refl; peer = refl; channel = refl; connection = refl; software = refl; fingerprint = refl }) ends.reported_nonce) ∙ ap (λ (o : Option StunParseError). unless_refused o s.challenge.nonce) can.nonce)
-      (last_is password_algorithms_kind _ (record { transport = refl; lifetime = refl; requested = refl; additional = refl; fragment = refl; peer = refl; channel = refl; connection = refl; software = refl; fingerprint = refl }) ends.reported_list)
-      (ap algorithm_decoded (last_is password_algorithm_kind _ (record { transport = refl; lifetime = refl; requested = refl; additional = refl; fragment = refl; peer = refl; channel = refl; connection = refl; software = refl; fingerprint = refl }) ends.reported_choice) ∙ choice_read s.challenge.offered s.challenge.choice)
+      (ap (text_decoded username_kind longest_username) (last_is username_kind _ (record { transport = refl; lifetime = refl; requested = refl; additional = refl; fragment = refl; peer = refl; channel = refl; connection = refl; even_port = refl; reservation = refl; software = refl; fingerprint = refl }) ends.username) ∙ name_read hides)
+      (ap hash_decoded (last_is userhash_kind _ (record { transport = refl; lifetime = refl; requested = refl; additional = refl; fragment = refl; peer = refl; channel = refl; connection = refl; even_port = refl; reservation = refl; software = refl; fingerprint = refl }) ends.user_hash) ∙ hash_read hides)
+      (ap (text_decoded realm_kind longest_text) (last_is realm_kind _ (record { transport = refl; lifetime = refl; requested = refl; additional = refl; fragment = refl; peer = refl; channel = refl; connection = refl; even_port = refl; reservation = refl; software = refl; fingerprint = refl }) ends.reported_realm) ∙ ap (λ (o : Option StunParseError). unless_refused o s.challenge.realm) can.realm)
+      (ap (text_decoded nonce_kind longest_text) (last_is nonce_kind _ (record { transport = refl; lifetime = refl; requested = refl; additional = refl; fragment = refl; peer = refl; channel = refl; connection = refl; even_port = refl; reservation = refl; software = refl; fingerprint = refl }) ends.reported_nonce) ∙ ap (λ (o : Option StunParseError). unless_refused o s.challenge.nonce) can.nonce)
+      (last_is password_algorithms_kind _ (record { transport = refl; lifetime = refl; requested = refl; additional = refl; fragment = refl; peer = refl; channel = refl; connection = refl; even_port = refl; reservation = refl; software = refl; fingerprint = refl }) ends.reported_list)
+      (ap algorithm_decoded (last_is password_algorithm_kind _ (record { transport = refl; lifetime = refl; requested = refl; additional = refl; fragment = refl; peer = refl; channel = refl; connection = refl; even_port = refl; reservation = refl; software = refl; fingerprint = refl }) ends.reported_choice) ∙ choice_read s.challenge.offered s.challenge.choice)
     where
       name_read : (h : Bool) → text_decoded username_kind longest_username (if h then None else Some (attr_of username_kind name)) ≡ (if h then None else Some name)
       name_read true = refl

@@ -25,7 +25,9 @@ use Rattle.stun_proto_client.specs.Client.{Client}
 use Rattle.stun_proto_client.specs.ClientSigning.{addition_for}
 use Rattle.turn_runs.specs.StunWire.{decoded_by}
 use Rattle.turn_client_proto_messages.specs.Composing.{IsOpen, IsSmall}
-use Rattle.turn_client_proto_messages.specs.Requests.{additional_family, addition_of, authentication_of, families_attributes, fingerprint_calls, is_signed, request_attributes, request_calls, request_text, request_type}
+use Rattle.turn_client_proto_messages.specs.Requests.{additional_family, addition_of, authentication_of, families_attributes, families_beside, fingerprint_calls, is_signed, port_attributes, request_attributes, request_calls, request_text, request_type}
+use Rattle.turn_client_proto_api.specs.declared.options.RelayedPort.{RelayedPort}
+use Rattle.turn_client_proto_api.specs.declared.options.RelayedPort.TheVariants.{Any, Even, EvenAndNextReserved, Reserved}
 use Rattle.turn_client_proto_messages.specs.ShortTexts.{HasShortTexts}
 use Rattle.turn_client_proto_messages.specs.ReportedRequests.{CanBeRead, IsLawfulRequest, reported_request}
 use Rattle.turn_client_proto_messages.specs.declared.request.TurnRequest.{TurnRequest}
@@ -33,7 +35,7 @@ use Rattle.turn_client_proto_messages.specs.declared.request.TurnRequest.TheVari
 use Rattle.turn_client_proto_messages.proofs.Beside.{AreOther, client_other, described_other, fingerprint_other, other_both, signature_other}
 use Rattle.turn_client_proto_messages.proofs.Growing.{open_added, open_room}
 use Rattle.turn_client_proto_messages.proofs.Signing.{IsShortAddition, IsShortPart, addition_short, mark_accepted, parts_left, short_marked, signer_calls}
-use Rattle.turn_client_proto_messages.proofs.Small.{additional_small, channel_small, connection_small, dont_fragment_small, lifetime_small, peer_small, requested_small, transport_small}
+use Rattle.turn_client_proto_messages.proofs.Small.{additional_small, channel_small, connection_small, dont_fragment_small, even_port_small, lifetime_small, peer_small, requested_small, reservation_small, transport_small}
 use Rattle.turn_client_proto_messages.proofs.ReportedBytes.{request_reported, reported_listed}
 use Rattle.turn_client_proto_messages.proofs.Writing.{text_class}
 
@@ -50,9 +52,15 @@ requested_is_small (IPV4 ∷ []) = tt
 requested_is_small (IPV6 ∷ []) = (requested_small IPV6, tt)
 requested_is_small (a ∷ b ∷ rest) = families_small (a ∷ b ∷ rest)
 
+relayed_small : (families : List AddressFamily) (port : RelayedPort) → AllByRecursion IsSmall (port_attributes port ++ families_beside port families)
+relayed_small families Any = requested_is_small families
+relayed_small families Even = (even_port_small false, requested_is_small families)
+relayed_small families EvenAndNextReserved = (even_port_small true, requested_is_small families)
+relayed_small families (Reserved token) = (reservation_small token, tt)
+
 pub attributes_small : (request : TurnRequest) (number : ℕ) → AllByRecursion IsSmall (request_attributes request number)
-attributes_small (FirstAllocate transport families) number = (lifetime_small 1800, (transport_small _, (dont_fragment_small, requested_is_small families)))
-attributes_small (Allocate transport families) number = (transport_small _, (lifetime_small 1800, requested_is_small families))
+attributes_small (FirstAllocate transport families options) number = (lifetime_small options.lifetime, (transport_small _, (dont_fragment_small, relayed_small families options.port)))
+attributes_small (Allocate transport families options) number = (transport_small _, (lifetime_small options.lifetime, relayed_small families options.port))
 attributes_small (Refresh lifetime) number = (lifetime_small lifetime, tt)
 attributes_small (CreatePermission ip) number = (peer_small number _, tt)
 attributes_small (ChannelBind channel peer) number = (channel_small channel, (peer_small number _, tt))
@@ -70,9 +78,15 @@ requested_few (IPV4 ∷ []) = omega arith
 requested_few (IPV6 ∷ []) = omega arith
 requested_few (a ∷ b ∷ rest) = families_few (a ∷ b ∷ rest)
 
-pub attributes_few : (request : TurnRequest) (number : ℕ) → IsLawfulRequest request → length (request_attributes request number) ≤ 5
-attributes_few (FirstAllocate transport families) number lawful = let few = requested_few families in omega (arith, few, lawful)
-attributes_few (Allocate transport families) number lawful = let few = requested_few families in omega (arith, few, lawful)
+relayed_few : (families : List AddressFamily) (port : RelayedPort) → length (port_attributes port ++ families_beside port families) ≤ 1 + length families
+relayed_few families Any = let few = requested_few families in omega (arith, few)
+relayed_few families Even = let few = requested_few families in omega (arith, few)
+relayed_few families EvenAndNextReserved = let few = requested_few families in omega (arith, few)
+relayed_few families (Reserved token) = omega arith
+
+pub attributes_few : (request : TurnRequest) (number : ℕ) → IsLawfulRequest request → length (request_attributes request number) ≤ 6
+attributes_few (FirstAllocate transport families options) number lawful = let few = relayed_few families options.port in let two = lawful.families in omega (arith, few, two)
+attributes_few (Allocate transport families options) number lawful = let few = relayed_few families options.port in let two = lawful.families in omega (arith, few, two)
 attributes_few (Refresh lifetime) number lawful = omega arith
 attributes_few (CreatePermission ip) number lawful = omega arith
 attributes_few (ChannelBind channel peer) number lawful = omega arith
@@ -121,7 +135,7 @@ header_open : (kind number : ℕ) → kind < 2 ^ 14 → IsOpen (header_alone kin
 header_open kind number k = record { started = text_started kind number k; ended = refl; limit = refl }
 
 -- A message that was started and took short attributes, a short addition and maybe FINGERPRINT.
-pub all_written : (kind number : ℕ) (attributes : List Attr) (made : Addition) (marks : Bool) → kind < 2 ^ 14 → AllByRecursion IsSmall attributes → length attributes ≤ 5 → IsShortAddition made
+pub all_written : (kind number : ℕ) (attributes : List Attr) (made : Addition) (marks : Bool) → kind < 2 ^ 14 → AllByRecursion IsSmall attributes → length attributes ≤ 6 → IsShortAddition made
     → IsWritten kind number (map Ordinary attributes ++ (calls_of made ++ fingerprint_calls marks)) (after_calls (map Ordinary attributes ++ (calls_of made ++ fingerprint_calls marks)) (header_alone kind number))
 all_written kind number attributes made marks k small few short =
     let header = header_alone kind number in
@@ -226,8 +240,8 @@ addition_other client request = described_other client.style.software (authentic
     by false = tt
 
 pub type_small : (request : TurnRequest) → request_type request < 2 ^ 14
-type_small (FirstAllocate transport families) = omega arith
-type_small (Allocate transport families) = omega arith
+type_small (FirstAllocate transport families options) = omega arith
+type_small (Allocate transport families options) = omega arith
 type_small (Refresh lifetime) = omega arith
 type_small (CreatePermission ip) = omega arith
 type_small (ChannelBind channel peer) = omega arith
@@ -237,7 +251,7 @@ type_small (ConnectionBind connection) = omega arith
 -- ---- what is read
 
 -- A message of short attributes, a short addition and maybe FINGERPRINT is decoded as it was written.
-marked_read : (kind number : ℕ) (attributes : List Attr) (made : Addition) (marks : Bool) → kind < 2 ^ 14 → number < 2 ^ 96 → AllByRecursion IsSmall attributes → length attributes ≤ 5 → IsShortAddition made
+marked_read : (kind number : ℕ) (attributes : List Attr) (made : Addition) (marks : Bool) → kind < 2 ^ 14 → number < 2 ^ 96 → AllByRecursion IsSmall attributes → length attributes ≤ 6 → IsShortAddition made
     → IsReadAs kind number (attributes_of kind number (map Ordinary attributes ++ (calls_of made ++ fingerprint_calls marks)))
     (message_text kind number (attributes_of kind number (map Ordinary attributes ++ (calls_of made ++ fingerprint_calls marks))))
 marked_read kind number attributes made marks k n small few short =
@@ -249,7 +263,7 @@ marked_read kind number attributes made marks k n small few short =
     subst (λ (b : List ℕ). IsReadAs kind number (attributes_of kind number calls) b) (written_text kind number calls draft written) (calls_read kind number calls draft k n each written)
 
 -- So is one without FINGERPRINT.
-pub whole_read : (kind number : ℕ) (attributes : List Attr) (made : Addition) → kind < 2 ^ 14 → number < 2 ^ 96 → AllByRecursion IsSmall attributes → length attributes ≤ 5 → IsShortAddition made
+pub whole_read : (kind number : ℕ) (attributes : List Attr) (made : Addition) → kind < 2 ^ 14 → number < 2 ^ 96 → AllByRecursion IsSmall attributes → length attributes ≤ 6 → IsShortAddition made
     → IsReadAs kind number (attributes_of kind number (map Ordinary attributes ++ calls_of made)) (message_text kind number (attributes_of kind number (map Ordinary attributes ++ calls_of made)))
 whole_read kind number attributes made k n small few short =
     subst (λ (calls : List Add). IsReadAs kind number (attributes_of kind number (map Ordinary attributes ++ calls)) (message_text kind number (attributes_of kind number (map Ordinary attributes ++ calls))))

@@ -18,11 +18,11 @@ use Rattle.turn_types_attributes.specs.TurnRegistry.{channel_number_kind, connec
 use Rattle.turn_types_peer.specs.TurnShows.{address_in, number_in, unless_refused}
 use Rattle.turn_runs.specs.Messages.{Message}
 use Rattle.turn_runs.specs.StunWire.{protocol_transport, decoded_by}
-use Rattle.turn_client_proto_messages.specs.Requests.{channel_attribute, connection_attribute, dont_fragment_attribute, families_attributes, lifetime_attribute, peer_attribute, peer_of, request_attributes, request_type, transport_attribute}
+use Rattle.turn_client_proto_messages.specs.Requests.{channel_attribute, connection_attribute, dont_fragment_attribute, lifetime_attribute, peer_attribute, peer_of, relayed_attributes, request_attributes, request_type, transport_attribute}
 use Rattle.turn_client_proto_messages.specs.ReportedRequests.{CanBeRead, IsLawfulRequest, IsReadBack, reported_request}
 use Rattle.turn_client_proto_messages.specs.declared.request.TurnRequest.{TurnRequest}
 use Rattle.turn_client_proto_messages.specs.declared.request.TurnRequest.TheVariants.{FirstAllocate, Allocate, Refresh, CreatePermission, ChannelBind, Connect, ConnectionBind}
-use Rattle.turn_client_proto_messages.proofs.Beside.{AreOther, families_other, is_of, no_channel, no_connection, no_lifetime, no_peer, no_relayed, no_transport, other_both}
+use Rattle.turn_client_proto_messages.proofs.Beside.{AreOther, is_of, no_channel, no_connection, no_lifetime, no_peer, no_relayed, no_transport, other_both, relayed_other}
 use Rattle.turn_client_proto_messages.proofs.Peers.{ip_read}
 
 -- ---- transaction IDs
@@ -142,23 +142,23 @@ report_connection number connection rest small other = record {
   connection_is = number_again connection_id_kind connection small;
 }
 
-report_first : (number : ℕ) (transport : TransportType) (rest : List Attr) → AreOther rest
-    → Report number (lifetime_attribute 1800 ∷ transport_attribute transport ∷ dont_fragment_attribute ∷ rest) (Some transport) (Some 1800) [] None None
-report_first number transport rest other = record {
+report_first : (number lifetime : ℕ) (transport : TransportType) (rest : List Attr) → lifetime < 2 ^ 32 → AreOther rest
+    → Report number (lifetime_attribute lifetime ∷ transport_attribute transport ∷ dont_fragment_attribute ∷ rest) (Some transport) (Some lifetime) [] None None
+report_first number lifetime transport rest small other = record {
   transport_is = transport_again transport;
   relayed_is = ap (filter_map (address_in number)) (no_relayed rest other).stored;
-  lifetime_is = number_again lifetime_kind 1800 (omega arith);
+  lifetime_is = number_again lifetime_kind lifetime small;
   peers_is = ap (filter_map (address_in number)) (no_peer rest other).stored;
   channel_is = ap (number_in 2) (no_channel rest other).found;
   connection_is = ap (number_in 4) (no_connection rest other).found;
 }
 
-report_allocate : (number : ℕ) (transport : TransportType) (rest : List Attr) → AreOther rest
-    → Report number (transport_attribute transport ∷ lifetime_attribute 1800 ∷ rest) (Some transport) (Some 1800) [] None None
-report_allocate number transport rest other = record {
+report_allocate : (number lifetime : ℕ) (transport : TransportType) (rest : List Attr) → lifetime < 2 ^ 32 → AreOther rest
+    → Report number (transport_attribute transport ∷ lifetime_attribute lifetime ∷ rest) (Some transport) (Some lifetime) [] None None
+report_allocate number lifetime transport rest small other = record {
   transport_is = transport_again transport;
   relayed_is = ap (filter_map (address_in number)) (no_relayed rest other).stored;
-  lifetime_is = number_again lifetime_kind 1800 (omega arith);
+  lifetime_is = number_again lifetime_kind lifetime small;
   peers_is = ap (filter_map (address_in number)) (no_peer rest other).stored;
   channel_is = ap (number_in 2) (no_channel rest other).found;
   connection_is = ap (number_in 4) (no_connection rest other).found;
@@ -167,12 +167,12 @@ report_allocate number transport rest other = record {
 -- What a request shows.
 pub request_reported : (request : TurnRequest) (number : ℕ) (rest : List Attr) → IsLawfulRequest request → CanBeRead request number → AreOther rest
     → reported_of (request_type request) number (request_attributes request number ++ rest) ≡ reported_request request number
-request_reported (FirstAllocate transport families) number rest lawful read other =
-    reported_made (request_type (FirstAllocate transport families)) number (request_attributes (FirstAllocate transport families) number ++ rest) (Some transport) (Some 1800) [] None None
-    (report_first number transport (families_attributes families ++ rest) (other_both (families_attributes families) rest (families_other families) other))
-request_reported (Allocate transport families) number rest lawful read other =
-    reported_made (request_type (Allocate transport families)) number (request_attributes (Allocate transport families) number ++ rest) (Some transport) (Some 1800) [] None None
-    (report_allocate number transport (families_attributes families ++ rest) (other_both (families_attributes families) rest (families_other families) other))
+request_reported (FirstAllocate transport families options) number rest lawful read other =
+    reported_made (request_type (FirstAllocate transport families options)) number (request_attributes (FirstAllocate transport families options) number ++ rest) (Some transport) (Some options.lifetime) [] None None
+    (report_first number options.lifetime transport (relayed_attributes families options ++ rest) lawful.lifetime (other_both (relayed_attributes families options) rest (relayed_other families options.port) other))
+request_reported (Allocate transport families options) number rest lawful read other =
+    reported_made (request_type (Allocate transport families options)) number (request_attributes (Allocate transport families options) number ++ rest) (Some transport) (Some options.lifetime) [] None None
+    (report_allocate number options.lifetime transport (relayed_attributes families options ++ rest) lawful.lifetime (other_both (relayed_attributes families options) rest (relayed_other families options.port) other))
 request_reported (Refresh lifetime) number rest lawful read other =
     reported_made (request_type (Refresh lifetime)) number (lifetime_attribute lifetime ∷ rest) None (Some lifetime) [] None None (report_lifetime number lifetime rest lawful other)
 request_reported (CreatePermission ip) number rest lawful read other =

@@ -1,13 +1,14 @@
 -- The attributes of a request are ordinary and short.
-use Rattle.std.proofs.Common.{ℕ, ◌≤◌, List, [], ◌∷◌, length, refl, arith}
+use Rattle.std.proofs.Common.{ℕ, ◌≤◌, Bool, List, [], ◌∷◌, length, refl, arith}
 use Rattle.byteorder.specs.Endian.{big_bytes}
 use Rattle.stun_types_write.specs.Adding.{attr_of}
 use Rattle.stun_types_attributes.specs.Xor.{octets_mask, xor_bytes, xored}
 use Rattle.stun_types_base.specs.declared.family.AddressFamily.{AddressFamily}
+use Rattle.turn_types_attributes.specs.EvenPorts.{even_port_value}
 use Rattle.turn_types_attributes.specs.FamilyValues.{family_value}
 use Rattle.turn_types_attributes.specs.Transports.{transport_value}
 use Rattle.turn_types_peer.specs.PeerValues.{channel_value}
-use Rattle.turn_types_attributes.specs.TurnRegistry.{additional_address_family_kind, channel_number_kind, connection_id_kind, dont_fragment_kind, lifetime_kind, requested_address_family_kind, requested_transport_kind, xor_peer_address_kind}
+use Rattle.turn_types_attributes.specs.TurnRegistry.{additional_address_family_kind, channel_number_kind, connection_id_kind, dont_fragment_kind, even_port_kind, lifetime_kind, requested_address_family_kind, requested_transport_kind, reservation_token_kind, xor_peer_address_kind}
 use Rattle.turn_client_proto_messages.specs.Composing.{IsSmall}
 
 -- An xored value is no longer than its mask.
@@ -41,6 +42,18 @@ transport_small protocol = record {
 
 pub dont_fragment_small : IsSmall (attr_of dont_fragment_kind [])
 dont_fragment_small = record {
+  ordinary = record { fits = record { kind = omega arith; value = omega arith }; ordinary = refl };
+  short = omega arith;
+}
+
+pub even_port_small : (reserves : Bool) → IsSmall (attr_of even_port_kind (even_port_value reserves))
+even_port_small reserves = record {
+  ordinary = record { fits = record { kind = omega arith; value = omega arith }; ordinary = refl };
+  short = omega arith;
+}
+
+pub reservation_small : (token : ℕ) → IsSmall (attr_of reservation_token_kind (big_bytes 8 token))
+reservation_small token = record {
   ordinary = record { fits = record { kind = omega arith; value = omega arith }; ordinary = refl };
   short = omega arith;
 }

@@ -33,8 +33,8 @@ unsigned_open mtype number attributes draft is = record { started = is.composed.
 -- The bytes of a request have its class.
 pub text_class : (request : TurnRequest) (number : ℕ) (attributes : List Attr) → class_of (kind_at (message_text (request_type request) number attributes)) ≡ Request
 unfolding message_text header_text
-text_class (FirstAllocate transport families) number attributes = refl
-text_class (Allocate transport families) number attributes = refl
+text_class (FirstAllocate transport families options) number attributes = refl
+text_class (Allocate transport families options) number attributes = refl
 text_class (Refresh lifetime) number attributes = refl
 text_class (CreatePermission ip) number attributes = refl
 text_class (ChannelBind channel peer) number attributes = refl

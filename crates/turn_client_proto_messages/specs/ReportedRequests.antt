@@ -1,12 +1,14 @@
 -- What a receiver decodes from a request (RFC 8656, section 18; RFC 6062, section 6.2).
-use Rattle.std.specs.Prelude.{◌≡◌, ℕ, ◌<◌, ◌≤◌, ◌^◌, [], ◌∷◌, length, Some, None}
+use Rattle.std.specs.Prelude.{◌≡◌, ℕ, ◌<◌, ◌≤◌, ◌^◌, List, [], ◌∷◌, length, Some, None}
 use Rattle.std.specs.Net.Addr.{IsIpv4Addr, IsIpv6Addr, MatchIp}
 use Rattle.std.specs.declared.net.socket_addr.SocketAddr.{SocketAddr}
+use Rattle.stun_types_base.specs.declared.family.AddressFamily.{AddressFamily}
 use Rattle.stun_types_wire.specs.declared.class.MessageClass.TheVariants.{Request}
 use Rattle.turn_runs.specs.Messages as run
 use Rattle.turn_types_attributes.specs.TurnRegistry.{allocate_method, channel_bind_method, connect_method, connection_bind_method, create_permission_method, refresh_method}
 use Rattle.turn_types_peer.specs.TurnShows.{address_in}
-use Rattle.turn_client_proto_messages.specs.Requests.{allocation_lifetime, peer_attribute, peer_of}
+use Rattle.turn_client_proto_api.specs.declared.options.AllocateOptions.{AllocateOptions}
+use Rattle.turn_client_proto_messages.specs.Requests.{peer_attribute, peer_of}
 use Rattle.turn_client_proto_messages.specs.declared.request.TurnRequest.{TurnRequest}
 use Rattle.turn_client_proto_messages.specs.declared.request.TurnRequest.TheVariants.{FirstAllocate, Allocate, Refresh, CreatePermission, ChannelBind, Connect, ConnectionBind}
 
@@ -27,13 +29,13 @@ bare_request method transaction_id = record {
 -- What a receiver decodes from a request with this transaction ID about allocations, permissions, channels
 -- and connections.
 abbrev pub reported_request : TurnRequest → ℕ → run.Message
-reported_request (FirstAllocate transport families) transaction_id = record (bare_request allocate_method transaction_id) {
+reported_request (FirstAllocate transport families options) transaction_id = record (bare_request allocate_method transaction_id) {
   transport = Some transport;
-  lifetime = Some allocation_lifetime;
+  lifetime = Some options.lifetime;
 }
-reported_request (Allocate transport families) transaction_id = record (bare_request allocate_method transaction_id) {
+reported_request (Allocate transport families options) transaction_id = record (bare_request allocate_method transaction_id) {
   transport = Some transport;
-  lifetime = Some allocation_lifetime;
+  lifetime = Some options.lifetime;
 }
 reported_request (Refresh lifetime) transaction_id = record (bare_request refresh_method transaction_id) { lifetime = Some lifetime }
 reported_request (CreatePermission ip) transaction_id =
@@ -55,11 +57,16 @@ CanBeRead (ChannelBind channel peer) transaction_id = IsReadBack transaction_id 
 CanBeRead (Connect peer) transaction_id = IsReadBack transaction_id peer
 CanBeRead _ transaction_id = Unit {0}
 
+-- What the types of an ALLOCATE ensure: at most two families, and a lifetime that fits its bits.
+pub record IsLawfulAllocate (families : List AddressFamily) (options : AllocateOptions) : Type 0 where
+  pub families : length families ≤ 2
+  pub lifetime : options.lifetime < 2 ^ 32
+
 -- What the types of a request ensure: at most two families, numbers that fit their bits, and octets or
 -- segments that fit theirs.
 abbrev pub IsLawfulRequest : TurnRequest → Type 0
-IsLawfulRequest (FirstAllocate transport families) = length families ≤ 2
-IsLawfulRequest (Allocate transport families) = length families ≤ 2
+IsLawfulRequest (FirstAllocate transport families options) = IsLawfulAllocate families options
+IsLawfulRequest (Allocate transport families options) = IsLawfulAllocate families options
 IsLawfulRequest (Refresh lifetime) = lifetime < 2 ^ 32
 IsLawfulRequest (CreatePermission ip) = MatchIp ip IsIpv4Addr IsIpv6Addr
 IsLawfulRequest (ChannelBind channel peer) = channel < 2 ^ 16

@@ -19,14 +19,18 @@ use Rattle.stun_types_base.specs.declared.family.AddressFamily.{AddressFamily}
 use Rattle.stun_types_base.specs.declared.family.AddressFamily.TheVariants.{IPV4, IPV6}
 use Rattle.stun_types_base.specs.declared.transport.TransportType.{TransportType}
 use Rattle.stun_types_base.specs.declared.transport.TransportType.TheVariants.{Udp, Tcp}
+use Rattle.turn_types_attributes.specs.EvenPorts.{even_port_value}
 use Rattle.turn_types_attributes.specs.FamilyValues.{family_value}
 use Rattle.turn_types_attributes.specs.Transports.{transport_value}
 use Rattle.turn_types_peer.specs.PeerValues.{channel_value}
 use Rattle.turn_types_attributes.specs.TurnRegistry.{allocate_method, channel_bind_method, connect_method, connection_bind_method, create_permission_method, refresh_method}
-use Rattle.turn_types_attributes.specs.TurnRegistry.{additional_address_family_kind, channel_number_kind, connection_id_kind, dont_fragment_kind, lifetime_kind, requested_address_family_kind, requested_transport_kind, xor_peer_address_kind}
+use Rattle.turn_types_attributes.specs.TurnRegistry.{additional_address_family_kind, channel_number_kind, connection_id_kind, dont_fragment_kind, even_port_kind, lifetime_kind, requested_address_family_kind, requested_transport_kind, reservation_token_kind, xor_peer_address_kind}
 use Rattle.turn_types_attributes.specs.TurnRegistry.{tcp_protocol, udp_protocol}
 use Rattle.stun_proto_auth.specs.Addition.{Addition, PartOf, calls_of, no_addition}
 use Rattle.stun_proto_client.specs.Client as auth
+use Rattle.turn_client_proto_api.specs.declared.options.AllocateOptions.{AllocateOptions}
+use Rattle.turn_client_proto_api.specs.declared.options.RelayedPort.{RelayedPort}
+use Rattle.turn_client_proto_api.specs.declared.options.RelayedPort.TheVariants.{Any, Even, EvenAndNextReserved, Reserved}
 use Rattle.stun_proto_client.specs.ClientSigning.{addition_for}
 use Rattle.turn_client_proto_messages.specs.declared.request.TurnRequest.{TurnRequest}
 use Rattle.turn_client_proto_messages.specs.declared.request.TurnRequest.TheVariants.{FirstAllocate, Allocate, Refresh, CreatePermission, ChannelBind, Connect, ConnectionBind}
@@ -34,8 +38,8 @@ use Rattle.turn_client_proto_messages.specs.declared.request.TurnRequest.TheVari
 -- ---- the type
 
 abbrev pub request_method : TurnRequest → ℕ
-request_method (FirstAllocate transport families) = allocate_method
-request_method (Allocate transport families) = allocate_method
+request_method (FirstAllocate transport families options) = allocate_method
+request_method (Allocate transport families options) = allocate_method
 request_method (Refresh lifetime) = refresh_method
 request_method (CreatePermission ip) = create_permission_method
 request_method (ChannelBind channel peer) = channel_bind_method
@@ -46,10 +50,6 @@ abbrev pub request_type : TurnRequest → ℕ
 request_type request = type_of Request (request_method request)
 
 -- ---- single attributes
-
--- The lifetime, in seconds, that a client requests for an allocation: half an hour.
-abbrev pub allocation_lifetime : ℕ
-allocation_lifetime = 1800
 
 -- LIFETIME.
 abbrev pub lifetime_attribute : ℕ → Attr
@@ -85,6 +85,33 @@ families_attributes [] = []
 families_attributes (family ∷ []) = requested_family family
 families_attributes (first ∷ second ∷ others) = flat_map additional_family (first ∷ second ∷ others)
 
+-- EVEN-PORT, and whether the next port is to be reserved.
+abbrev pub even_port_attribute : Bool → Attr
+even_port_attribute reserves = record { kind = even_port_kind; value = even_port_value reserves }
+
+-- RESERVATION-TOKEN.
+abbrev pub reservation_attribute : ℕ → Attr
+reservation_attribute token = record { kind = reservation_token_kind; value = big_bytes 8 token }
+
+-- The attribute for the requested port of the relayed address, if one is needed.
+abbrev pub port_attributes : RelayedPort → List Attr
+port_attributes Any = []
+port_attributes Even = even_port_attribute false ∷ []
+port_attributes EvenAndNextReserved = even_port_attribute true ∷ []
+port_attributes (Reserved token) = reservation_attribute token ∷ []
+
+-- The attributes for the requested address families beside a requested port. A reserved port has its family
+-- already, and then none may be named (RFC 8656, section 7.1).
+abbrev pub families_beside : RelayedPort → List AddressFamily → List Attr
+families_beside Any families = families_attributes families
+families_beside Even families = families_attributes families
+families_beside EvenAndNextReserved families = families_attributes families
+families_beside (Reserved token) families = []
+
+-- The attributes that say which relayed addresses are requested.
+abbrev pub relayed_attributes : List AddressFamily → AllocateOptions → List Attr
+relayed_attributes families options = port_attributes options.port ++ families_beside options.port families
+
 -- XOR-PEER-ADDRESS, in a message with this transaction ID.
 abbrev pub peer_attribute : ℕ → SocketAddr → Attr
 peer_attribute transaction_id peer = record { kind = xor_peer_address_kind; value = xored transaction_id (address_value peer) }
@@ -106,11 +133,11 @@ connection_attribute connection = record { kind = connection_id_kind; value = bi
 
 -- The attributes of a request with this transaction ID before it is signed.
 abbrev pub request_attributes : TurnRequest → ℕ → List Attr
-request_attributes (FirstAllocate transport families) transaction_id =
-    lifetime_attribute allocation_lifetime ∷ transport_attribute transport ∷ dont_fragment_attribute
-    ∷ families_attributes families
-request_attributes (Allocate transport families) transaction_id =
-    transport_attribute transport ∷ lifetime_attribute allocation_lifetime ∷ families_attributes families
+request_attributes (FirstAllocate transport families options) transaction_id =
+    lifetime_attribute options.lifetime ∷ transport_attribute transport ∷ dont_fragment_attribute
+    ∷ relayed_attributes families options
+request_attributes (Allocate transport families options) transaction_id =
+    transport_attribute transport ∷ lifetime_attribute options.lifetime ∷ relayed_attributes families options
 request_attributes (Refresh lifetime) transaction_id = lifetime_attribute lifetime ∷ []
 request_attributes (CreatePermission ip) transaction_id = peer_attribute transaction_id (peer_of ip) ∷ []
 request_attributes (ChannelBind channel peer) transaction_id = channel_attribute channel ∷ peer_attribute transaction_id peer ∷ []
@@ -119,7 +146,7 @@ request_attributes (ConnectionBind connection) transaction_id = connection_attri
 
 -- The request is signed: all but the first ALLOCATE are.
 abbrev pub is_signed : TurnRequest → Bool
-is_signed (FirstAllocate transport families) = false
+is_signed (FirstAllocate transport families options) = false
 is_signed _ = true
 
 -- What the client's authenticator adds to the request.

@@ -5,7 +5,7 @@ ghost use Rattle.stun_types_write.specs.Adding.{attr_of};
 ghost use Rattle.stun_types_write.specs.Lent.{own_draft};
 ghost use Rattle.stun_types_wire.specs.Types.{type_of};
 ghost use Rattle.turn_client_proto_messages.specs.Composing.{IsGrown, IsOpen, IsSmall, IsUnsigned, most_before, most_per_attribute};
-ghost use Rattle.turn_client_proto_messages.specs.Requests.{channel_attribute, connection_attribute, dont_fragment_attribute, families_attributes, lifetime_attribute, peer_attribute, protocol_of, transport_attribute};
+ghost use Rattle.turn_client_proto_messages.specs.Requests.{channel_attribute, connection_attribute, dont_fragment_attribute, even_port_attribute, families_attributes, families_beside, lifetime_attribute, peer_attribute, port_attributes, protocol_of, reservation_attribute, transport_attribute};
 
 use std::alloc::Global;
 use std::net::SocketAddr;
@@ -20,11 +20,14 @@ use stun_types_wire::transaction::TransactionId;
 use stun_types_write::attribute::{Attribute, AttributeWrite};
 use stun_types_write::vec::MessageWriteVec;
 use turn_client_proto_api::families::RequestedFamilies;
+use turn_client_proto_api::options::RelayedPort;
 use turn_types_attributes::additional_address_family::AdditionalAddressFamily;
 use turn_types_attributes::dont_fragment::DontFragment;
+use turn_types_attributes::even_port::EvenPort;
 use turn_types_attributes::lifetime::Lifetime;
 use turn_types_attributes::requested_address_family::RequestedAddressFamily;
 use turn_types_attributes::requested_transport::RequestedTransport;
+use turn_types_attributes::reservation_token::ReservationToken;
 use turn_types_peer::channel_number::ChannelNumber;
 use turn_types_peer::connection_id::ConnectionId;
 use turn_types_peer::xor_peer_address::XorPeerAddress;
@@ -125,7 +128,7 @@ pub(crate) fn add_dont_fragment(draft: &mut MessageWriteVec) -> Result<(), NoMem
 /// - IPv4 alone: adds nothing.
 /// - IPv6 alone: adds REQUESTED-ADDRESS-FAMILY of IPv6.
 /// - Both: adds ADDITIONAL-ADDRESS-FAMILY of IPv6.
-pub(crate) fn add_families(
+fn add_families(
     draft: &mut MessageWriteVec,
     families: RequestedFamilies,
 ) -> Result<(), NoMemory>
@@ -147,6 +150,70 @@ pub(crate) fn add_families(
         let additional = AdditionalAddressFamily::new(AddressFamily::IPV6);
         add(draft, &additional, &additional)
     }
+}
+
+/// Adds the requested address families beside a requested port: none beside a reserved one (RFC
+/// 8656, section 7.1). Fails with `NoMemory` if memory runs out.
+pub(crate) fn add_families_beside(
+    draft: &mut MessageWriteVec,
+    port: RelayedPort,
+    families: RequestedFamilies,
+) -> Result<(), NoMemory>
+    requires is_open { IsOpen (own_draft draft.old) }
+    requires room { length (own_draft draft.old).bytes ≤ most_before }
+    ensures families { OnOk result (IsGrown (families_beside port families)
+        (own_draft draft.old) (own_draft draft.new)) }
+    ensures short { OnOk result (length (own_draft draft.new).bytes
+        ≤ length (own_draft draft.old).bytes + most_per_attribute) }
+{
+    match port {
+        RelayedPort::Any | RelayedPort::Even | RelayedPort::EvenAndNextReserved => {
+            add_families(draft, families)
+        }
+        RelayedPort::Reserved(_) => Ok(()),
+    }
+}
+
+/// Adds EVEN-PORT or RESERVATION-TOKEN for a requested port, or nothing for any port (RFC 8656,
+/// sections 18.7 and 18.10). Fails with `NoMemory` if memory runs out.
+pub(crate) fn add_port(draft: &mut MessageWriteVec, port: RelayedPort) -> Result<(), NoMemory>
+    requires is_open { IsOpen (own_draft draft.old) }
+    requires room { length (own_draft draft.old).bytes ≤ most_before }
+    ensures port { OnOk result (IsGrown (port_attributes port)
+        (own_draft draft.old) (own_draft draft.new)) }
+    ensures short { OnOk result (length (own_draft draft.new).bytes
+        ≤ length (own_draft draft.old).bytes + most_per_attribute) }
+{
+    match port {
+        RelayedPort::Any => Ok(()),
+        RelayedPort::Even => add_even_port(draft, false),
+        RelayedPort::EvenAndNextReserved => add_even_port(draft, true),
+        RelayedPort::Reserved(token) => add_reservation(draft, token),
+    }
+}
+
+/// Adds EVEN-PORT, which requests also the next port if `reserves_next` (RFC 8656, section 18.7).
+/// Fails with `NoMemory` if memory runs out.
+fn add_even_port(draft: &mut MessageWriteVec, reserves_next: bool) -> Result<(), NoMemory>
+    requires is_open { IsOpen (own_draft draft.old) }
+    requires room { length (own_draft draft.old).bytes ≤ most_before }
+    ensures { OnOk result (IsGrown (even_port_attribute reserves_next ∷ [])
+        (own_draft draft.old) (own_draft draft.new)) }
+{
+    let even_port = EvenPort::new(reserves_next);
+    add(draft, &even_port, &even_port)
+}
+
+/// Adds RESERVATION-TOKEN, whose most significant byte comes first (RFC 8656, section 18.10). Fails
+/// with `NoMemory` if memory runs out.
+fn add_reservation(draft: &mut MessageWriteVec, token: u64) -> Result<(), NoMemory>
+    requires is_open { IsOpen (own_draft draft.old) }
+    requires room { length (own_draft draft.old).bytes ≤ most_before }
+    ensures { OnOk result (IsGrown (reservation_attribute token ∷ [])
+        (own_draft draft.old) (own_draft draft.new)) }
+{
+    let reservation = ReservationToken::new(token.to_be_bytes());
+    add(draft, &reservation, &reservation)
 }
 
 /// Adds XOR-PEER-ADDRESS to a message with this transaction ID (RFC 8656, section 18.3). Fails with

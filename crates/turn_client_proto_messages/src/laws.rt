@@ -36,11 +36,13 @@ pub fn proof_requests_are_lawful(request: &TurnRequest)
     ensures { IsLawfulRequest request.now }
 {
     match request {
-        TurnRequest::FirstAllocate(_, families) => {
+        TurnRequest::FirstAllocate(_, families, options) => {
             let _families = families.as_slice();
+            let _lifetime = options.lifetime;
         }
-        TurnRequest::Allocate(_, families) => {
+        TurnRequest::Allocate(_, families, options) => {
             let _families = families.as_slice();
+            let _lifetime = options.lifetime;
         }
         TurnRequest::Refresh(lifetime) => {
             let _lifetime = *lifetime;

@@ -23,19 +23,17 @@ use stun_types_wire::transaction::TransactionId;
 use stun_types_write::vec::MessageWriteVec;
 use stun_types_write::writer::MessageWrite;
 use turn_client_proto_api::families::RequestedFamilies;
-
-/// The lifetime, in seconds, that a client requests for an allocation and for its refresh (RFC
-/// 8656, section 7.1).
-pub const ALLOCATION_LIFETIME: u32 = 1800;
+use turn_client_proto_api::options::AllocateOptions;
 
 /// A request of a client.
 #[derive(Clone, Copy, Debug, PartialEq, Eq)]
 pub enum TurnRequest {
-    /// ALLOCATE with this transport and these address families, before any challenge (RFC 8656,
-    /// section 7.1). It is not signed.
-    FirstAllocate(TransportType, RequestedFamilies),
-    /// ALLOCATE with this transport and these address families, signed (RFC 8656, section 7.1).
-    Allocate(TransportType, RequestedFamilies),
+    /// ALLOCATE with this transport, these address families and options, before any challenge (RFC
+    /// 8656, section 7.1). It is not signed.
+    FirstAllocate(TransportType, RequestedFamilies, AllocateOptions),
+    /// ALLOCATE with this transport, these address families and options, signed (RFC 8656, section
+    /// 7.1).
+    Allocate(TransportType, RequestedFamilies, AllocateOptions),
     /// REFRESH with this lifetime in seconds (RFC 8656, section 8.1).
     Refresh(u32),
     /// CREATE_PERMISSION for this IP address (RFC 8656, section 10.1).
@@ -153,7 +151,7 @@ fn is_signed(request: &TurnRequest) -> bool
     ensures { result ≡ is_signed request.now }
 {
     match request {
-        TurnRequest::FirstAllocate(_, _) => false,
+        TurnRequest::FirstAllocate(_, _, _) => false,
         _ => true,
     }
 }

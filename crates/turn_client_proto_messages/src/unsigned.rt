@@ -8,10 +8,10 @@ ghost use Rattle.turn_client_proto_messages.specs.Composing.{IsRequest, IsUnsign
 ghost use Rattle.turn_client_proto_messages.specs.Requests.{peer_attribute};
 
 use crate::attributes::{
-    add_channel, add_connection, add_dont_fragment, add_families, add_lifetime, add_peer,
-    add_transport, begin,
+    add_channel, add_connection, add_dont_fragment, add_families_beside, add_lifetime, add_peer,
+    add_port, add_transport, begin,
 };
-use crate::request::{ALLOCATION_LIFETIME, TurnRequest};
+use crate::request::TurnRequest;
 use std::alloc::Global;
 use std::net::{IpAddr, SocketAddr};
 use stun_types_base::memory::NoMemory;
@@ -20,6 +20,7 @@ use stun_types_wire::class::{MessageClass, Method};
 use stun_types_wire::transaction::TransactionId;
 use stun_types_write::vec::MessageWriteVec;
 use turn_client_proto_api::families::RequestedFamilies;
+use turn_client_proto_api::options::AllocateOptions;
 use turn_types_attributes::registry::{
     ALLOCATE, CHANNEL_BIND, CONNECT, CONNECTION_BIND, CREATE_PERMISSION, REFRESH,
 };
@@ -35,11 +36,11 @@ pub(crate) fn write_unsigned(
     ensures short { IfOk result (λ draft. length (own_draft draft).bytes ≤ most_before) }
 {
     match request {
-        TurnRequest::FirstAllocate(transport, families) => {
-            write_first_allocate(alloc, transaction_id, transport, families)
+        TurnRequest::FirstAllocate(transport, families, options) => {
+            write_first_allocate(alloc, transaction_id, transport, families, options)
         }
-        TurnRequest::Allocate(transport, families) => {
-            write_allocate(alloc, transaction_id, transport, families)
+        TurnRequest::Allocate(transport, families, options) => {
+            write_allocate(alloc, transaction_id, transport, families, options)
         }
         TurnRequest::Refresh(lifetime) => write_refresh(alloc, transaction_id, lifetime),
         TurnRequest::CreatePermission(ip) => write_create_permission(alloc, transaction_id, ip),
@@ -53,42 +54,48 @@ pub(crate) fn write_unsigned(
     }
 }
 
-/// Returns the ALLOCATE before any challenge, with LIFETIME, REQUESTED-TRANSPORT, DONT-FRAGMENT and
-/// the families (RFC 8656, section 7.1). Fails with `NoMemory` if memory runs out.
+/// Returns the ALLOCATE before any challenge, with LIFETIME, REQUESTED-TRANSPORT, DONT-FRAGMENT, the
+/// port and the families (RFC 8656, section 7.1). Fails with `NoMemory` if memory runs out.
 fn write_first_allocate(
     alloc: Global,
     transaction_id: TransactionId,
     transport: TransportType,
     families: RequestedFamilies,
+    options: AllocateOptions,
 ) -> Result<MessageWriteVec, NoMemory>
-    ensures request { IfOk result (λ draft. IsRequest (TurnRequest.FirstAllocate transport families)
-        transaction_id (own_draft draft)) }
+    ensures request { IfOk result (λ draft.
+        IsRequest (TurnRequest.FirstAllocate transport families options) transaction_id
+        (own_draft draft)) }
     ensures short { IfOk result (λ draft. length (own_draft draft).bytes ≤ most_before) }
 {
     let mut first = begin(alloc, MessageClass::Request, ALLOCATE, transaction_id)?;
-    add_lifetime(&mut first, ALLOCATION_LIFETIME)?;
+    add_lifetime(&mut first, options.lifetime)?;
     add_transport(&mut first, transport)?;
     add_dont_fragment(&mut first)?;
-    add_families(&mut first, families)?;
+    add_port(&mut first, options.port)?;
+    add_families_beside(&mut first, options.port, families)?;
     Ok(first)
 }
 
-/// Returns the ALLOCATE that is to be signed, with REQUESTED-TRANSPORT, LIFETIME and the families
-/// (RFC 8656, section 7.1). Fails with `NoMemory` if memory runs out.
+/// Returns the ALLOCATE that is to be signed, with REQUESTED-TRANSPORT, LIFETIME, the port and the
+/// families (RFC 8656, section 7.1). Fails with `NoMemory` if memory runs out.
 fn write_allocate(
     alloc: Global,
     transaction_id: TransactionId,
     transport: TransportType,
     families: RequestedFamilies,
+    options: AllocateOptions,
 ) -> Result<MessageWriteVec, NoMemory>
-    ensures request { IfOk result (λ draft. IsRequest (TurnRequest.Allocate transport families)
-        transaction_id (own_draft draft)) }
+    ensures request { IfOk result (λ draft.
+        IsRequest (TurnRequest.Allocate transport families options) transaction_id
+        (own_draft draft)) }
     ensures short { IfOk result (λ draft. length (own_draft draft).bytes ≤ most_before) }
 {
     let mut draft = begin(alloc, MessageClass::Request, ALLOCATE, transaction_id)?;
     add_transport(&mut draft, transport)?;
-    add_lifetime(&mut draft, ALLOCATION_LIFETIME)?;
-    add_families(&mut draft, families)?;
+    add_lifetime(&mut draft, options.lifetime)?;
+    add_port(&mut draft, options.port)?;
+    add_families_beside(&mut draft, options.port, families)?;
     Ok(draft)
 }
 

@@ -7,7 +7,7 @@ use Rattle.stun_proto_agent.specs.State as agents
 use Rattle.turn_client_proto_api.specs.declared.answer.TurnPollRet.{TurnPollRet}
 use Rattle.turn_client_proto_api.specs.declared.answer.TurnPollRet.TheVariants as answer
 use Rattle.turn_client_proto_api.specs.declared.event.TurnEvent.{TurnEvent}
-use Rattle.turn_client_proto_timers.specs.Polling.{Answers, IsClosing, HasToReport, HasToReportIn, IsPolled, IsPolledBy, IsPolledIn, IsAgentPolled, ended_of, longest_pause, wait_of, wait_to_send}
+use Rattle.turn_client_proto_timers.specs.Polling.{Answers, IsClosing, HasToReport, HasToReportIn, IsPolled, IsPolledBy, IsPolledIn, IsAgentPolled, ended_of, longest_pause, pace_of, wait_of, wait_to_send}
 use Rattle.stun_types_base.specs.Times.{time_after}
 use Rattle.turn_client_proto_messages.specs.Waiting.{is_answer}
 use Rattle.turn_client_proto_core.specs.declared.protocol.Protocol.{Protocol}
@@ -48,7 +48,7 @@ decoded_by old now ticked agent over polled over_is decodes = record {
 pub ticked_by : (old : Protocol) (now : ℕ) (ticked : StunAgentPollRet) (agent : agents.Agent) (over : Option ℕ) (wait : ℕ) (ret : TurnPollRet) (new : Protocol)
     → agents.IsPolled old.agent now ticked agent
     → over ≡ ended_of ticked
-    → wait ≡ wait_of (wait_to_send old.last_send old.queue now (time_after now longest_pause)) ticked
+    → wait ≡ wait_of (wait_to_send (pace_of old) old.last_send old.queue now (time_after now longest_pause)) ticked
     → IsPolledIn old.phase over wait (record old { agent = agent }) now ret new → IsAgentPolled old now ret new
 ticked_by old now ticked agent over wait ret new polled over_is wait_is is =
     let by_over = subst (λ (o : Option ℕ). IsPolledIn old.phase o wait (record old { agent = agent }) now ret new) over_is is in

@@ -40,7 +40,7 @@ use Rattle.turn_client_proto_api.specs.declared.event.TurnEvent.{TurnEvent}
 use Rattle.turn_client_proto_timers.specs.Drawing.{Again, Fresh, IsAnswerSent, IsStarted, IsTransmitted, IsNextSent, IsRenewed, IsStill, is_resting}
 use Rattle.turn_client_proto_api.specs.Sent.{Sent}
 use Rattle.turn_client_proto_core.specs.Ending.{ended}
-use Rattle.turn_client_proto_timers.specs.Polling.{Answers, after_asking, after_time, answer_of, IsPolled, IsPolledBy, IsPolledIn, IsPolledSent, IsAgentPolled, AreAllocationsPolled, cadence, ended_of, left, longest_pause, ready_after, socket_for, wait_of, wait_to_send}
+use Rattle.turn_client_proto_timers.specs.Polling.{Answers, after_asking, after_time, answer_of, IsPolled, IsPolledBy, IsPolledIn, IsPolledSent, IsAgentPolled, AreAllocationsPolled, ended_of, left, longest_pause, pace_of, ready_after, socket_for, wait_of, wait_to_send}
 use Rattle.turn_client_proto_messages.specs.Waiting.{Queued, is_answer}
 use Rattle.turn_client_proto_core.specs.declared.protocol.Phase.{Phase}
 use Rattle.turn_client_proto_core.specs.declared.protocol.Phase.TheVariants.{Initial, InitialSent, Authenticating, Authenticated, Ended}
@@ -65,11 +65,11 @@ where_false A B false not_so is = is
 
 -- ---- what is sent, where nothing is due again
 
-none_queued : (last : Option ℕ) (queue : List Queued) (now until time wait : ℕ) → now ≤ time → time < until → until ≤ wait_to_send last queue now wait → is_resting last time ≡ false → queue ≡ []
-none_queued last [] now until time wait from before within free = refl
-none_queued None (q ∷ rest) now until time wait from before within free = absurd (omega (arith, from, before, within))
-none_queued (Some last) (q ∷ rest) now until time wait from before within free =
-    let ready = ltb-false time (time_after last cadence) free in
+none_queued : (pace : ℕ) (last : Option ℕ) (queue : List Queued) (now until time wait : ℕ) → now ≤ time → time < until → until ≤ wait_to_send pace last queue now wait → is_resting pace last time ≡ false → queue ≡ []
+none_queued pace last [] now until time wait from before within free = refl
+none_queued pace None (q ∷ rest) now until time wait from before within free = absurd (omega (arith, from, before, within))
+none_queued pace (Some last) (q ∷ rest) now until time wait from before within free =
+    let ready = ltb-false time (time_after last pace) free in
     absurd (omega (arith, before, within, ready))
 
 -- No reply is found in a queue without one.
@@ -82,11 +82,11 @@ none_found (q ∷ rest) none =
     ] none
 
 module _ (p after : Protocol) (time : ℕ) (sent : Option Sent) where
-  pub by_draw : list_any is_answer p.queue ≡ false → NoneDue p.agent time → (is_resting p.last_send time ≡ false → IsNextSent p.queue p time sent after → IsStill p sent after)
+  pub by_draw : list_any is_answer p.queue ≡ false → NoneDue p.agent time → (is_resting (pace_of p) p.last_send time ≡ false → IsNextSent p.queue p time sent after → IsStill p sent after)
       → IsTransmitted p time sent after → IsStill p sent after
   by_draw no_answer none follows (Again again answer is) = absurd (Prim.cc (sym (none is.number is.transaction is.least.present) ∙ is.least.passes))
   by_draw no_answer none follows (Fresh due is) =
-      by_test (is_resting p.last_send time) (subst (λ (o : Option Queued). MatchBool (is_resting p.last_send time) (IsAnswerSent o p sent after) (IsNextSent p.queue p time sent after)) (none_found p.queue no_answer) is) follows
+      by_test (is_resting (pace_of p) p.last_send time) (subst (λ (o : Option Queued). MatchBool (is_resting (pace_of p) p.last_send time) (IsAnswerSent o p sent after) (IsNextSent p.queue p time sent after)) (none_found p.queue no_answer) is) follows
 
   pub started_by : (phase : Phase) → p.phase ≡ phase → p.queue ≡ [] → IsNextSent p.queue p time sent after → IsStarted phase p time sent after
   started_by phase is empty next =
@@ -233,9 +233,9 @@ module _ (next ready now time : ℕ) (begins : ready ≤ time) (before : time < 
         ap (λ (o : Option Want). cond (is_some o) (Some (reporting.polled None now a)) (find (wants time) (map (reporting.polled None now) left))) none
         ∙ none_due rest (after_first (next_of None ready now a) (filter_map (next_of None ready now) rest) every) of_permissions.1 of_channels.1
 
-ready_by : (last : Option ℕ) (now time : ℕ) → now ≤ time → is_resting last time ≡ false → ready_after last now ≤ time
-ready_by None now time from free = from
-ready_by (Some last) now time from free = let ready = ltb-false time (time_after last cadence) free in omega (arith, from, ready)
+ready_by : (pace : ℕ) (last : Option ℕ) (now time : ℕ) → now ≤ time → is_resting pace last time ≡ false → ready_after pace last now ≤ time
+ready_by pace None now time from free = from
+ready_by pace (Some last) now time from free = let ready = ltb-false time (time_after last pace) free in omega (arith, from, ready)
 
 -- ---- the result
 
@@ -281,7 +281,7 @@ module _ (quiet : AgentsWait) (old new after : Protocol) (now until time : ℕ) 
   -- The case in which no transaction has ended and the agent waits.
   module _ (agent : agents.Agent) (wait : ℕ) (none : agents.NoneEnded old.agent now) (next : agents.IsNext old.agent now wait) (agent_is : agent ≡ old.agent) (no_answer : list_any is_answer old.queue ≡ false) where
     abbrev pause : ℕ
-    pause = wait_to_send old.last_send old.queue now (time_after now longest_pause)
+    pause = wait_to_send (pace_of old) old.last_send old.queue now (time_after now longest_pause)
 
     abbrev ticked : Protocol
     ticked = record old { agent = agent }
@@ -292,10 +292,10 @@ module _ (quiet : AgentsWait) (old new after : Protocol) (now until time : ℕ) 
         let due : NoneDue old.agent time = λ number t there. (quiet old.agent now wait time number t none next from earlier there).0 in
         subst (λ (a : agents.Agent). NoneDue a time) (sym agent_is) due
 
-    empty_queue : until ≤ min pause wait → is_resting old.last_send time ≡ false → old.queue ≡ []
+    empty_queue : until ≤ min pause wait → is_resting (pace_of old) old.last_send time ≡ false → old.queue ≡ []
     empty_queue within free =
         let short : until ≤ pause = omega (arith, within) in
-        none_queued old.last_send old.queue now until time (time_after now longest_pause) from before short free
+        none_queued (pace_of old) old.last_send old.queue now until time (time_after now longest_pause) from before short free
 
     nothing_started : (phase : Phase) → old.phase ≡ phase → (IsStarted phase ticked time sent after → IsStill ticked sent after) → until ≤ min pause wait → new ≡ ticked → IsStill new sent after
     nothing_started phase is still within same = same_client ticked same (by_draw ticked after time sent no_answer (agent_quiet within)
@@ -319,7 +319,7 @@ module _ (quiet : AgentsWait) (old new after : Protocol) (now until time : ℕ) 
         let later_channels : now < polling.earliest = omega (arith, later, most, least_of_connections) in
         let later_permissions : now < polling.sooner = omega (arith, later_channels, least_of_channels) in
         same_client p outcome.1 (by_draw p after time sent no_answer (agent_quiet within) (λ free going.
-        let none = none_due polling.next (ready_after old.last_send now) now time (ready_by old.last_send now time from free) before_next polling.sooner polling.earliest
+        let none = none_due polling.next (ready_after (pace_of old) old.last_send now) now time (ready_by (pace_of old) old.last_send now time from free) before_next polling.sooner polling.earliest
         before_permissions later_permissions before_channels later_channels all polling.least.below polling.least_of_permissions.below polling.least_of_channels.below in
         let started : IsRenewed (wanted time p.allocations) p time sent after = started_by p after time sent Authenticated is (empty_queue within free) going in
         subst (λ (o : Option Want). IsRenewed o p time sent after) (ap (option_and_then (want time)) none) started))
@@ -336,10 +336,10 @@ module _ (quiet : AgentsWait) (old new after : Protocol) (now until time : ℕ) 
     waiting Ended is polling = absurd (Prim.cc polling.0)
 
   by_agent : list_any is_answer old.queue ≡ false → (ticked : StunAgentPollRet) (agent : agents.Agent) → agents.IsPolled old.agent now ticked agent
-      → IsPolledIn old.phase (ended_of ticked) (wait_of (wait_to_send old.last_send old.queue now (time_after now longest_pause)) ticked) (record old { agent = agent }) now (answer.WaitUntil until) new
+      → IsPolledIn old.phase (ended_of ticked) (wait_of (wait_to_send (pace_of old) old.last_send old.queue now (time_after now longest_pause)) ticked) (record old { agent = agent }) now (answer.WaitUntil until) new
       → IsStill new sent after
-  by_agent no_answer (TransactionTimedOut number) agent is polling = over_now old.phase number (wait_to_send old.last_send old.queue now (time_after now longest_pause)) (record old { agent = agent }) polling
-  by_agent no_answer (TransactionCancelled number) agent is polling = over_now old.phase number (wait_to_send old.last_send old.queue now (time_after now longest_pause)) (record old { agent = agent }) polling
+  by_agent no_answer (TransactionTimedOut number) agent is polling = over_now old.phase number (wait_to_send (pace_of old) old.last_send old.queue now (time_after now longest_pause)) (record old { agent = agent }) polling
+  by_agent no_answer (TransactionCancelled number) agent is polling = over_now old.phase number (wait_to_send (pace_of old) old.last_send old.queue now (time_after now longest_pause)) (record old { agent = agent }) polling
   by_agent no_answer (WaitUntil wait) agent is polling = waiting agent wait is.0 is.1 is.2 no_answer old.phase refl polling
 
   by_events : (events : List TurnEvent) → IsPolledBy events old now (answer.WaitUntil until) new → IsStill new sent after

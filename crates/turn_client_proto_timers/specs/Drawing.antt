@@ -11,14 +11,14 @@ use Rattle.stun_proto_agent.specs.Sending.{NoneDue, is_due_of, stored_under, wit
 use Rattle.stun_proto_agent.specs.State.{is_tcp}
 use Rattle.stun_types_base.specs.declared.transport.TransportType.{TransportType}
 use Rattle.turn_client_proto_allocation.specs.declared.allocation.Allocation.{Allocation}
-use Rattle.turn_client_proto_messages.specs.Requests.{allocation_lifetime, request_text}
+use Rattle.turn_client_proto_messages.specs.Requests.{request_text}
 use Rattle.turn_client_proto_messages.specs.declared.request.TurnRequest.{TurnRequest}
 use Rattle.turn_client_proto_messages.specs.declared.request.TurnRequest.TheVariants.{ChannelBind, CreatePermission, FirstAllocate}
 use Rattle.turn_client_proto_messages.specs.declared.request.TurnRequest.TheVariants.{Refresh as RefreshRequest}
-use Rattle.turn_client_proto_messages.specs.ReportedRequests.{IsLawfulRequest}
+use Rattle.turn_client_proto_messages.specs.ReportedRequests.{IsLawfulAllocate, IsLawfulRequest}
 use Rattle.turn_client_proto_core.specs.Numbering.{IsNextNumber, after_number}
 use Rattle.turn_client_proto_timers.specs.Answering.{without_answer}
-use Rattle.turn_client_proto_timers.specs.Polling.{cadence}
+use Rattle.turn_client_proto_timers.specs.Polling.{pace_of}
 use Rattle.turn_client_proto_timers.specs.Wanting.{channel_renewal_first, refreshed_first, renewal_first, wanted}
 use Rattle.turn_client_proto_timers.specs.declared.wanting.Want.{Want}
 use Rattle.turn_client_proto_timers.specs.declared.wanting.Want.TheVariants.{Refresh, Channel, Permission}
@@ -54,9 +54,9 @@ pub record IsRepeated (old : Protocol) (now : ℕ) (sent : Sent) (new : Protocol
 -- ---- a message that waits
 
 -- The last message was sent so recently that no other one may be sent yet.
-abbrev pub is_resting : Option ℕ → ℕ → Bool
-is_resting None now = false
-is_resting (Some last) now = nat_lt now (time_after last cadence)
+abbrev pub is_resting : (pace : ℕ) → Option ℕ → ℕ → Bool
+is_resting pace None now = false
+is_resting pace (Some last) now = nat_lt now (time_after last pace)
 
 -- The first message of the queue is sent.
 pub record IsQueuedSent (old : Protocol) (now : ℕ) (q : Queued) (rest : List Queued) (sent : Sent) (new : Protocol)
@@ -92,24 +92,27 @@ pub record IsMade (old : Protocol) (request : TurnRequest) (transaction_id : ℕ
 -- The client after it sent the first ALLOCATE.
 unfoldable pub first_allocated : ℕ → ℕ → Protocol → Protocol
 first_allocated transaction_id now p =
-    record (sent_at_once (after_number p) (FirstAllocate p.allocates p.families) transaction_id now) {
+    record (sent_at_once (after_number p) (FirstAllocate p.allocates p.families p.options) transaction_id now) {
       phase = InitialSent (transaction_id ∷ []);
     }
 
 pub record IsFirstSent (old : Protocol) (now : ℕ) (sent : Sent) (new : Protocol) : Type 0 where
   pub number : ℕ
-  pub made : IsMade old (FirstAllocate old.allocates old.families) number sent
+  pub lawful : IsLawfulAllocate old.families old.options
+  pub made : IsMade old (FirstAllocate old.allocates old.families old.options) number sent
   pub after : new ≡ after_sending now (first_allocated number now old)
 
 -- The client after it sent a REFRESH for the first allocation for which something is to be sent.
 unfoldable pub first_refreshed : ℕ → ℕ → Protocol → Protocol
-first_refreshed transaction_id now p = record (sent_at_once (after_number p) (RefreshRequest allocation_lifetime) transaction_id now) {
-  allocations = refreshed_first now (record { number = transaction_id; lifetime = allocation_lifetime }) p.allocations;
-}
+first_refreshed transaction_id now p =
+    record (sent_at_once (after_number p) (RefreshRequest p.options.lifetime) transaction_id now) {
+      allocations = refreshed_first now (record { number = transaction_id; lifetime = p.options.lifetime }) p.allocations;
+    }
 
 pub record IsRefreshSent (old : Protocol) (now : ℕ) (sent : Sent) (new : Protocol) : Type 0 where
   pub number : ℕ
-  pub made : IsMade old (RefreshRequest allocation_lifetime) number sent
+  pub lawful : IsLawfulRequest (RefreshRequest old.options.lifetime)
+  pub made : IsMade old (RefreshRequest old.options.lifetime) number sent
   pub after : new ≡ after_sending now (first_refreshed number now old)
 
 -- The client after it sent a CREATE_PERMISSION for an address, which renews the first permission that is due.
@@ -166,7 +169,7 @@ IsNextSent [] old now answer new = IsStarted old.phase old now answer new
 -- What is sent if no retransmission is due. For a short time after the last message, only replies to the
 -- server are sent.
 abbrev pub IsFreshSent : Protocol → ℕ → Option Sent → Protocol → Type 0
-IsFreshSent old now answer new = MatchBool (is_resting old.last_send now)
+IsFreshSent old now answer new = MatchBool (is_resting (pace_of old) old.last_send now)
     (IsAnswerSent (find is_answer old.queue) old answer new)
     (IsNextSent old.queue old now answer new)
 
@@ -193,7 +196,7 @@ HasToBegin _ allocations now = ⊥
 -- request is to be made.
 pub record HasToMake (old : Protocol) (now : ℕ) : Type 0 where
   pub none_due : NoneDue old.agent now
-  pub free : is_resting old.last_send now ≡ false
+  pub free : is_resting (pace_of old) old.last_send now ≡ false
   pub none_waits : old.queue ≡ []
   pub begins : HasToBegin old.phase old.allocations now
 

@@ -1,6 +1,7 @@
 -- The timed work of a client (RFC 8489, section 6.2.1; RFC 8656, section 8).
 use Rattle.std.specs.Prelude.{◌≡◌, ◌≢◌, ℕ, min, max, true, false, List, [], ◌∷◌, ◌++◌, map, Option, Some, None, MatchOption}
 use Rattle.std.specs.Bool.{MatchBool}
+use Rattle.std.specs.Duration.{as_nanos}
 use Rattle.std.specs.List.{list_any}
 use Rattle.std.specs.declared.net.socket_addr.SocketAddr.{SocketAddr}
 use Rattle.stun_proto_agent.specs.declared.agent.StunAgentPollRet.{StunAgentPollRet}
@@ -26,27 +27,28 @@ use Rattle.turn_client_proto_core.specs.declared.protocol.Phase.TheVariants.{Ini
 use Rattle.turn_client_proto_core.specs.declared.protocol.Protocol.{Protocol}
 use Rattle.turn_client_proto_timers.specs.Reporting as reporting
 
--- The least time between two sent messages, in nanoseconds.
-abbrev pub cadence : ℕ
-cadence = 50_000_000
-
 -- The longest wait that a client returns, in nanoseconds.
 abbrev pub longest_pause : ℕ
 longest_pause = 9_999_000_000_000
 
 -- ---- when a message may be sent
 
--- The earliest time at which another message may be sent, by the time of the last one.
-abbrev pub ready_after : Option ℕ → ℕ → ℕ
-ready_after None now = now
-ready_after (Some last) now = max (time_after last cadence) now
+-- The least time between two sent messages, in nanoseconds.
+abbrev pub pace_of : Protocol → ℕ
+pace_of p = as_nanos p.pace
+
+-- The earliest time at which another message may be sent, by the least time between two and the time of the
+-- last one.
+abbrev pub ready_after : (pace : ℕ) → Option ℕ → ℕ → ℕ
+ready_after pace None now = now
+ready_after pace (Some last) now = max (time_after last pace) now
 
 -- The earlier of `wait` and the time at which the first message of the queue may be sent, which is `now` if
 -- none was sent before.
-abbrev pub wait_to_send : Option ℕ → List Queued → (now wait : ℕ) → ℕ
-wait_to_send last [] now wait = wait
-wait_to_send None (q ∷ rest) now wait = now
-wait_to_send (Some last) (q ∷ rest) now wait = min wait (time_after last cadence)
+abbrev pub wait_to_send : (pace : ℕ) → Option ℕ → List Queued → (now wait : ℕ) → ℕ
+wait_to_send pace last [] now wait = wait
+wait_to_send pace None (q ∷ rest) now wait = now
+wait_to_send pace (Some last) (q ∷ rest) now wait = min wait (time_after last pace)
 
 -- ---- the agent
 
@@ -119,13 +121,13 @@ IsClosing (here ∷ rest) wanted p ret new = Answers (answer.TcpClose here p.ser
 pub record AreAllocationsPolled (over : Option ℕ) (wait : ℕ) (p : Protocol) (now : ℕ) (ret : TurnPollRet) (new : Protocol)
     : Type 0 where
   pub next : ℕ
-  pub least : IsLeastOf wait (nexts over (ready_after p.last_send now) now (stored over now p.allocations)) next
+  pub least : IsLeastOf wait (nexts over (ready_after (pace_of p) p.last_send now) now (stored over now p.allocations)) next
   pub sooner : ℕ
   pub least_of_permissions : IsLeastOf next
-      (permissions.all_nexts over (ready_after p.last_send now) now (left over now p)) sooner
+      (permissions.all_nexts over (ready_after (pace_of p) p.last_send now) now (left over now p)) sooner
   pub earliest : ℕ
   pub least_of_channels : IsLeastOf sooner
-      (channels.all_nexts over (ready_after p.last_send now) now (left over now p)) earliest
+      (channels.all_nexts over (ready_after (pace_of p) p.last_send now) now (left over now p)) earliest
   pub first : ℕ
   pub least_of_connections : IsLeastOf earliest (joined.all_nexts (left over now p)) first
   pub outcome : IsClosing (p.closing ++ joined.all_gone over now (left over now p))
@@ -152,7 +154,7 @@ pub record IsAgentPolled (old : Protocol) (now : ℕ) (ret : TurnPollRet) (new :
   pub agent : agents.Agent
   pub is_ticked : agents.IsPolled old.agent now ticked agent
   pub outcome : IsPolledIn old.phase (ended_of ticked)
-      (wait_of (wait_to_send old.last_send old.queue now (time_after now longest_pause)) ticked)
+      (wait_of (wait_to_send (pace_of old) old.last_send old.queue now (time_after now longest_pause)) ticked)
       (record old { agent = agent }) now ret new
 
 -- The result, by the queued events. Queued events come first, and then queued replies to the server, which

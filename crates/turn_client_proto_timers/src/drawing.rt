@@ -12,6 +12,7 @@ ghost use Rattle.turn_client_proto_timers.specs.Drawing.{IsRenewed, IsRepeated, 
 ghost use Rattle.turn_client_proto_timers.specs.Drawing.{first_allocated, first_bound, first_permitted};
 ghost use Rattle.turn_client_proto_timers.specs.Drawing.{first_refreshed, is_resting, sent_at_once};
 ghost use Rattle.turn_client_proto_api.specs.Sent.{sent_of};
+ghost use Rattle.turn_client_proto_timers.specs.Polling.{pace_of};
 ghost use Rattle.turn_client_proto_timers.specs.Wanting.{wanted};
 ghost use Rattle.turn_client_proto_core.specs.Ending.{HasFailed, IsUnderWay};
 ghost use Rattle.turn_client_proto_core.specs.Numbering.{IsNextNumber, IsUnused};
@@ -32,13 +33,14 @@ use turn_client_proto_allocation::channel::ChannelId;
 use turn_client_proto_allocation::refresh::PendingRefresh;
 use turn_client_proto_core::protocol::{Phase, Protocol};
 use turn_client_proto_messages::laws::proof_requests_are_lawful;
-use turn_client_proto_messages::request::{ALLOCATION_LIFETIME, TurnRequest};
+use turn_client_proto_messages::request::TurnRequest;
 
 /// Returns the message to send at `now`, if there is one. Call it until it returns `None`. The
 /// order is:
 ///
 /// 1. A request whose retransmission is due.
-/// 2. Within 50 ms after the last message, only the oldest queued reply to the server.
+/// 2. Within the pace after the last message (`TurnConfig::set_pace`, 50 ms), only the oldest queued
+///    reply to the server.
 /// 3. After that, the oldest message of the queue.
 /// 4. The first ALLOCATE, or a renewal that is due, for the first allocation that has one: a
 ///    REFRESH of the allocation, then a CHANNEL_BIND for a channel, then a CREATE_PERMISSION for a
@@ -106,10 +108,10 @@ fn draw_again(
 
 /// Returns whether the last message was sent so recently that no other one may be sent yet.
 fn is_resting(protocol: &Protocol, now: Instant) -> bool
-    ensures { result ≡ is_resting protocol.now.last_send now }
+    ensures { result ≡ is_resting (pace_of protocol.now) protocol.now.last_send now }
 {
     match protocol.last_send {
-        Some(last) => now < next_send(last),
+        Some(last) => now < next_send(protocol.pace, last),
         None => false,
     }
 }
@@ -189,7 +191,9 @@ fn send_first(protocol: &mut Protocol, now: Instant) -> Result<Transmit<Data<'st
     ensures err { OnErr result (IsUnderWay protocol.old protocol.new) }
 {
     let number = protocol.generate_id()?;
-    let request = TurnRequest::FirstAllocate(protocol.allocates, protocol.families);
+    let request =
+        TurnRequest::FirstAllocate(protocol.allocates, protocol.families, protocol.options);
+    proof_requests_are_lawful(&request);
     let sent = send_at_once(protocol, number, request, now)?;
     let mut numbers = ListOf::new(protocol.alloc);
     numbers.push(number)?;
@@ -204,16 +208,11 @@ fn send_refresh(protocol: &mut Protocol, now: Instant) -> Result<Transmit<Data<'
     ensures err { OnErr result (IsUnderWay protocol.old protocol.new) }
 {
     let number = protocol.generate_id()?;
-    let sent = send_at_once(
-        protocol,
-        number,
-        TurnRequest::Refresh(ALLOCATION_LIFETIME),
-        now,
-    )?;
-    let refresh = PendingRefresh {
-        number,
-        lifetime: ALLOCATION_LIFETIME,
-    };
+    let lifetime = protocol.options.lifetime;
+    let request = TurnRequest::Refresh(lifetime);
+    proof_requests_are_lawful(&request);
+    let sent = send_at_once(protocol, number, request, now)?;
+    let refresh = PendingRefresh { number, lifetime };
     refresh_first(protocol.allocations.as_mut_slice(), now, &refresh)?;
     protocol.last_send = Some(now);
     Ok(sent)

@@ -1,6 +1,7 @@
 //! The timed work of a client.
 
 ghost use Rattle.std.specs.Prelude.{◌≡◌, ◌≢◌, [], IfNone, IfOk, IfSome, None, OnErr, max, min, option_map};
+ghost use Rattle.std.specs.Duration.{as_nanos};
 ghost use Rattle.turn_client_proto_connection.specs.Waiting.{unasked};
 ghost use Rattle.stun_types_base.specs.Times.{time_after};
 ghost use Rattle.turn_client_proto_core.specs.Ending.{IsUnderWay};
@@ -8,8 +9,8 @@ ghost use Rattle.turn_client_proto_timers.specs.Polling.{HasToReport, HasToRepor
 ghost use Rattle.turn_client_proto_timers.specs.Polling.{IsPolledBy, IsPolledIn, IsPolledSent};
 ghost use Rattle.turn_client_proto_timers.specs.Polling.{IsPolledStanding, IsAgentPolled, AreAllocationsPolled};
 ghost use Rattle.turn_client_proto_timers.specs.Polling.{after_asking, answer_of, socket_for};
-ghost use Rattle.turn_client_proto_timers.specs.Polling.{cadence, ended_of, left, longest_pause};
-ghost use Rattle.turn_client_proto_timers.specs.Polling.{ready_after, wait_of};
+ghost use Rattle.turn_client_proto_timers.specs.Polling.{ended_of, left, longest_pause};
+ghost use Rattle.turn_client_proto_timers.specs.Polling.{pace_of, ready_after, wait_of};
 ghost use Rattle.turn_client_proto_timers.specs.Polling.{wait_to_send, waits_until};
 ghost use Rattle.turn_client_proto_timers.specs.Reporting.{all_failures};
 
@@ -30,17 +31,15 @@ use turn_client_proto_core::protocol::{Phase, Protocol};
 use turn_client_proto_peers::channel::expire;
 use turn_client_proto_peers::permission::reporting as permissions;
 
-/// The least time between two sent messages, in milliseconds.
-const CADENCE: u64 = 50;
-
 /// The longest wait that a client returns, in seconds.
 const LONGEST_PAUSE: u64 = 9999;
 
-/// Returns the earliest time for the next message after one that was sent at `last`.
-pub(crate) fn next_send(last: Instant) -> Instant
-    ensures { result ≡ time_after last cadence }
+/// Returns the earliest time for the next message after one that was sent at `last`, if two are at
+/// least `pace` apart.
+pub(crate) fn next_send(pace: Duration, last: Instant) -> Instant
+    ensures { result ≡ time_after last (as_nanos pace) }
 {
-    last.saturating_add(Duration::from_millis(CADENCE))
+    last.saturating_add(pace)
 }
 
 /// Returns the end of the longest wait.
@@ -150,21 +149,22 @@ pub fn poll(protocol: &mut Protocol, now: Instant) -> TurnPollRet
 
 /// Returns the earlier of `wait` and the time at which the first message of the queue may be sent.
 fn wait_to_send(protocol: &Protocol, now: Instant, wait: Instant) -> Instant
-    ensures { result ≡ wait_to_send protocol.now.last_send protocol.now.queue now wait }
+    ensures { result
+        ≡ wait_to_send (pace_of protocol.now) protocol.now.last_send protocol.now.queue now wait }
 {
     match (protocol.queue.head(), protocol.last_send) {
         (None, _) => wait,
         (Some(_), None) => now,
-        (Some(_), Some(last)) => wait.min(next_send(last)),
+        (Some(_), Some(last)) => wait.min(next_send(protocol.pace, last)),
     }
 }
 
 /// Returns the earliest time at which another message may be sent.
 fn ready_after(protocol: &Protocol, now: Instant) -> Instant
-    ensures { result ≡ ready_after protocol.now.last_send now }
+    ensures { result ≡ ready_after (pace_of protocol.now) protocol.now.last_send now }
 {
     match protocol.last_send {
-        Some(last) => next_send(last).max(now),
+        Some(last) => next_send(protocol.pace, last).max(now),
         None => now,
     }
 }

@@ -10,4 +10,5 @@ returns-clause-request c =
     let number = c.args.transaction_id in
     let one = c.in_ok-add_transport.ensures.following kind number [] c.in_ok-draft.ensures.unsigned in
     let two = c.in_ok-add_lifetime.ensures.following kind number _ one in
-    c.in_ok-add_families.ensures.families.following kind number _ two
+    let three = c.in_ok-add_port.ensures.port.following kind number _ two in
+    c.in_ok-add_families_beside.ensures.families.following kind number _ three

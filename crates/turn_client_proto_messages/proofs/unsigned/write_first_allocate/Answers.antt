@@ -11,4 +11,5 @@ returns-clause-request c =
     let one = c.in_ok-add_lifetime.ensures.following kind number [] c.in_ok-first.ensures.unsigned in
     let two = c.in_ok-add_transport.ensures.following kind number _ one in
     let three = c.in_ok-add_dont_fragment.ensures.following kind number _ two in
-    c.in_ok-add_families.ensures.families.following kind number _ three
+    let four = c.in_ok-add_port.ensures.port.following kind number _ three in
+    c.in_ok-add_families_beside.ensures.families.following kind number _ four
