@@ -1,5 +1,7 @@
 pub mod Causes
 pub mod Config
+pub mod Expired
+pub mod ExpiredSlots
 pub mod Families
 pub mod FamilyOrders
 pub mod Options

@@ -9,6 +9,7 @@ pub mod config;
 pub mod data;
 pub mod error;
 pub mod event;
+pub mod expired;
 pub mod families;
 pub mod options;
 pub mod queue;
