@@ -13,6 +13,7 @@ use Rattle.stun_types_base.specs.declared.transport.TransportType.TheVariants.{U
 use Rattle.turn_client_proto.specs.Allocation.Refreshing.{granted}
 use Rattle.turn_client_proto.specs.Allocation.declared.allocation.Allocation.{Allocation}
 use Rattle.turn_client_proto.specs.Timers.Drawing.{IsTransmitted, is_resting}
+use Rattle.turn_client_proto.specs.Timers.Polling.{pace_of}
 use Rattle.turn_client_proto_api.specs.Sent.{Sent, sent_of}
 use Rattle.turn_client_proto.specs.TurnRuns.Members.{IsIn}
 use Rattle.turn_desk_progress_laws.specs.TurnClientProtoProgressLaws.Asking.{IsMade}
@@ -138,7 +139,7 @@ module _ (standing : Standing) (s : Setting) (address : SocketAddr) (what : Clie
 
   -- ---- it rests
 
-  free : (now : ℕ) → is_resting (Some SECOND) now ≡ false → is_resting p.last_send now ≡ false
+  free : (now : ℕ) → is_resting (Some SECOND) now ≡ false → is_resting (pace_of p) p.last_send now ≡ false
   free now is_free = ap (λ (l : Option ℕ). is_resting l now) holds.last_send ∙ is_free
 
   abbrev drawing : IsTransmittedOn control p CALLED answer.Nothing one is.resting

@@ -22,6 +22,7 @@ use Rattle.turn_client_proto.specs.Core.declared.protocol.Phase.{Phase}
 use Rattle.turn_client_proto.specs.Core.declared.protocol.Phase.TheVariants.{Authenticated}
 use Rattle.turn_client_proto.specs.Core.declared.protocol.Protocol.{Protocol}
 use Rattle.turn_client_proto.specs.Timers.Drawing.{Again, Fresh, IsStarted, IsTransmitted, IsNextSent, IsRenewed, is_resting}
+use Rattle.turn_client_proto.specs.Timers.Polling.{pace_of}
 use Rattle.turn_client_proto_api.specs.Sent.{Sent}
 use Rattle.turn_client_proto.specs.Timers.Wanting.{wanted}
 use Rattle.turn_client_proto.specs.Timers.declared.wanting.Want.{Want}
@@ -44,9 +45,9 @@ by_queue : (queue : List Queued) (p q : Protocol) (now : ℕ) → p.phase ≡ Au
 by_queue (first ∷ rest) p q now on is = absurd is
 by_queue [] p q now on is = (refl, by_phase p.phase p q now on is)
 
-pub rested : (p q : Protocol) (now : ℕ) → p.phase ≡ Authenticated → is_resting p.last_send now ≡ false → IsTransmitted p now None q → (p.queue ≡ []) × (q ≡ p)
+pub rested : (p q : Protocol) (now : ℕ) → p.phase ≡ Authenticated → is_resting (pace_of p) p.last_send now ≡ false → IsTransmitted p now None q → (p.queue ≡ []) × (q ≡ p)
 rested p q now on free (Again sent said is) = absurd (Prim.cc said)
-rested p q now on free (Fresh none is) = by_queue p.queue p q now on (where_false _ _ (is_resting p.last_send now) free is)
+rested p q now on free (Fresh none is) = by_queue p.queue p q now on (where_false _ _ (is_resting (pace_of p) p.last_send now) free is)
 
 -- ---- something was requested of it
 
@@ -109,7 +110,7 @@ module _ (p q : Protocol) (text : List ℕ) (made : ℕ) (is_made : HasMade p q 
   waits : q.queue ≡ queued_request p.agent.here text ∷ []
   waits = is_made.queue ∙ ap (λ (l : List Queued). l ++ queued_request p.agent.here text ∷ []) empty
 
-  pub transmitted : (after : Protocol) (now : ℕ) (sent : Sent) → is_resting q.last_send now ≡ false → IsTransmitted q now (Some sent) after → IsMade p q sent.bytes
+  pub transmitted : (after : Protocol) (now : ℕ) (sent : Sent) → is_resting (pace_of q) q.last_send now ≡ false → IsTransmitted q now (Some sent) after → IsMade p q sent.bytes
   transmitted after now sent free (Again other said is) = record {
     number = is.number;
     transaction = is.transaction;
@@ -118,7 +119,7 @@ module _ (p q : Protocol) (text : List ℕ) (made : ℕ) (is_made : HasMade p q 
     bytes = Prim.cc (said, is.is_sent);
   }
   transmitted after now sent free (Fresh due is) =
-      let next = where_false _ _ (is_resting q.last_send now) free is in
+      let next = where_false _ _ (is_resting (pace_of q) q.last_send now) free is in
       let first = subst (λ (l : List Queued). IsNextSent l q now (Some sent) after) waits next in
       record {
         number = number_at text;

@@ -32,8 +32,8 @@ use stun_types_wire::registry::{ADDRESS_FAMILY_NOT_SUPPORTED, BAD_REQUEST};
 use stun_types_wire::transaction::TransactionId;
 use turn_client_proto_api::event::TurnEvent;
 use turn_client_proto_api::families::RequestedFamilies;
-use turn_client_proto_messages::reported::first_code;
 use turn_client_proto_messages::laws::proof_requests_are_lawful;
+use turn_client_proto_messages::reported::first_code;
 use turn_client_proto_messages::request::TurnRequest;
 
 /// Returns IPv6 if both families were requested: the family to try after the server had no IPv4

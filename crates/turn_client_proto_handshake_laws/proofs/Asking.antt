@@ -11,7 +11,7 @@ use Rattle.turn_client_proto_api.specs.declared.answer.TurnPollRet.TheVariants a
 use Rattle.turn_client_proto_api.specs.declared.event.TurnEvent.{TurnEvent}
 use Rattle.turn_client_proto_api.specs.declared.event.TurnEvent.TheVariants.{AllocationCreateFailed}
 use Rattle.turn_client_proto_core.specs.Ending.{HasFailed, ended}
-use Rattle.turn_client_proto_timers.specs.Polling.{IsPolled}
+use Rattle.turn_client_proto_timers.specs.Polling.{IsPolled, pace_of}
 use Rattle.turn_client_proto_messages.specs.Waiting.{Queued, is_answer}
 use Rattle.turn_client_proto_core.specs.declared.protocol.Phase.{Phase}
 use Rattle.turn_client_proto_core.specs.declared.protocol.Protocol.{Protocol}
@@ -37,6 +37,9 @@ module _ (b : Beginning) (many last : ℕ) (p : Protocol) (w : IsAsking b many l
       waits = w.settings.waits;
       allocates = w.settings.allocates;
       families = w.settings.families;
+      options = w.settings.options;
+      pace = w.settings.pace;
+      usual = w.settings.usual;
     };
     requested = only;
     phase = w.phase;
@@ -58,9 +61,9 @@ module _ (b : Beginning) (many last : ℕ) (p : Protocol) (w : IsAsking b many l
   -- Otherwise it transmits nothing.
   nothing_fresh : (now : ℕ) (sent : Option Sent) (q : Protocol) → IsFreshSent p now sent q → IsStill p sent q
   nothing_fresh now sent q is =
-      either (IsStill p sent q) (is_resting p.last_send now)
-      (subst (λ (f : Phase). MatchBool (is_resting p.last_send now) (IsStill p sent q) (IsStarted f p now sent q)) w.phase
-      (subst (λ (l : List Queued). MatchBool (is_resting p.last_send now) (IsAnswerSent (find is_answer l) p sent q) (IsNextSent l p now sent q)) w.queue is))
+      either (IsStill p sent q) (is_resting (pace_of p) p.last_send now)
+      (subst (λ (f : Phase). MatchBool (is_resting (pace_of p) p.last_send now) (IsStill p sent q) (IsStarted f p now sent q)) w.phase
+      (subst (λ (l : List Queued). MatchBool (is_resting (pace_of p) p.last_send now) (IsAnswerSent (find is_answer l) p sent q) (IsNextSent l p now sent q)) w.queue is))
 
   pub asking_still : (now : ℕ) (sent : Option Sent) (q : Protocol) → IsQuiet b (first_requested b) many now → IsTransmitted p now sent q → (sent ≡ None) × (q ≡ p)
   asking_still now sent q quiet is = nothing_fresh now sent q (sent_fresh b (first_requested b) many p w.settings w.requested now sent q quiet is)
@@ -87,6 +90,9 @@ module _ (b : Beginning) (many last : ℕ) (p : Protocol) (w : IsAsking b many l
       waits = w.settings.waits;
       allocates = w.settings.allocates;
       families = w.settings.families;
+      options = w.settings.options;
+      pace = w.settings.pace;
+      usual = w.settings.usual;
     };
     none_requested = none_left b (first_requested b) many p w.settings w.requested;
     phase = refl;

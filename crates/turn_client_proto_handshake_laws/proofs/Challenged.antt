@@ -39,6 +39,7 @@ use Rattle.turn_client_proto_api.specs.declared.event.TurnEvent.TheVariants.{All
 use Rattle.turn_client_proto_messages.specs.Allocation.Listed.{is_any_awaited}
 use Rattle.turn_client_proto_core.proofs.Awaiting.{processed_awaited}
 use Rattle.turn_client_proto_core.specs.Asking.{requested, queued_request}
+use Rattle.turn_client_proto_api.specs.declared.options.AllocateOptions.{AllocateOptions}
 use Rattle.turn_client_proto_core.specs.Authenticating.{IsAllocatingAgain, IsFirstJudged, allocates_again, ends_unsigned, is_final_error, numbers_sent}
 use Rattle.turn_client_proto_core.specs.Ending.{ended}
 use Rattle.turn_client_proto_core.specs.Numbering.{IsNextNumber, awaits, is_taken}
@@ -201,6 +202,9 @@ module _ (b : Beginning) (many last : ℕ) (p : Protocol) (w : IsAsking b many l
       waits = w.settings.waits;
       allocates = w.settings.allocates;
       families = w.settings.families;
+      options = w.settings.options;
+      pace = w.settings.pace;
+      usual = w.settings.usual;
     };
     none_requested = λ number. ap (λ (n : ℕ). map.get (map.remove p.agent.outstanding n) number) is.number ∙ none_left b (first_requested b) many p w.settings w.requested number;
     phase = refl;
@@ -240,13 +244,14 @@ module _ (b : Beginning) (many last : ℕ) (p : Protocol) (w : IsAsking b many l
     client = keeping p.auth reported h.algorithm
 
     abbrev text : List ℕ
-    text = request_text client (Allocate p.allocates p.families) h.number
+    text = request_text client (Allocate p.allocates p.families p.options) h.number
 
     text_is : text ≡ signed_request b choice
     text_is =
-        ap (λ (x : auth.Client). request_text (keeping x reported h.algorithm) (Allocate p.allocates p.families) h.number) w.auth
-        ∙ (ap (λ (t : TransportType). request_text (signer_by b choice) (Allocate t p.families) h.number) w.settings.allocates
-        ∙ ap (λ (l : List AddressFamily). request_text (signer_by b choice) (Allocate b.config.transport l) h.number) w.settings.families)
+        ap (λ (x : auth.Client). request_text (keeping x reported h.algorithm) (Allocate p.allocates p.families p.options) h.number) w.auth
+        ∙ (ap (λ (t : TransportType). request_text (signer_by b choice) (Allocate t p.families p.options) h.number) w.settings.allocates
+        ∙ (ap (λ (l : List AddressFamily). request_text (signer_by b choice) (Allocate b.config.transport l p.options) h.number) w.settings.families
+        ∙ ap (λ (o : AllocateOptions). request_text (signer_by b choice) (Allocate b.config.transport b.config.families o) h.number) w.settings.options))
 
     key_is : number_at text ≡ h.number
     key_is = ap number_at text_is ∙ numbered chosen
@@ -303,6 +308,9 @@ module _ (b : Beginning) (many last : ℕ) (p : Protocol) (w : IsAsking b many l
         waits = ap (λ (y : agents.Agent). y.waits) both_after ∙ w.settings.waits;
         allocates = w.settings.allocates;
         families = w.settings.families;
+        options = w.settings.options;
+        pace = w.settings.pace;
+        usual = w.settings.usual;
       };
       choice = chosen;
       requested = subst (λ (y : agents.Agent). IsOnlyRequested b (signed_requested b choice) 1 y) (sym both_after) second_only;

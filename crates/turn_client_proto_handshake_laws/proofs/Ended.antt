@@ -14,7 +14,7 @@ use Rattle.turn_client_proto_core.specs.declared.protocol.Phase.{Phase}
 use Rattle.turn_client_proto_core.specs.declared.protocol.Protocol.{Protocol}
 use Rattle.turn_client_proto_timers.specs.Drawing.{Again, Fresh, IsAnswerSent, IsStarted, IsTransmitted, IsNextSent, IsStill, is_resting}
 use Rattle.turn_client_proto_api.specs.Sent.{Sent}
-use Rattle.turn_client_proto_timers.specs.Polling.{HasToReportIn, IsPolled, IsPolledBy, IsPolledIn, ended_of, wait_of}
+use Rattle.turn_client_proto_timers.specs.Polling.{HasToReportIn, IsPolled, IsPolledBy, IsPolledIn, ended_of, pace_of, wait_of}
 use Rattle.turn_client_proto_handshake_laws.specs.Stages.{HasEnded, answer_at_end}
 use Rattle.turn_client_proto_handshake_laws.proofs.Only.{either}
 use Rattle.turn_client_proto_handshake_laws.proofs.Polls.{idles, is_ticked, pause, refused_or}
@@ -26,9 +26,9 @@ module _ (b : Beginning) (events : List TurnEvent) (p : Protocol) (w : HasEnded 
   pub ended_still : (now : ℕ) (sent : Option Sent) (q : Protocol) → IsTransmitted p now sent q → (sent ≡ None) × (q ≡ p)
   ended_still now sent q (Again one is r) = absurd (Prim.cc (sym (w.none_requested r.number) ∙ r.least.present))
   ended_still now sent q (Fresh none is) =
-      either (IsStill p sent q) (is_resting p.last_send now)
-      (subst (λ (f : Phase). MatchBool (is_resting p.last_send now) (IsStill p sent q) (IsStarted f p now sent q)) w.phase
-      (subst (λ (l : List Queued). MatchBool (is_resting p.last_send now) (IsAnswerSent (find is_answer l) p sent q) (IsNextSent l p now sent q)) w.queue is))
+      either (IsStill p sent q) (is_resting (pace_of p) p.last_send now)
+      (subst (λ (f : Phase). MatchBool (is_resting (pace_of p) p.last_send now) (IsStill p sent q) (IsStarted f p now sent q)) w.phase
+      (subst (λ (l : List Queued). MatchBool (is_resting (pace_of p) p.last_send now) (IsAnswerSent (find is_answer l) p sent q) (IsNextSent l p now sent q)) w.queue is))
 
   -- No message is for it.
   pub ended_deaf : (bytes : List ℕ) (now : ℕ) (handled : Bool) (q : Protocol) → IsProcessed p bytes now handled q → (handled ≡ false) × (q ≡ p)
@@ -50,6 +50,9 @@ module _ (b : Beginning) (events : List TurnEvent) (p : Protocol) (w : HasEnded 
         waits = w.settings.waits;
         allocates = w.settings.allocates;
         families = w.settings.families;
+        options = w.settings.options;
+        pace = w.settings.pace;
+        usual = w.settings.usual;
       };
       none_requested = w.none_requested;
       phase = w.phase;

@@ -23,6 +23,7 @@ use Rattle.turn_client_proto_core.specs.declared.protocol.Phase.TheVariants.{Ini
 use Rattle.turn_client_proto_core.specs.declared.protocol.Protocol.{Protocol}
 use Rattle.turn_client_proto_timers.specs.Drawing.{Again, Fresh, IsAnswerSent, IsStarted, IsTransmitted, IsFirstSent, IsNextSent, Sends, after_sending, first_allocated, is_resting, sent_at_once}
 use Rattle.turn_client_proto_api.specs.Sent.{Sent}
+use Rattle.turn_client_proto_api.specs.declared.options.AllocateOptions.{AllocateOptions}
 use Rattle.turn_client_proto_messages.specs.Judging.{signer_of}
 use Rattle.turn_client_proto_messages.specs.Requests.{request_text}
 use Rattle.turn_client_proto_messages.specs.declared.request.TurnRequest.TheVariants.{FirstAllocate}
@@ -32,9 +33,9 @@ use Rattle.turn_client_proto_handshake_laws.proofs.Only.{clash, put_or, put_ther
 use Rattle.turn_client_proto_handshake_laws.proofs.Polls.{idles, is_ticked, pause, refused_or}
 use Rattle.turn_client_proto_api.specs.declared.answer.TurnPollRet.{TurnPollRet}
 use Rattle.turn_client_proto_api.specs.declared.answer.TurnPollRet.TheVariants as answer
-use Rattle.turn_client_proto_timers.specs.Polling.{HasToReportIn, IsPolled, IsPolledIn, ended_of, wait_of}
+use Rattle.turn_client_proto_timers.specs.Polling.{HasToReportIn, IsPolled, IsPolledIn, ended_of, pace_of, wait_of}
 use Rattle.std.specs.List.{list_any}
-use Rattle.turn_client_proto_handshake_laws.specs.Sent.{Beginning, Begins, first_number, first_request}
+use Rattle.turn_client_proto_handshake_laws.specs.Sent.{Beginning, Begins, IsUsual, first_number, first_request}
 
 -- What is transmitted, if something is.
 pub sends_one : (answer : Option Sent) (Is : Sent → Type 0) → Sends answer Is → (sent : Sent) × (answer ≡ Some sent) × Is sent
@@ -66,12 +67,13 @@ module _ (b : Beginning) (p : Protocol) (is : Begins b p) where
 
   -- ---- its request
 
-  text_is : (number : ℕ) → number ≡ first_number b → request_text p.auth (FirstAllocate p.allocates p.families) number ≡ first_request b
+  text_is : (number : ℕ) → number ≡ first_number b → request_text p.auth (FirstAllocate p.allocates p.families p.options) number ≡ first_request b
   text_is number same =
-      ap (λ (c : Client). request_text c (FirstAllocate p.allocates p.families) number) is.auth
-      ∙ (ap (λ (t : TransportType). request_text (signer_of b.config) (FirstAllocate t p.families) number) is.allocates
-      ∙ (ap (λ (l : List AddressFamily). request_text (signer_of b.config) (FirstAllocate b.config.transport l) number) is.families
-      ∙ ap (λ (n : ℕ). request_text (signer_of b.config) (FirstAllocate b.config.transport b.config.families) n) same))
+      ap (λ (c : Client). request_text c (FirstAllocate p.allocates p.families p.options) number) is.auth
+      ∙ (ap (λ (t : TransportType). request_text (signer_of b.config) (FirstAllocate t p.families p.options) number) is.allocates
+      ∙ (ap (λ (l : List AddressFamily). request_text (signer_of b.config) (FirstAllocate b.config.transport l p.options) number) is.families
+      ∙ (ap (λ (o : AllocateOptions). request_text (signer_of b.config) (FirstAllocate b.config.transport b.config.families o) number) is.options
+      ∙ ap (λ (n : ℕ). request_text (signer_of b.config) (FirstAllocate b.config.transport b.config.families b.config.options) n) same)))
 
   started_so : (text : List ℕ) → text ≡ first_request b → started p.agent text p.server b.made ≡ transaction_of b (first_requested b) 1
   started_so text same =
@@ -91,10 +93,10 @@ module _ (b : Beginning) (p : Protocol) (is : Begins b p) where
   }
 
   -- A client whose first request is outstanding.
-  asks : (number : ℕ) → number ≡ first_number b → number_at (first_request b) ≡ first_number b → IsAsking b 1 b.made (after_sending b.made (first_allocated number b.made p))
+  asks : IsUsual b.config → (number : ℕ) → number ≡ first_number b → number_at (first_request b) ≡ first_number b → IsAsking b 1 b.made (after_sending b.made (first_allocated number b.made p))
   unfolding first_allocated sent_at_once
-  asks number same visible =
-      let text = request_text p.auth (FirstAllocate p.allocates p.families) number in
+  asks usual number same visible =
+      let text = request_text p.auth (FirstAllocate p.allocates p.families p.options) number in
       let is_text = text_is number same in
       record {
         settings = record {
@@ -105,6 +107,9 @@ module _ (b : Beginning) (p : Protocol) (is : Begins b p) where
           waits = ap (λ (a : agents.Agent). a.waits) is.agent;
           allocates = is.allocates;
           families = is.families;
+          options = is.options;
+          pace = is.pace;
+          usual = usual;
         };
         requested = only_one text is_text (number_at text) (ap number_at is_text ∙ visible);
         phase = ap (λ (n : ℕ). InitialSent (n ∷ [])) same;
@@ -119,26 +124,26 @@ module _ (b : Beginning) (p : Protocol) (is : Begins b p) where
 
   -- ---- its first draw
 
-  pending_request : number_at (first_request b) ≡ first_number b → (sent : Option Sent) (q : Protocol) (one : Sent) → sent ≡ Some one → IsFirstSent p b.made one q
+  pending_request : IsUsual b.config → number_at (first_request b) ≡ first_number b → (sent : Option Sent) (q : Protocol) (one : Sent) → sent ≡ Some one → IsFirstSent p b.made one q
       → (sent ≡ Some (sent_of b (first_requested b))) × IsAsking b 1 b.made q
-  pending_request visible sent q one sent_is f =
+  pending_request usual visible sent q one sent_is f =
       let same = number_is f.number f.made.is_next in (
         sent_is ∙ ap Some (f.made.is_sent
             ∙ (ap (λ (l : List ℕ). record { bytes = l; transport = p.agent.transport; from = p.agent.here; to = p.server }) (text_is f.number same)
             ∙ (ap (λ (a : agents.Agent). record { bytes = first_request b; transport = a.transport; from = a.here; to = p.server }) is.agent
             ∙ ap (λ (s : SocketAddr). record { bytes = first_request b; transport = b.transport; from = b.here; to = s }) is.server_is))),
-        subst (λ (x : Protocol). IsAsking b 1 b.made x) (sym f.after) (asks f.number same visible),
+        subst (λ (x : Protocol). IsAsking b 1 b.made x) (sym f.after) (asks usual f.number same visible),
       )
 
-  pub first_transmitted : number_at (first_request b) ≡ first_number b → (sent : Option Sent) (q : Protocol) → IsTransmitted p b.made sent q
+  pub first_transmitted : IsUsual b.config → number_at (first_request b) ≡ first_number b → (sent : Option Sent) (q : Protocol) → IsTransmitted p b.made sent q
       → (sent ≡ Some (sent_of b (first_requested b))) × IsAsking b 1 b.made q
-  first_transmitted visible sent q (Again one e r) = none_there r.number r.transaction r.least.present
-  first_transmitted visible sent q (Fresh none fresh) =
-      let awake = subst (λ (l : Option ℕ). MatchBool (is_resting l b.made) (IsAnswerSent (find is_answer p.queue) p sent q) (IsNextSent p.queue p b.made sent q)) is.last_send fresh in
+  first_transmitted usual visible sent q (Again one e r) = none_there r.number r.transaction r.least.present
+  first_transmitted usual visible sent q (Fresh none fresh) =
+      let awake = subst (λ (l : Option ℕ). MatchBool (is_resting (pace_of p) l b.made) (IsAnswerSent (find is_answer p.queue) p sent q) (IsNextSent p.queue p b.made sent q)) is.last_send fresh in
       let empty = subst (λ (l : List Queued). IsNextSent l p b.made sent q) is.queue awake in
       let begins = subst (λ (f : Phase). IsStarted f p b.made sent q) is.phase empty in
       let one = sends_one sent (λ (s : Sent). IsFirstSent p b.made s q) begins in
-      pending_request visible sent q one.0 one.1 one.2
+      pending_request usual visible sent q one.0 one.1 one.2
 
   -- ---- it is polled before
 

@@ -3,6 +3,7 @@ use Rattle.std.proofs.Common.{◌≡◌, ℕ, ◌<◌, ◌≤◌, arith, true, f
 use Rattle.std.specs.Prelude.{max, min}
 use Rattle.std.specs.FinMap as map
 use Rattle.std.specs.List.{list_any}
+use Rattle.turn_client_proto_api.specs.Options.{cadence}
 use Rattle.stun_types_base.specs.Times.{time_after}
 use Rattle.turn_client_proto_api.specs.StunProtoAgent.State as agents
 use Rattle.turn_client_proto_api.specs.StunProtoAgent.declared.agent.StunAgentPollRet.{StunAgentPollRet}
@@ -16,7 +17,7 @@ use Rattle.turn_client_proto_messages.specs.Waiting.{Queued, is_answer}
 use Rattle.turn_client_proto_core.specs.declared.protocol.Phase.{Phase}
 use Rattle.turn_client_proto_core.specs.declared.protocol.Phase.TheVariants.{InitialSent, Authenticating}
 use Rattle.turn_client_proto_core.specs.declared.protocol.Protocol.{Protocol}
-use Rattle.turn_client_proto_timers.specs.Polling.{cadence, Answers, HasToReportIn, IsPolled, IsPolledBy, IsPolledIn, IsPolledSent, IsRefused, IsAgentPolled, ended_of, longest_pause, wait_of, wait_to_send, waits_until}
+use Rattle.turn_client_proto_timers.specs.Polling.{Answers, HasToReportIn, IsPolled, IsPolledBy, IsPolledIn, IsPolledSent, IsRefused, IsAgentPolled, ended_of, longest_pause, pace_of, wait_of, wait_to_send, waits_until}
 use Rattle.turn_client_proto_handshake_laws.specs.Requested.{Requested, IsOnlyRequested, IsPatient, IsQuiet, count_of, end_of, slot_of}
 use Rattle.turn_client_proto_handshake_laws.specs.Stages.{IsOf}
 use Rattle.turn_client_proto_handshake_laws.proofs.Only.{IsGivenUp, IsStillRequested, given_up, still_requested, where_false, where_true}
@@ -43,7 +44,7 @@ module _ (p : Protocol) (now : ℕ) (ret : TurnPollRet) (q : Protocol) where
       where_false (Answers (answer.WaitUntil now) p ret q) (IsAgentPolled p now ret q) (list_any is_answer p.queue) unanswered none
 
   abbrev pub pause : ℕ
-  pause = wait_to_send p.last_send p.queue now (time_after now longest_pause)
+  pause = wait_to_send (pace_of p) p.last_send p.queue now (time_after now longest_pause)
 
   in_phase : (numbers : List ℕ) → HasSent numbers p.phase → (over : Option ℕ) (wait : ℕ) (x : Protocol) → IsPolledIn p.phase over wait x now ret q → IsPolledSent numbers over wait x now ret q
   in_phase numbers (inl first) over wait x is = subst (λ (f : Phase). IsPolledIn f over wait x now ret q) first is
@@ -96,7 +97,7 @@ module _ (p : Protocol) (now : ℕ) (ret : TurnPollRet) (q : Protocol) where
     -- If no message is queued, it waits as `IsPatient` says.
     pub patient : p.queue ≡ [] → IsAwaiting → IsPatient b a many None now p ret q
     patient empty w =
-        let pause_is : pause ≡ time_after now longest_pause = ap (λ (l : List Queued). wait_to_send p.last_send l now (time_after now longest_pause)) empty in
+        let pause_is : pause ≡ time_after now longest_pause = ap (λ (l : List Queued). wait_to_send (pace_of p) p.last_send l now (time_after now longest_pause)) empty in
         let slots = w.by_slot in
         let ends = w.by_end in
         record {
@@ -113,8 +114,9 @@ module _ (p : Protocol) (now : ℕ) (ret : TurnPollRet) (q : Protocol) where
     pub patient_for : (one : Queued) (last : ℕ) → p.queue ≡ one ∷ [] → p.last_send ≡ Some last → IsAwaiting → IsPatient b a many (Some (time_after last cadence)) now p ret q
     patient_for one last waits sent_last w =
         let pause_is : pause ≡ min (time_after now longest_pause) (time_after last cadence) =
-        ap (λ (l : List Queued). wait_to_send p.last_send l now (time_after now longest_pause)) waits
-        ∙ ap (λ (l : Option ℕ). wait_to_send l (one ∷ []) now (time_after now longest_pause)) sent_last in
+        ap (λ (l : List Queued). wait_to_send (pace_of p) p.last_send l now (time_after now longest_pause)) waits
+        ∙ ap (λ (l : Option ℕ). wait_to_send (pace_of p) l (one ∷ []) now (time_after now longest_pause)) sent_last
+        ∙ ap (λ (n : ℕ). wait_to_send n (Some last) (one ∷ []) now (time_after now longest_pause)) (of.pace ∙ of.usual.pace) in
         let slots = w.by_slot in
         let ends = w.by_end in
         record {

@@ -37,6 +37,9 @@ holding_reports b c address lifetime now last queue events p w event q is = (
       waits = w.settings.waits;
       allocates = w.settings.allocates;
       families = w.settings.families;
+      options = w.settings.options;
+      pace = w.settings.pace;
+      usual = w.settings.usual;
     };
     none_requested = w.none_requested;
     phase = w.phase;

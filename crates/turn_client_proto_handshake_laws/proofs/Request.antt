@@ -83,7 +83,7 @@ module _ (b : Beginning) (room : HasRoom b.config) (short : AreShort) where
   number_fits = omega arith
 
   pub first_visible : AreNumbered → number_at (first_request b) ≡ first_number b
-  first_visible numbered = numbered (signer_of b.config) (FirstAllocate b.config.transport b.config.families) (first_number b) texts_short room.1 number_fits
+  first_visible numbered = numbered (signer_of b.config) (FirstAllocate b.config.transport b.config.families b.config.options) (first_number b) texts_short room.1 number_fits
 
   -- ---- the signed one
 

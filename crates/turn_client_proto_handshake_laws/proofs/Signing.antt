@@ -6,6 +6,7 @@ use Rattle.std.specs.Bool.{MatchBool}
 use Rattle.std.specs.FinMap as map
 use Rattle.std.specs.List.{list_any}
 use Rattle.std.proofs.lemmas.Bool.{eq-eqb, le-ltb, lt-ltb}
+use Rattle.turn_client_proto_api.specs.Options.{cadence}
 use Rattle.stun_types_base.specs.declared.family.AddressFamily.{AddressFamily}
 use Rattle.stun_types_base.specs.Times.{time_after}
 use Rattle.turn_client_proto_api.specs.StunProtoAgent.Sending.{stored_under}
@@ -19,7 +20,7 @@ use Rattle.turn_client_proto_core.specs.declared.protocol.Phase.{Phase}
 use Rattle.turn_client_proto_core.specs.declared.protocol.Protocol.{Protocol}
 use Rattle.turn_client_proto_timers.specs.Drawing.{IsAnswerSent, IsStarted, IsTransmitted, IsNextSent, IsQueuedSent, IsStill, after_sending, is_resting}
 use Rattle.turn_client_proto_api.specs.Sent.{Sent}
-use Rattle.turn_client_proto_timers.specs.Polling.{IsPolled, cadence}
+use Rattle.turn_client_proto_timers.specs.Polling.{IsPolled, pace_of}
 use Rattle.turn_client_proto_handshake_laws.specs.Requested.{IsDue, IsOnlyRequested, IsPatient, IsQuiet, end_of, transaction_of}
 use Rattle.turn_client_proto_handshake_laws.specs.Choosing.{Choice, signed_requested, signed_sent}
 use Rattle.turn_client_proto_handshake_laws.specs.Stages.{HasChosen, HasEnded, HasSigned, IsSigning, failures, signed_queued}
@@ -42,6 +43,9 @@ module _ (b : Beginning) (c : Choice) (many last : ℕ) (queue : List Queued) (p
       waits = w.settings.waits;
       allocates = w.settings.allocates;
       families = w.settings.families;
+      options = w.settings.options;
+      pace = w.settings.pace;
+      usual = w.settings.usual;
     };
     choice = w.choice;
     requested = only;
@@ -63,9 +67,9 @@ module _ (b : Beginning) (c : Choice) (many last : ℕ) (queue : List Queued) (p
       (s.sent_is, subst (λ (x : Protocol). IsSigning b c (many + 1) now queue x) (sym s.after) (again_after now s.is_requested))
 
   fresh : (now : ℕ) (sent : Option Sent) (q : Protocol) → IsQuiet b (signed_requested b c) many now → IsTransmitted p now sent q
-      → MatchBool (is_resting p.last_send now) (IsAnswerSent (find is_answer queue) p sent q) (IsNextSent queue p now sent q)
+      → MatchBool (is_resting (pace_of p) p.last_send now) (IsAnswerSent (find is_answer queue) p sent q) (IsNextSent queue p now sent q)
   fresh now sent q quiet is =
-      subst (λ (l : List Queued). MatchBool (is_resting p.last_send now) (IsAnswerSent (find is_answer l) p sent q) (IsNextSent l p now sent q)) w.queue_is
+      subst (λ (l : List Queued). MatchBool (is_resting (pace_of p) p.last_send now) (IsAnswerSent (find is_answer l) p sent q) (IsNextSent l p now sent q)) w.queue_is
       (sent_fresh b (signed_requested b c) many p w.settings w.requested now sent q quiet is)
 
   -- ---- it is polled
@@ -89,12 +93,12 @@ module _ (b : Beginning) (c : Choice) (many last : ℕ) (queue : List Queued) (p
 -- ---- the signed request waits to be transmitted
 
 module _ (b : Beginning) (c : Choice) (many last : ℕ) (p : Protocol) (w : HasChosen b c many last p) where
-  -- For 50 ms after the last message nothing is transmitted.
+  -- For the client's pace after the last message nothing is transmitted.
   pub chosen_rests : (now : ℕ) (sent : Option Sent) (q : Protocol) → IsQuiet b (signed_requested b c) many now → now < time_after last cadence → IsTransmitted p now sent q
       → (sent ≡ None) × (q ≡ p)
   chosen_rests now sent q quiet early is =
-      let resting : is_resting p.last_send now ≡ true = ap (λ (l : Option ℕ). is_resting l now) w.last_send ∙ lt-ltb now (time_after last cadence) early in
-      where_true (IsStill p sent q) (IsNextSent (signed_queued b c ∷ []) p now sent q) (is_resting p.last_send now) resting
+      let resting : is_resting (pace_of p) p.last_send now ≡ true = ap (λ (l : Option ℕ). is_resting (pace_of p) l now) w.last_send ∙ (ap (λ (n : ℕ). is_resting n (Some last) now) (w.settings.pace ∙ w.settings.usual.pace) ∙ lt-ltb now (time_after last cadence) early) in
+      where_true (IsStill p sent q) (IsNextSent (signed_queued b c ∷ []) p now sent q) (is_resting (pace_of p) p.last_send now) resting
       (fresh b c many last (signed_queued b c ∷ []) p w now sent q quiet is)
 
   signed_after : (now : ℕ) → HasSigned b c many now (after_sending now (record p { queue = [] }))
@@ -107,6 +111,9 @@ module _ (b : Beginning) (c : Choice) (many last : ℕ) (p : Protocol) (w : HasC
       waits = w.settings.waits;
       allocates = w.settings.allocates;
       families = w.settings.families;
+      options = w.settings.options;
+      pace = w.settings.pace;
+      usual = w.settings.usual;
     };
     choice = w.choice;
     requested = w.requested;
@@ -124,8 +131,8 @@ module _ (b : Beginning) (c : Choice) (many last : ℕ) (p : Protocol) (w : HasC
   pub chosen_signs : (now : ℕ) (sent : Option Sent) (q : Protocol) → IsQuiet b (signed_requested b c) many now → time_after last cadence ≤ now → IsTransmitted p now sent q
       → (sent ≡ Some (signed_sent b c)) × HasSigned b c many now q
   chosen_signs now sent q quiet late is =
-      let awake : is_resting p.last_send now ≡ false = ap (λ (l : Option ℕ). is_resting l now) w.last_send ∙ le-ltb now (time_after last cadence) late in
-      let next = where_false (IsStill p sent q) (IsNextSent (signed_queued b c ∷ []) p now sent q) (is_resting p.last_send now) awake
+      let awake : is_resting (pace_of p) p.last_send now ≡ false = ap (λ (l : Option ℕ). is_resting (pace_of p) l now) w.last_send ∙ (ap (λ (n : ℕ). is_resting n (Some last) now) (w.settings.pace ∙ w.settings.usual.pace) ∙ le-ltb now (time_after last cadence) late) in
+      let next = where_false (IsStill p sent q) (IsNextSent (signed_queued b c ∷ []) p now sent q) (is_resting (pace_of p) p.last_send now) awake
       (fresh b c many last (signed_queued b c ∷ []) p w now sent q quiet is) in
       let one = sends_one sent (λ (x : Sent). IsQueuedSent p now (signed_queued b c) [] x q) next in (
         one.1 ∙ ap Some (one.2.is_sent ∙ Prim.cc (w.settings.transport, w.settings.server)),
@@ -153,8 +160,8 @@ module _ (b : Beginning) (c : Choice) (many last : ℕ) (p : Protocol) (w : HasS
   -- Nothing more is transmitted until it is due again.
   pub signed_still : (now : ℕ) (sent : Option Sent) (q : Protocol) → IsQuiet b (signed_requested b c) many now → IsTransmitted p now sent q → (sent ≡ None) × (q ≡ p)
   signed_still now sent q quiet is =
-      either (IsStill p sent q) (is_resting p.last_send now)
-      (subst (λ (f : Phase). MatchBool (is_resting p.last_send now) (IsStill p sent q) (IsStarted f p now sent q)) w.phase
+      either (IsStill p sent q) (is_resting (pace_of p) p.last_send now)
+      (subst (λ (f : Phase). MatchBool (is_resting (pace_of p) p.last_send now) (IsStill p sent q) (IsStarted f p now sent q)) w.phase
       (fresh b c many last [] p w now sent q quiet is))
 
   pub signed_waits : (now : ℕ) (ret : TurnPollRet) (q : Protocol) → now < end_of b (signed_requested b c) → IsPolled p now ret q → IsPatient b (signed_requested b c) many None now p ret q
@@ -174,6 +181,9 @@ module _ (b : Beginning) (c : Choice) (many last : ℕ) (p : Protocol) (w : HasS
       waits = w.settings.waits;
       allocates = w.settings.allocates;
       families = w.settings.families;
+      options = w.settings.options;
+      pace = w.settings.pace;
+      usual = w.settings.usual;
     };
     none_requested = none_left b (signed_requested b c) many p w.settings w.requested;
     phase = refl;

@@ -22,8 +22,10 @@ use Rattle.turn_client_proto_messages.specs.Waiting.{Queued, is_answer}
 use Rattle.turn_client_proto_core.specs.declared.protocol.Phase.{Phase}
 use Rattle.turn_client_proto_core.specs.declared.protocol.Phase.TheVariants.{InitialSent}
 use Rattle.turn_client_proto_core.specs.declared.protocol.Protocol.{Protocol}
+use Rattle.turn_client_proto_timers.specs.Polling.{pace_of}
 use Rattle.turn_client_proto_timers.specs.Drawing.{Again, Fresh, IsAnswerSent, IsStarted, IsTransmitted, IsFirstSent, IsNextSent, Sends, after_sending, first_allocated, is_resting, sent_at_once}
 use Rattle.turn_client_proto_api.specs.Sent.{Sent}
+use Rattle.turn_client_proto_api.specs.declared.options.AllocateOptions.{AllocateOptions}
 use Rattle.turn_client_proto_messages.specs.Judging.{signer_of}
 use Rattle.turn_client_proto_messages.specs.Requests.{request_text}
 use Rattle.turn_client_proto_messages.specs.declared.request.TurnRequest.TheVariants.{FirstAllocate}
@@ -61,12 +63,13 @@ module _ (b : Beginning) (p : Protocol) (is : Begins b p) where
 
   -- ---- its request
 
-  text_is : (number : ℕ) → number ≡ first_number b → request_text p.auth (FirstAllocate p.allocates p.families) number ≡ first_request b
+  text_is : (number : ℕ) → number ≡ first_number b → request_text p.auth (FirstAllocate p.allocates p.families p.options) number ≡ first_request b
   text_is number same =
-      ap (λ (c : Client). request_text c (FirstAllocate p.allocates p.families) number) is.auth
-      ∙ (ap (λ (t : TransportType). request_text (signer_of b.config) (FirstAllocate t p.families) number) is.allocates
-      ∙ (ap (λ (l : List AddressFamily). request_text (signer_of b.config) (FirstAllocate b.config.transport l) number) is.families
-      ∙ ap (λ (n : ℕ). request_text (signer_of b.config) (FirstAllocate b.config.transport b.config.families) n) same))
+      ap (λ (c : Client). request_text c (FirstAllocate p.allocates p.families p.options) number) is.auth
+      ∙ (ap (λ (t : TransportType). request_text (signer_of b.config) (FirstAllocate t p.families p.options) number) is.allocates
+      ∙ (ap (λ (l : List AddressFamily). request_text (signer_of b.config) (FirstAllocate b.config.transport l p.options) number) is.families
+      ∙ (ap (λ (o : AllocateOptions). request_text (signer_of b.config) (FirstAllocate b.config.transport b.config.families o) number) is.options
+      ∙ ap (λ (n : ℕ). request_text (signer_of b.config) (FirstAllocate b.config.transport b.config.families b.config.options) n) same)))
 
   put_there : (key : ℕ) (x : Transaction) → map.get (map.insert p.agent.outstanding key x) key ≡ Some x
   put_there key x =
@@ -90,7 +93,7 @@ module _ (b : Beginning) (p : Protocol) (is : Begins b p) where
   waits_for : (number : ℕ) → number ≡ first_number b → number_at (first_request b) ≡ first_number b → IsWaiting b 1 (after_sending b.made (first_allocated number b.made p))
   unfolding first_allocated sent_at_once
   waits_for number same visible =
-      let text = request_text p.auth (FirstAllocate p.allocates p.families) number in
+      let text = request_text p.auth (FirstAllocate p.allocates p.families p.options) number in
       let is_text = text_is number same in
       record {
         number = number_at text;
@@ -125,7 +128,7 @@ module _ (b : Beginning) (p : Protocol) (is : Begins b p) where
   pub first_transmitted : number_at (first_request b) ≡ first_number b → (sent : Option Sent) (q : Protocol) → IsTransmitted p b.made sent q → HasRequested sent q
   first_transmitted visible sent q (Again one e r) = none_there r.number r.transaction r.least.present
   first_transmitted visible sent q (Fresh none fresh) =
-      let awake = subst (λ (l : Option ℕ). MatchBool (is_resting l b.made) (IsAnswerSent (find is_answer p.queue) p sent q) (IsNextSent p.queue p b.made sent q)) is.last_send fresh in
+      let awake = subst (λ (l : Option ℕ). MatchBool (is_resting (pace_of p) l b.made) (IsAnswerSent (find is_answer p.queue) p sent q) (IsNextSent p.queue p b.made sent q)) is.last_send fresh in
       let empty = subst (λ (l : List Queued). IsNextSent l p b.made sent q) is.queue awake in
       let begins = subst (λ (f : Phase). IsStarted f p b.made sent q) is.phase empty in
       let one = sends_one sent (λ (s : Sent). IsFirstSent p b.made s q) begins in

@@ -31,7 +31,7 @@ use Rattle.turn_client_proto_core.specs.declared.protocol.Phase.TheVariants.{Ini
 use Rattle.turn_client_proto_core.specs.declared.protocol.Protocol.{Protocol}
 use Rattle.turn_client_proto_timers.specs.Drawing.{Again, Fresh, HasToBegin, HasToSend, IsAnswerSent, IsStarted, IsTransmitted, IsFreshSent, IsNextSent, IsStill, after_sending, is_resting}
 use Rattle.turn_client_proto_api.specs.Sent.{Sent}
-use Rattle.turn_client_proto_timers.specs.Polling.{Answers, HasToReportIn, IsPolled, IsPolledBy, IsPolledIn, IsRefused, IsAgentPolled, ended_of, longest_pause, wait_of, wait_to_send, waits_until}
+use Rattle.turn_client_proto_timers.specs.Polling.{Answers, HasToReportIn, IsPolled, IsPolledBy, IsPolledIn, IsRefused, IsAgentPolled, ended_of, longest_pause, pace_of, wait_of, wait_to_send, waits_until}
 use Rattle.turn_client_proto_handshake_laws.specs.Driving.{client_end}
 use Rattle.turn_client_proto_handshake_laws.specs.Sent.{Beginning, end_of, first_request, first_sent}
 
@@ -170,9 +170,9 @@ module _ (b : Beginning) (used : ℕ) where
     -- No queued message and no new request is transmitted.
     nothing_fresh : (now : ℕ) (sent : Option Sent) (q : Protocol) → IsFreshSent p now sent q → IsStill p sent q
     nothing_fresh now sent q is =
-        either (IsStill p sent q) (is_resting p.last_send now)
-        (subst (λ (f : Phase). MatchBool (is_resting p.last_send now) (IsStill p sent q) (IsStarted f p now sent q)) w.phase
-        (subst (λ (l : List Queued). MatchBool (is_resting p.last_send now) (IsAnswerSent (find is_answer l) p sent q) (IsNextSent l p now sent q)) w.queue is))
+        either (IsStill p sent q) (is_resting (pace_of p) p.last_send now)
+        (subst (λ (f : Phase). MatchBool (is_resting (pace_of p) p.last_send now) (IsStill p sent q) (IsStarted f p now sent q)) w.phase
+        (subst (λ (l : List Queued). MatchBool (is_resting (pace_of p) p.last_send now) (IsAnswerSent (find is_answer l) p sent q) (IsNextSent l p now sent q)) w.queue is))
 
     -- If no transmission is due, nothing is transmitted.
     pub nothing_sent : (now : ℕ) (sent : Option Sent) (q : Protocol) → IsQuiet b used now → IsTransmitted p now sent q → (sent ≡ None) × (q ≡ p)
@@ -249,7 +249,7 @@ module _ (b : Beginning) (used : ℕ) where
       cases answer.NoMemory is = inr (refl, is)
 
       abbrev pause : ℕ
-      pause = wait_to_send p.last_send p.queue now (time_after now longest_pause)
+      pause = wait_to_send (pace_of p) p.last_send p.queue now (time_after now longest_pause)
 
       -- What follows from the agent's result.
       abbrev IsOut : StunAgentPollRet → agents.Agent → Type 0
@@ -318,7 +318,7 @@ module _ (b : Beginning) (used : ℕ) where
 
       pause_later : now ≤ client_end → now < pause
       pause_later early =
-          let same : pause ≡ time_after now longest_pause = ap (λ (l : List Queued). wait_to_send p.last_send l now (time_after now longest_pause)) w.queue in
+          let same : pause ≡ time_after now longest_pause = ap (λ (l : List Queued). wait_to_send (pace_of p) p.last_send l now (time_after now longest_pause)) w.queue in
           omega (arith, same, early)
 
       awaits_by : now ≤ client_end → IsQuiet b used now → now < end_of b → (ticked : StunAgentPollRet) (agent : agents.Agent) → agents.IsPolled p.agent now ticked agent → IsOut ticked agent → IsAwaiting

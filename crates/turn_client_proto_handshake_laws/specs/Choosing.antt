@@ -65,7 +65,7 @@ standing_by b c = record {
 
 -- The signed ALLOCATE.
 abbrev pub allocate_of : Beginning → TurnRequest
-allocate_of b = Allocate b.config.transport b.config.families
+allocate_of b = Allocate b.config.transport b.config.families b.config.options
 
 abbrev pub signed_request : Beginning → Choice → List ℕ
 signed_request b c = request_text (signer_by b c) (allocate_of b) c.number

@@ -15,9 +15,16 @@ use Rattle.turn_client_proto_recv.specs.ClientState.{ClientState, Protocol}
 use Rattle.turn_client_proto_handshake_laws.specs.Stages.{IsOf}
 use Rattle.turn_client_proto_handshake_laws.specs.Sent.{Beginning}
 
+-- The client's transport, its own address and the server's are those of its start; it has not failed.
+pub record HasAddresses (b : Beginning) (p : Protocol) : Type 0 where
+  pub server : p.server ≡ b.server
+  pub remote : p.agent.remote ≡ Some b.server
+  pub transport : p.agent.transport ≡ b.transport
+  pub here : p.agent.here ≡ b.here
+
 -- A client to which the server has allocated nothing.
 pub record IsUnserved (b : Beginning) (p : Protocol) : Type 0 where
-  pub settings : IsOf b p
+  pub settings : HasAddresses b p
   pub allocations : p.allocations ≡ []
   pub phase : is_authenticated p.phase ≡ false
 

@@ -71,7 +71,7 @@ pub record IsAllocate (b : Beginning) : Type 0 where
   pub message : refusal (first_request b) ≡ None
   pub request : is_request (first_request b) ≡ true
   pub reported : decoded_by (first_request b)
-      ≡ reported_request (FirstAllocate b.config.transport b.config.families) (first_number b)
+      ≡ reported_request (FirstAllocate b.config.transport b.config.families b.config.options) (first_number b)
 
 -- ---- the slots in transaction IDs
 

@@ -14,7 +14,9 @@ use Rattle.turn_client_proto_core.specs.Beginning.{IsNew}
 use Rattle.turn_client_proto_core.specs.Numbering.{following, generated}
 use Rattle.turn_client_proto_core.specs.declared.protocol.Protocol.{Protocol}
 use Rattle.turn_client_proto_api.specs.Sent.{Sent}
+use Rattle.turn_client_proto_api.specs.Options.{allocation_lifetime, cadence}
 use Rattle.turn_client_proto_messages.specs.Judging.{signer_of}
+use Rattle.turn_client_proto_messages.specs.ReportedRequests.{IsLawfulAllocate}
 use Rattle.turn_client_proto_messages.specs.Requests.{request_text}
 use Rattle.turn_client_proto_messages.specs.declared.request.TurnRequest.TheVariants.{FirstAllocate}
 use Rattle.turn_client_proto_handshake_laws.specs.Driving.{Call, Draws, DrawFails, Polls, Takes, Looks}
@@ -35,10 +37,17 @@ pub record Beginning : Type 0 where
 abbrev pub Begins : Beginning → Protocol → Type 0
 Begins b p = IsNew b.transport b.here b.server b.config b.seed p
 
--- The name of the user fits into a message (RFC 8489, section 14.3), and at most two address families are
--- configured.
+-- The name of the user fits into a message (RFC 8489, section 14.3), at most two address families are
+-- configured, and the requested lifetime fits into its attribute.
 abbrev pub HasRoom : Config → Type 0
-HasRoom config = (length config.credentials.username ≤ longest_username) × (length config.families ≤ 2)
+HasRoom config =
+    (length config.credentials.username ≤ longest_username) × IsLawfulAllocate config.families config.options
+
+-- A client with these settings requests half an hour, and leaves 50 ms between two messages, as new settings
+-- say.
+pub record IsUsual (config : Config) : Type 0 where
+  pub lifetime : config.options.lifetime ≡ allocation_lifetime
+  pub pace : config.pace ≡ cadence
 
 -- The transaction ID that the first words of its generator make.
 abbrev pub first_number : Beginning → ℕ
@@ -47,7 +56,8 @@ first_number b = following (generated (of_seed b.seed)) 0
 -- Its first request: an ALLOCATE without credentials, with that transaction ID.
 abbrev pub first_request : Beginning → List ℕ
 first_request b =
-    request_text (signer_of b.config) (FirstAllocate b.config.transport b.config.families) (first_number b)
+    request_text (signer_of b.config) (FirstAllocate b.config.transport b.config.families b.config.options)
+    (first_number b)
 
 -- The first request as it is transmitted: from the client's own address to the server.
 abbrev pub first_sent : Beginning → Sent

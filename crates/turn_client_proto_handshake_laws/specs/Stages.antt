@@ -23,17 +23,18 @@ use Rattle.turn_client_proto_messages.specs.Waiting.{Queued}
 use Rattle.turn_client_proto_core.specs.declared.protocol.Phase.TheVariants.{InitialSent, Authenticating}
 use Rattle.turn_client_proto_core.specs.declared.protocol.Phase.TheVariants.{Authenticated, Ended}
 use Rattle.turn_client_proto_core.specs.declared.protocol.Protocol.{Protocol}
+use Rattle.turn_client_proto_timers.specs.Polling.{pace_of}
 use Rattle.turn_client_proto_messages.specs.Judging.{signer_of}
 use Rattle.turn_client_proto_messages.specs.Reported.{lifetime_reported, relayed_reported}
 use Rattle.turn_client_proto_handshake_laws.specs.Requested.{Requested, IsOnlyRequested}
 use Rattle.turn_client_proto_handshake_laws.specs.Choosing.{Choice, IsChoice, signed_requested, signed_request}
 use Rattle.turn_client_proto_handshake_laws.specs.Choosing.{signer_by, standing_by}
-use Rattle.turn_client_proto_handshake_laws.specs.Sent.{Beginning, first_number, first_request}
+use Rattle.turn_client_proto_handshake_laws.specs.Sent.{Beginning, IsUsual, first_number, first_request}
 
 -- ---- what no stage changes
 
--- The server, the client's own address and transport, its waits, and what it requests are those of its start;
--- it has not failed.
+-- The server, the client's own address and transport, its waits and its pace, and what it requests are those
+-- of its start, and as usual; it has not failed.
 pub record IsOf (b : Beginning) (p : Protocol) : Type 0 where
   pub server : p.server ≡ b.server
   pub remote : p.agent.remote ≡ Some b.server
@@ -42,6 +43,9 @@ pub record IsOf (b : Beginning) (p : Protocol) : Type 0 where
   pub waits : p.agent.waits ≡ b.config.waits
   pub allocates : p.allocates ≡ b.config.transport
   pub families : p.families ≡ b.config.families
+  pub options : p.options ≡ b.config.options
+  pub pace : pace_of p ≡ b.config.pace
+  pub usual : IsUsual b.config
 
 -- ---- the first ALLOCATE is sent
 

@@ -64,7 +64,9 @@ pub fn drive_new(
 {
     unanswered_clients_end();
     let allocates = config.allocation_transport();
-    proof_requests_are_lawful(&TurnRequest::FirstAllocate(allocates, config.requested_families()));
+    let families = config.requested_families();
+    let options = config.allocate_options();
+    proof_requests_are_lawful(&TurnRequest::FirstAllocate(allocates, families, options));
     let mut client = Protocol::new(alloc, transport, local, remote, config, seed);
     let stage = drive(&mut client, made, calls);
     (client, stage)

@@ -21,6 +21,7 @@
 ghost use Rattle.std.specs.Prelude.{◌≡◌, ◌≢◌, ◌⊎◌, ◌≤◌, ◌<◌, ◌+◌, ◌++◌, ℕ, Bool, true, false};
 ghost use Rattle.std.specs.Prelude.{List, [], ◌∷◌, Option, Some, None, option_to_list};
 ghost use Rattle.std.specs.declared.net.socket_addr.SocketAddr.{SocketAddr};
+ghost use Rattle.turn_client_proto_api.specs.Options.{cadence};
 ghost use Rattle.turn_client_proto_api.specs.StunTypesWire.Grammar.{number_at, refusal};
 ghost use Rattle.turn_client_proto_api.specs.StunTypesWire.declared.algorithm.IntegrityAlgorithm.{IntegrityAlgorithm};
 ghost use Rattle.stun_types_base.specs.declared.transmit.Transmit.{Transmit};
@@ -38,7 +39,7 @@ ghost use Rattle.turn_client_proto_messages.specs.Waiting.{Queued};
 ghost use Rattle.turn_client_proto_core.specs.declared.protocol.Protocol.{Protocol};
 ghost use Rattle.turn_client_proto_timers.specs.Drawing.{IsTransmitted};
 ghost use Rattle.turn_client_proto_api.specs.Sent.{Sent};
-ghost use Rattle.turn_client_proto_timers.specs.Polling.{IsPolled, cadence};
+ghost use Rattle.turn_client_proto_timers.specs.Polling.{IsPolled};
 ghost use Rattle.turn_client_proto_messages.specs.Judging.{signer_of};
 ghost use Rattle.turn_client_proto_messages.specs.ReadTexts.{HasReadTexts};
 ghost use Rattle.turn_client_proto_messages.specs.ShortTexts.{HasShortTexts};
@@ -59,7 +60,7 @@ ghost use Rattle.turn_client_proto_handshake_laws.specs.Stages.{AsksForOne, HasC
 ghost use Rattle.turn_client_proto_handshake_laws.specs.Stages.{Holds, IsAsking, IsGrant, IsSigning};
 ghost use Rattle.turn_client_proto_handshake_laws.specs.Stages.{answer_at_end, created, failures, first_requested};
 ghost use Rattle.turn_client_proto_handshake_laws.specs.Driving.{IsEventTaken};
-ghost use Rattle.turn_client_proto_handshake_laws.specs.Sent.{Beginning, Begins, HasRoom};
+ghost use Rattle.turn_client_proto_handshake_laws.specs.Sent.{Beginning, Begins, HasRoom, IsUsual};
 ghost use Rattle.turn_client_proto_handshake_laws.specs.Sent.{first_number, first_request};
 
 use std::convert::AsSlice;
@@ -79,6 +80,7 @@ use turn_client_proto_messages::laws::{
 pub fn new_clients_ask()
     ensures transmitted { (b : Beginning) (old new : Protocol) (sent : Option Sent)
         → HasRoom b.config
+        → IsUsual b.config
         → Begins b old
         → IsTransmitted old b.made sent new
         → (sent ≡ Some (sent_of b (first_requested b))) × IsAsking b 1 b.made new }

@@ -128,10 +128,7 @@ pub(crate) fn add_dont_fragment(draft: &mut MessageWriteVec) -> Result<(), NoMem
 /// - IPv4 alone: adds nothing.
 /// - IPv6 alone: adds REQUESTED-ADDRESS-FAMILY of IPv6.
 /// - Both: adds ADDITIONAL-ADDRESS-FAMILY of IPv6.
-fn add_families(
-    draft: &mut MessageWriteVec,
-    families: RequestedFamilies,
-) -> Result<(), NoMemory>
+fn add_families(draft: &mut MessageWriteVec, families: RequestedFamilies) -> Result<(), NoMemory>
     requires is_open { IsOpen (own_draft draft.old) }
     requires room { length (own_draft draft.old).bytes ≤ most_before }
     ensures families { OnOk result (IsGrown (families_attributes families)

@@ -22,7 +22,7 @@ use Rattle.turn_client_proto_core.specs.declared.protocol.Protocol.{Protocol}
 use Rattle.turn_client_proto_handshake_laws.proofs.Only.{Table, clash, put_or, put_there}
 use Rattle.turn_client_proto_messages.specs.Allocation.Listed.{is_any_awaited}
 use Rattle.turn_client_proto_messages.specs.ReportedRequests.{IsLawfulRequest}
-use Rattle.turn_client_proto_messages.specs.Requests.{allocation_lifetime, request_text}
+use Rattle.turn_client_proto_messages.specs.Requests.{request_text}
 use Rattle.turn_client_proto_messages.specs.ShortTexts.{HasShortTexts}
 use Rattle.turn_client_proto_messages.specs.StunProtoClient.Client as auth
 use Rattle.turn_client_proto_messages.specs.TurnRuns.Members.{IsIn}
@@ -32,6 +32,7 @@ use Rattle.turn_client_proto_messages.specs.declared.request.TurnRequest.TheVari
 use Rattle.turn_client_proto_step_laws.proofs.Lists.{found_in, in_others}
 use Rattle.turn_client_proto_step_laws.specs.Timers.Answering.{without_answer}
 use Rattle.turn_client_proto_step_laws.specs.Timers.Drawing.{Again, Fresh, IsAnswerSent, IsChannelRenewalSent, IsFirstSent, IsFreshSent, IsMade, IsNextSent, IsQueuedSent, IsRefreshSent, IsRenewalSent, IsRenewed, IsRepeated, IsStarted, IsStill, IsTransmitted, Sends, after_sending, first_allocated, first_bound, first_permitted, first_refreshed, is_resting, sent_at_once}
+use Rattle.turn_client_proto_step_laws.specs.Timers.Polling.{pace_of}
 use Rattle.turn_client_proto_step_laws.specs.Timers.Wanting.{wanted}
 use Rattle.turn_client_proto_step_laws.specs.Timers.declared.wanting.Want.{Want}
 use Rattle.turn_client_proto_step_laws.specs.Timers.declared.wanting.Want.TheVariants.{Refresh, Channel, Permission}
@@ -273,14 +274,14 @@ module _ (numbered : AreNumbered) (r : Request) (many now : ℕ) (p : Protocol) 
     unfolding first_allocated sent_at_once
     first None sent_is is = absurd is
     first (Some s) sent_is is =
-        makes s sent_is (FirstAllocate p.allocates p.families) is.number order.families is.made
+        makes s sent_is (FirstAllocate p.allocates p.families p.options) is.number is.lawful is.made
         (ap (λ (x : Protocol). x.agent) is.after) (ap (λ (x : Protocol). x.auth) is.after) (ap (λ (x : Protocol). x.families) is.after) (ap (λ (x : Protocol). x.queue) is.after)
 
     refreshes : (o : Option Sent) → sent ≡ o → Sends o (λ (s : Sent). IsRefreshSent p now s q) → IsDrawTo r many now p sent q
     unfolding first_refreshed sent_at_once
     refreshes None sent_is is = absurd is
     refreshes (Some s) sent_is is =
-        makes s sent_is (RefreshRequest allocation_lifetime) is.number (omega arith) is.made
+        makes s sent_is (RefreshRequest p.options.lifetime) is.number is.lawful is.made
         (ap (λ (x : Protocol). x.agent) is.after) (ap (λ (x : Protocol). x.auth) is.after) (ap (λ (x : Protocol). x.families) is.after) (ap (λ (x : Protocol). x.queue) is.after)
 
     binds : (channel : ℕ) (peer : SocketAddr) (o : Option Sent) → sent ≡ o → Sends o (λ (s : Sent). IsChannelRenewalSent p channel peer now s q) → IsDrawTo r many now p sent q
@@ -320,4 +321,4 @@ module _ (numbered : AreNumbered) (r : Request) (many now : ℕ) (p : Protocol) 
 
   pub draws_by : (sent : Option Sent) (q : Protocol) → IsTransmitted p now sent q → IsDrawTo r many now p sent q
   draws_by sent q (Again message is a) = again sent q message is a
-  draws_by sent q (Fresh none is) = fresh (none_due_if r many now p (none r.number (transaction_of r many) there)) sent q (is_resting p.last_send now) is
+  draws_by sent q (Fresh none is) = fresh (none_due_if r many now p (none r.number (transaction_of r many) there)) sent q (is_resting (pace_of p) p.last_send now) is

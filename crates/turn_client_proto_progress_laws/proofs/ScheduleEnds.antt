@@ -39,7 +39,7 @@ use Rattle.turn_client_proto_step_laws.specs.Connection.Reported as connections
 use Rattle.turn_client_proto_step_laws.specs.Connection.Waiting.{unasked}
 use Rattle.turn_client_proto_step_laws.specs.Peers.Channel.Expiring as bindings
 use Rattle.turn_client_proto_step_laws.specs.Peers.Permission.Reporting as grants
-use Rattle.turn_client_proto_step_laws.specs.Timers.Polling.{Answers, AreAllocationsPolled, IsAgentPolled, IsClosing, IsPolled, IsPolledBy, IsPolledIn, IsPolledSent, after_asking, after_time, answer_of, ended_of, left, longest_pause, socket_for, wait_of, wait_to_send, waits_until}
+use Rattle.turn_client_proto_step_laws.specs.Timers.Polling.{Answers, AreAllocationsPolled, IsAgentPolled, IsClosing, IsPolled, IsPolledBy, IsPolledIn, IsPolledSent, after_asking, after_time, answer_of, ended_of, left, longest_pause, pace_of, socket_for, wait_of, wait_to_send, waits_until}
 use Rattle.turn_client_proto_step_laws.specs.Timers.Reporting as reporting
 use Rattle.turn_client_proto_progress_laws.specs.ScheduleEnds.{EndsAt, HasClosed, IsAttended, IsRefreshedAnew}
 use Rattle.turn_client_proto_progress_laws.specs.Schedules.{Request, transaction_of}
@@ -98,7 +98,7 @@ module _ (r : Request) (many now : ℕ) (p : Protocol) (ret : TurnPollRet) (q : 
   never_same same = never_there (ap (λ (x : Protocol). map.get x.agent.outstanding r.number) same ∙ e.there)
 
   abbrev pause : ℕ
-  pause = wait_to_send p.last_send p.queue now (time_after now longest_pause)
+  pause = wait_to_send (pace_of p) p.last_send p.queue now (time_after now longest_pause)
 
   ends_so : p.events ≡ [] → (number : ℕ) (agent : agents.Agent) (over : Bool) → agents.IsEnd p.agent now number over agent → (wait : ℕ) → IsPolledIn p.phase (Some number) wait (record p { agent = agent }) now ret q → IsGivenBy r now p ret q
   ends_so none number agent over ended wait out = elim (cases_Bool (is_eq (nat_cmp r.number number))) [

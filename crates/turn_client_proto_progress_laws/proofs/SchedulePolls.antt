@@ -34,7 +34,7 @@ use Rattle.turn_client_proto_messages.specs.TurnRuns.Members.{IsIn}
 use Rattle.turn_client_proto_messages.specs.Waiting.{Queued, is_answer}
 use Rattle.turn_client_proto_step_laws.specs.Connection.Expiring as joined
 use Rattle.turn_client_proto_step_laws.specs.Connection.Waiting.{unasked}
-use Rattle.turn_client_proto_step_laws.specs.Timers.Polling.{Answers, AreAllocationsPolled, IsAgentPolled, IsClosing, IsPolled, IsPolledBy, IsPolledIn, IsPolledSent, IsPolledStanding, after_asking, after_time, answer_of, ended_of, left, longest_pause, socket_for, wait_of, wait_to_send, waits_until}
+use Rattle.turn_client_proto_step_laws.specs.Timers.Polling.{Answers, AreAllocationsPolled, IsAgentPolled, IsClosing, IsPolled, IsPolledBy, IsPolledIn, IsPolledSent, IsPolledStanding, after_asking, after_time, answer_of, ended_of, left, longest_pause, pace_of, socket_for, wait_of, wait_to_send, waits_until}
 use Rattle.turn_client_proto_progress_laws.specs.Schedules.{ComesFirst, IsGivenUp, IsGone, IsInOrder, IsOutstanding, IsStillAwaited, Request, count_of, end_of, slot_of, transaction_of}
 use Rattle.turn_client_proto_progress_laws.proofs.ScheduleDraws.{less_of, same_key}
 
@@ -288,7 +288,7 @@ module _ (r : Request) (many now : ℕ) (p : Protocol) (there : IsOutstanding r 
     ]
 
   abbrev pause : ℕ
-  pause = wait_to_send p.last_send p.queue now (time_after now longest_pause)
+  pause = wait_to_send (pace_of p) p.last_send p.queue now (time_after now longest_pause)
 
   ticks : (ticked : StunAgentPollRet) (agent : agents.Agent) → agents.IsPolled p.agent now ticked agent → IsPolledIn p.phase (ended_of ticked) (wait_of pause ticked) (record p { agent = agent }) now ret q → IsPolledTo r many now p ret q
   ticks (TransactionTimedOut number) agent is out = either number agent false is pause out

@@ -13,8 +13,7 @@ use Rattle.turn_client_proto_handshake_laws.specs.Requested as asks
 use Rattle.turn_client_proto_handshake_laws.specs.Requested.{Requested, IsOnlyRequested, IsQuiet, count_of, slot_of}
 use Rattle.turn_client_proto_handshake_laws.specs.Choosing.{Choice}
 use Rattle.turn_client_proto_handshake_laws.specs.Driving.{client_end}
-use Rattle.turn_client_proto_step_laws.specs.Timers.Polling.{cadence}
-use Rattle.turn_client_proto_messages.specs.Requests.{allocation_lifetime}
+use Rattle.turn_client_proto_messages.specs.Api.Options.{allocation_lifetime, cadence}
 use Rattle.turn_client_proto_messages.specs.Waiting.{Queued}
 use Rattle.turn_client_proto_handshake_laws.specs.Sent.{Beginning}
 use Rattle.turn_client_proto_handshake_laws.specs.Stages.{IsOf}

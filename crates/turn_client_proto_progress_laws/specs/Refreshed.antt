@@ -17,7 +17,8 @@ use Rattle.turn_client_proto_handshake_laws.specs.Requested.{Requested, sent_of}
 use Rattle.turn_client_proto_handshake_laws.specs.Choosing.{Choice, signer_by, standing_by}
 use Rattle.turn_client_proto_messages.specs.Api.Sent.{Sent}
 use Rattle.turn_client_proto_messages.specs.OwnClaims.{own_claim}
-use Rattle.turn_client_proto_messages.specs.Requests.{allocation_lifetime, request_text}
+use Rattle.turn_client_proto_messages.specs.Api.Options.{allocation_lifetime}
+use Rattle.turn_client_proto_messages.specs.Requests.{request_text}
 use Rattle.turn_client_proto_messages.specs.ReportedRequests.{reported_request}
 use Rattle.turn_client_proto_messages.specs.declared.request.TurnRequest.{TurnRequest}
 use Rattle.turn_client_proto_messages.specs.declared.request.TurnRequest.TheVariants.{Refresh}

@@ -21,6 +21,7 @@ ghost use Rattle.std.specs.Prelude.{Err};
 ghost use Rattle.std.specs.List.{list_any};
 ghost use Rattle.std.specs.declared.net.ip_addr.IpAddr.{IpAddr};
 ghost use Rattle.std.specs.declared.net.socket_addr.SocketAddr.{SocketAddr};
+ghost use Rattle.turn_client_proto_messages.specs.Api.Options.{cadence};
 ghost use Rattle.turn_client_proto_messages.specs.StunTypesWire.Attributes.{kind_at};
 ghost use Rattle.turn_client_proto_messages.specs.StunTypesWire.Grammar.{refusal};
 ghost use Rattle.turn_client_proto_messages.specs.StunTypesWire.declared.algorithm.IntegrityAlgorithm.{IntegrityAlgorithm};
@@ -71,7 +72,7 @@ ghost use Rattle.turn_client_proto_step_laws.specs.Timers.Drawing.{IsTransmitted
 ghost use Rattle.turn_client_proto_messages.specs.Api.Sent.{Sent};
 ghost use Rattle.turn_client_proto_step_laws.specs.Recv.Processing.{IsProcessedAt};
 ghost use Rattle.turn_client_proto_step_laws.specs.Recv.ClientState.{ClientState};
-ghost use Rattle.turn_client_proto_step_laws.specs.Timers.Polling.{IsPolled, cadence};
+ghost use Rattle.turn_client_proto_step_laws.specs.Timers.Polling.{IsPolled};
 ghost use Rattle.turn_client_proto_step_laws.specs.Recv.Receipts.{IsReceived};
 ghost use Rattle.turn_client_proto_step_laws.specs.Recv.Sockets.{IsSocketAnswered};
 ghost use Rattle.turn_client_proto_step_laws.specs.Timers.Wanting.{wanted};

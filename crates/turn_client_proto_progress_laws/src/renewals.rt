@@ -21,6 +21,7 @@ ghost use Rattle.std.specs.Prelude.{◌≡◌, ◌≢◌, ◌⊎◌, ◌≤◌, 
 ghost use Rattle.std.specs.Prelude.{List, [], ◌∷◌, Option, Some, None, find, option_to_list};
 ghost use Rattle.std.specs.List.{list_any};
 ghost use Rattle.std.specs.declared.net.socket_addr.SocketAddr.{SocketAddr};
+ghost use Rattle.turn_client_proto_messages.specs.Api.Options.{cadence};
 ghost use Rattle.turn_client_proto_messages.specs.StunTypesBase.declared.transmit.Transmit.{Transmit};
 ghost use Rattle.turn_client_proto_messages.specs.StunProtoClient.Client.{standing_of};
 ghost use Rattle.turn_client_proto_messages.specs.StunTypesBase.Times.{time_after};
@@ -45,7 +46,7 @@ ghost use Rattle.turn_client_proto_handshake_laws.specs.Coming.{IsPartOf};
 ghost use Rattle.turn_client_proto_step_laws.specs.Timers.Drawing.{IsTransmitted};
 ghost use Rattle.turn_client_proto_messages.specs.Api.Sent.{Sent};
 ghost use Rattle.turn_client_proto_handshake_laws.specs.Driving.{IsEventTaken, client_end};
-ghost use Rattle.turn_client_proto_step_laws.specs.Timers.Polling.{IsPolled, cadence};
+ghost use Rattle.turn_client_proto_step_laws.specs.Timers.Polling.{IsPolled};
 ghost use Rattle.turn_client_proto_step_laws.specs.Recv.Receipts.{IsReceived};
 ghost use Rattle.turn_client_proto_handshake_laws.specs.Sent.{Beginning, HasRoom};
 ghost use Rattle.turn_client_proto_step_laws.specs.Recv.SocketChunks.{raw_waiting};

@@ -102,11 +102,11 @@ once_accepted c mid bytes is = record {
 -- ---- what a request says
 
 reported_class : (request : TurnRequest) (number : ℕ) → (reported_request request number).class ≡ Request
-reported_class (FirstAllocate transport families) number = refl
+reported_class (FirstAllocate transport families options) number = refl
 reported_class _ number = refl
 
 reported_method : (request : TurnRequest) (number : ℕ) → (reported_request request number).method ≢ connection_attempt_method
-reported_method (FirstAllocate transport families) number = λ e. omega (arith, e)
+reported_method (FirstAllocate transport families options) number = λ e. omega (arith, e)
 reported_method _ number = λ e. omega (arith, e)
 
 -- A request is written with the next transaction ID, and decodes to what was written.

@@ -25,10 +25,11 @@ use Rattle.turn_client_proto_timers.specs.declared.wanting.Want.{Want}
 use Rattle.turn_client_proto_timers.specs.declared.wanting.Want.TheVariants as want
 use Rattle.turn_client_proto_timers.proofs.Peers.Distinct.{first_stay_distinct, renewing_uses_less}
 use Rattle.turn_client_proto_timers.proofs.Messages.Peers.{peer_read}
-use Rattle.turn_client_proto_timers.specs.Messages.Requests.{allocation_lifetime, request_text}
+use Rattle.turn_client_proto_timers.specs.Messages.Requests.{request_text}
 use Rattle.turn_client_proto_timers.specs.Messages.declared.request.TurnRequest.{TurnRequest}
 use Rattle.turn_client_proto_timers.specs.Messages.declared.request.TurnRequest.TheVariants.{ChannelBind, CreatePermission, FirstAllocate, Refresh}
 use Rattle.turn_client_proto_timers.specs.Drawing.{Again, Fresh, IsAnswerSent, IsStarted, IsChannelRenewalSent, IsTransmitted, IsFirstSent, IsNextSent, IsQueuedSent, IsRefreshSent, IsRenewalSent, IsRenewed, IsRepeated, IsStill, Sends, after_sending, first_allocated, first_bound, first_permitted, first_refreshed, is_resting, sent_at_once}
+use Rattle.turn_client_proto_timers.specs.Polling.{pace_of}
 use Rattle.turn_client_proto_timers.specs.Api.Sent.{Sent}
 use Rattle.turn_client_proto_timers.specs.Core.Numbering.{after_number}
 use Rattle.turn_client_proto_timers.specs.Messages.Waiting.{Queued, is_answer}
@@ -148,9 +149,9 @@ first_sent : (c : Client) (now : ℕ) (sent : Sent) (new : Protocol) → IsSound
 unfolding first_allocated sent_at_once
 first_sent c now sent new sound at is =
     let can : CanAsk c = subst (λ (f : Phase). UntilEnded f (CanAsk c)) at sound.can_ask in
-    let request : TurnRequest = FirstAllocate c.core.allocates c.core.families in
+    let request : TurnRequest = FirstAllocate c.core.allocates c.core.families c.core.options in
     let under_way = at_first c [] sound.orderly can in
-    let written = made c c.core request is.number under_way can.families tt is.made.is_next in
+    let written = made c c.core request is.number under_way is.lawful tt is.made.is_next in
     let text = request_text c.core.auth request is.number in
     let own : sent.bytes ≡ text = ap (λ (s : Sent). s.bytes) is.made.is_sent in
     let allocate : IsAllocate (parts_of c.core) text = (ap (λ (m : run.Message). m.method) written.reported, ap (λ (m : run.Message). m.transport) written.reported) in
@@ -170,21 +171,21 @@ unfolding first_refreshed sent_at_once
 refresh_sent c now sent new sound at is =
     let can : CanAsk c = subst (λ (f : Phase). UntilEnded f (CanAsk c)) at sound.can_ask in
     let under_way = at_first c [] sound.orderly can in
-    let written = made c c.core (Refresh allocation_lifetime) is.number under_way (omega arith) tt is.made.is_next in
-    let text = request_text c.core.auth (Refresh allocation_lifetime) is.number in
+    let written = made c c.core (Refresh c.core.options.lifetime) is.number under_way is.lawful tt is.made.is_next in
+    let text = request_text c.core.auth (Refresh c.core.options.lifetime) is.number in
     let own : sent.bytes ≡ text = ap (λ (s : Sent). s.bytes) is.made.is_sent in
-    let refresh = refresh_of is.number allocation_lifetime in
-    let mid : Parts = parts_of (sent_at_once (after_number c.core) (Refresh allocation_lifetime) is.number now) in
+    let refresh = refresh_of is.number c.core.options.lifetime in
+    let mid : Parts = parts_of (sent_at_once (after_number c.core) (Refresh c.core.options.lifetime) is.number now) in
     let left = refreshed_first now refresh c.core.allocations in
     let less : AreLess (refresh ∷ []) c.core.allocations left = first_less (refresh ∷ []) (refreshing refresh) (one_awaited refresh) (wants now) c.core.allocations in
     let core : Protocol = after_sending now (first_refreshed is.number now c.core) in
-    let adds = adds_both (decoded_by text ∷ []) (parts_of c.core) mid (parts_of core) (sent_adds c.core (Refresh allocation_lifetime) is.number now)
-    (allocations_less (decoded_by text ∷ []) (refresh ∷ []) mid left less (refresh_made c.core is.number allocation_lifetime written)) in
-    let orderly = allocations_orderly (refresh ∷ []) mid left less (refresh_short is.number allocation_lifetime (omega arith))
+    let adds = adds_both (decoded_by text ∷ []) (parts_of c.core) mid (parts_of core) (sent_adds c.core (Refresh c.core.options.lifetime) is.number now)
+    (allocations_less (decoded_by text ∷ []) (refresh ∷ []) mid left less (refresh_made c.core is.number c.core.options.lifetime written)) in
+    let orderly = allocations_orderly (refresh ∷ []) mid left less (refresh_short is.number c.core.options.lifetime is.lawful)
     (same_first_distinct (wants now) (refreshing refresh) (λ a. (refl, refl)) c.core.allocations sound.orderly.distinct)
-    (sent_orderly c.core (Refresh allocation_lifetime) is.number now written (allocated _ c.core.phase at) sound.orderly) in
+    (sent_orderly c.core (Refresh c.core.options.lifetime) is.number now written (allocated _ c.core.phase at) sound.orderly) in
     subst (λ (p : Protocol). IsRunStep c [] (Some sent.bytes) [] p) (sym is.after)
-    (asks c c.core (Refresh allocation_lifetime) is.number under_way written (Some sent.bytes) core adds orderly refl (λ realm h. h) can.families refl refl (draws_own c text sent.bytes own))
+    (asks c c.core (Refresh c.core.options.lifetime) is.number under_way written (Some sent.bytes) core adds orderly refl (λ realm h. h) can.families refl refl (draws_own c text sent.bytes own))
 
 -- A request that renews something.
 module _ (c : Client) (request : TurnRequest) (number now : ℕ) (left : List Allocation) (sound : IsSound c) (at : c.core.phase ≡ Authenticated) (under_way : IsUnderWay c [] c.core) (is : written.IsMade c.core request number) where
@@ -265,6 +266,6 @@ next_sent c [] now answer new sound waits h = started c c.core.phase now answer 
 pub draw_step : (c : Client) (now : ℕ) (answer : Option Sent) (new : Protocol) → IsSound c → IsTransmitted c.core now answer new → IsRunStep c [] (bytes_of answer) [] new
 draw_step c now answer new sound (Again sent is repeated) = subst (λ (o : Option Sent). IsRunStep c [] (bytes_of o) [] new) (sym is) (repeats c now sent new sound repeated)
 draw_step c now answer new sound (Fresh none h) =
-    by_test (is_resting c.core.last_send now)
-    (λ (_ : is_resting c.core.last_send now ≡ true) is. answer_transmitted c (find is_answer c.core.queue) answer new sound refl is)
-    (λ (_ : is_resting c.core.last_send now ≡ false) is. next_sent c c.core.queue now answer new sound refl is) h
+    by_test (is_resting (pace_of c.core) c.core.last_send now)
+    (λ (_ : is_resting (pace_of c.core) c.core.last_send now ≡ true) is. answer_transmitted c (find is_answer c.core.queue) answer new sound refl is)
+    (λ (_ : is_resting (pace_of c.core) c.core.last_send now ≡ false) is. next_sent c c.core.queue now answer new sound refl is) h

@@ -8,6 +8,7 @@ use Rattle.turn_client_proto_timers.specs.StunTypesWire.Registry.{longest_userna
 use Rattle.turn_client_proto_timers.specs.StunTypesBase.declared.transport.TransportType.{TransportType}
 use Rattle.turn_client_proto_timers.specs.Api.Config.{Config}
 use Rattle.turn_client_proto_timers.specs.Drawing.{Again, Fresh, IsAnswerSent, IsStarted, IsTransmitted, IsFirstSent, IsNextSent, is_resting}
+use Rattle.turn_client_proto_timers.specs.Polling.{pace_of}
 use Rattle.turn_client_proto_timers.specs.Api.Sent.{Sent}
 use Rattle.turn_client_proto_timers.specs.Messages.declared.request.TurnRequest.TheVariants.{FirstAllocate}
 use Rattle.turn_client_proto_timers.specs.TurnRuns.StunWire.{stun_wire}
@@ -44,7 +45,7 @@ module _ (transport : TransportType) (here server : SocketAddr) (config : Config
 
   first : IsFirstSent p now sent new → IsFirst
   first h =
-      let written = made c p (FirstAllocate p.allocates p.families) h.number (at_first c [] sound.orderly can) can.families tt h.made.is_next in
+      let written = made c p (FirstAllocate p.allocates p.families p.options) h.number (at_first c [] sound.orderly can) h.lawful tt h.made.is_next in
       ap (λ (s : Sent). number_at s.bytes) h.made.is_sent ∙ written.number_is ∙ free h.number (number_at_index p c.seed c.transmitted h.number can.words h.made.is_next)
 
   next : IsNextSent p.queue p now (Some sent) new → IsFirst
@@ -55,7 +56,7 @@ module _ (transport : TransportType) (here server : SocketAddr) (config : Config
   pub first_number : IsTransmitted p now (Some sent) new → IsFirst
   first_number (Again one same repeated) = none_there transport here server config seed p is repeated.number repeated.transaction repeated.least.present
   first_number (Fresh none h) =
-      by_test (is_resting p.last_send now)
-      (λ (rests : is_resting p.last_send now ≡ true) (_ : IsAnswerSent (find is_answer p.queue) p (Some sent) new).
-      absurd (Prim.cc (sym (ap (λ (o : Option ℕ). is_resting o now) is.last_send) ∙ rests)))
-      (λ (_ : is_resting p.last_send now ≡ false) is_next. next is_next) h
+      by_test (is_resting (pace_of p) p.last_send now)
+      (λ (rests : is_resting (pace_of p) p.last_send now ≡ true) (_ : IsAnswerSent (find is_answer p.queue) p (Some sent) new).
+      absurd (Prim.cc (sym (ap (λ (o : Option ℕ). is_resting (pace_of p) o now) is.last_send) ∙ rests)))
+      (λ (_ : is_resting (pace_of p) p.last_send now ≡ false) is_next. next is_next) h

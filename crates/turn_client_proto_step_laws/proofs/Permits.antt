@@ -53,7 +53,7 @@ same_peer m channel peer transport ip bind (inr other) =
     ap socket_ip same ∙ other.1.2
 
 reported_number : (request : TurnRequest) (number : ℕ) → (reported_request request number).number ≡ number
-reported_number (FirstAllocate transport families) number = refl
+reported_number (FirstAllocate transport families options) number = refl
 reported_number _ number = refl
 
 module _ (mid : Protocol) (request : TurnRequest) (number now : ℕ) (is : IsMade mid request number) where

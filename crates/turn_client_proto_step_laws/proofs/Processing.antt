@@ -95,10 +95,10 @@ module _ (c : Client) (mid : Protocol) (bytes : List ℕ) (now : ℕ) (under_way
   same_realm : (realm : List ℕ) → realm_in mid.auth.challenge ≡ Some realm → realm_in (challenge_of mid) ≡ Some realm
   same_realm realm h = realm_going mid.phase mid.auth.challenge realm (going_first mid.phase allocating) h
 
-  again : (number : ℕ) → IsMade mid (Allocate mid.allocates mid.families) number → IsRunStep c (bytes ∷ []) None [] (challenged bytes (allocates_again number now mid))
+  again : (number : ℕ) → IsMade mid (Allocate mid.allocates mid.families mid.options) number → IsRunStep c (bytes ∷ []) None [] (challenged bytes (allocates_again number now mid))
   unfolding challenged allocates_again requested
   again number is =
-      let request : TurnRequest = Allocate mid.allocates mid.families in
+      let request : TurnRequest = Allocate mid.allocates mid.families mid.options in
       let started : List run.Message = decoded_by (text_of request number) ∷ [] in
       let made_it : Parts = parts_of (requested (after_number mid) request number now) in
       let orderly = requested_orderly mid request number now is (before_all mid.phase (is_allocate request number is refl refl)) under_way.orderly in
@@ -118,10 +118,10 @@ module _ (c : Client) (mid : Protocol) (bytes : List ℕ) (now : ℕ) (under_way
       numbers_again : (number : ℕ) (m : run.Message) → m.number ≡ number → (n : ℕ) → IsIn n (numbers_sent mid.phase ++ number ∷ []) → IsIn n (numbers_sent mid.phase) ⊎ HasNumber n (m ∷ [])
       numbers_again number m same n h = elim (in_either n (numbers_sent mid.phase) (number ∷ []) h) [ inl was ↦ inl was | inr now ↦ inr (one_number n number m same now) ]
 
-  other : (family : AddressFamily) (number : ℕ) → IsMade mid (Allocate mid.allocates (family ∷ [])) number → IsRunStep c (bytes ∷ []) None [] (allocates_other family number now mid)
+  other : (family : AddressFamily) (number : ℕ) → IsMade mid (Allocate mid.allocates (family ∷ []) mid.options) number → IsRunStep c (bytes ∷ []) None [] (allocates_other family number now mid)
   unfolding allocates_other requested
   other family number is =
-      let request : TurnRequest = Allocate mid.allocates (family ∷ []) in
+      let request : TurnRequest = Allocate mid.allocates (family ∷ []) mid.options in
       let started : List run.Message = decoded_by (text_of request number) ∷ [] in
       let made_it : Parts = parts_of (requested (after_number mid) request number now) in
       let orderly = requested_orderly mid request number now is (before_all mid.phase (is_allocate request number is refl refl)) under_way.orderly in
@@ -141,7 +141,7 @@ module _ (c : Client) (mid : Protocol) (bytes : List ℕ) (now : ℕ) (under_way
       (λ (_ : is_tired mid ≡ true) (o : (handled ≡ true) × (new ≡ ended mid)). over c (bytes ∷ []) mid new under_way o.1)
       (λ (_ : is_tired mid ≡ false) (o : IsAllocatingAgain mid bytes now handled new).
       subst (λ (p : Protocol). IsRunStep c (bytes ∷ []) None [] p) (sym o.outcome.1)
-      (again o.number (made c mid (Allocate mid.allocates mid.families) o.number under_way under_way.can_ask.families tt o.is_next)))
+      (again o.number (made c mid (Allocate mid.allocates mid.families mid.options) o.number under_way o.lawful tt o.is_next)))
       one)
       (λ (_ : is_awaited mid.agent bytes ≡ false) (o : (handled ≡ false) × (new ≡ mid)). done c (bytes ∷ []) mid new under_way o.1) h
 
@@ -149,7 +149,7 @@ module _ (c : Client) (mid : Protocol) (bytes : List ℕ) (now : ℕ) (under_way
   error None handled new o = over c (bytes ∷ []) mid new under_way o.1
   error (Some family) handled new o =
       subst (λ (p : Protocol). IsRunStep c (bytes ∷ []) None [] p) (sym o.outcome.1)
-      (other family o.number (made c mid (Allocate mid.allocates (family ∷ [])) o.number under_way (omega arith) tt o.is_next))
+      (other family o.number (made c mid (Allocate mid.allocates (family ∷ []) mid.options) o.number under_way o.lawful tt o.is_next))
 
   pub unauthenticated : (handled : Bool) (new : Protocol) → IsUnauthenticated mid bytes handled new → IsRunStep c (bytes ∷ []) None [] new
   unauthenticated handled new h =

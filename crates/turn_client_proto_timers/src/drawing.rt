@@ -191,8 +191,11 @@ fn send_first(protocol: &mut Protocol, now: Instant) -> Result<Transmit<Data<'st
     ensures err { OnErr result (IsUnderWay protocol.old protocol.new) }
 {
     let number = protocol.generate_id()?;
-    let request =
-        TurnRequest::FirstAllocate(protocol.allocates, protocol.families, protocol.options);
+    let request = TurnRequest::FirstAllocate(
+        protocol.allocates,
+        protocol.families,
+        protocol.options,
+    );
     proof_requests_are_lawful(&request);
     let sent = send_at_once(protocol, number, request, now)?;
     let mut numbers = ListOf::new(protocol.alloc);

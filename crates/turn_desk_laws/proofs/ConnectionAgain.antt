@@ -137,6 +137,9 @@ module _ (h : Holder) (one two : Requested) (b : Allocation) (queue : List Queue
       waits = w.settings.waits;
       allocates = w.settings.allocates;
       families = w.settings.families;
+      options = w.settings.options;
+      pace = w.settings.pace;
+      usual = w.settings.usual;
     };
     signs = w.signs;
     outstanding = left_so true is;
@@ -157,6 +160,9 @@ module _ (h : Holder) (one two : Requested) (b : Allocation) (queue : List Queue
       waits = w.settings.waits;
       allocates = w.settings.allocates;
       families = w.settings.families;
+      options = w.settings.options;
+      pace = w.settings.pace;
+      usual = w.settings.usual;
     };
     signs = w.signs;
     outstanding = left_so false is;
@@ -217,6 +223,9 @@ module _ (h : Holder) (one : Requested) (a : Allocation) (last : ℕ) (events : 
         waits = w.settings.waits;
         allocates = w.settings.allocates;
         families = w.settings.families;
+        options = w.settings.options;
+        pace = w.settings.pace;
+        usual = w.settings.usual;
       };
       signs = signs;
       outstanding = w.outstanding;

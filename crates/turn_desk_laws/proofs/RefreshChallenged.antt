@@ -46,7 +46,8 @@ use Rattle.turn_client_proto_messages.specs.Waiting.{Queued}
 use Rattle.turn_client_proto_handshake_laws.specs.Core.declared.protocol.Phase.{Phase}
 use Rattle.turn_client_proto_handshake_laws.specs.Core.declared.protocol.Protocol.{Protocol}
 use Rattle.turn_client_proto_messages.specs.Judging.{IsJudged}
-use Rattle.turn_client_proto_messages.specs.Requests.{allocation_lifetime, request_text}
+use Rattle.turn_client_proto_messages.specs.Api.Options.{allocation_lifetime}
+use Rattle.turn_client_proto_messages.specs.Requests.{request_text}
 use Rattle.turn_client_proto_handshake_laws.specs.Requested.{IsOnlyRequested, transaction_of}
 use Rattle.turn_client_proto_handshake_laws.specs.Choosing.{Choice, IsAnsweredBy, IsChoice}
 use Rattle.turn_client_proto_handshake_laws.proofs.Challenged.{challenges_respond, none_barred}
@@ -266,6 +267,9 @@ module _ (b : Beginning) (c : Choice) (chosen_before : IsChoice b c) (address : 
         waits = ap (λ (y : agents.Agent). y.waits) both_after ∙ w.settings.waits;
         allocates = w.settings.allocates;
         families = w.settings.families;
+        options = w.settings.options;
+        pace = w.settings.pace;
+        usual = w.settings.usual;
       };
       requested = subst (λ (y : agents.Agent). IsOnlyRequested b (refresh_requested b choice h.next now) 1 y) (sym both_after) second_only;
       phase = w.phase;

@@ -23,7 +23,7 @@ use Rattle.turn_client_proto_messages.specs.Allocation.declared.allocation.Alloc
 use Rattle.turn_client_proto_messages.specs.Allocation.declared.channel.Channel.{Channel as OneChannel}
 use Rattle.turn_client_proto_messages.specs.Allocation.declared.permission.Permission.{Permission as OnePermission}
 use Rattle.turn_client_proto_messages.specs.Allocation.declared.refresh.PendingRefresh.{PendingRefresh}
-use Rattle.turn_client_proto_messages.specs.Requests.{allocation_lifetime}
+use Rattle.turn_client_proto_messages.specs.Api.Options.{allocation_lifetime}
 use Rattle.turn_client_proto_handshake_laws.specs.Sent.{Beginning}
 use Rattle.turn_client_proto_progress_laws.specs.Keeping.{Term, held_for}
 use Rattle.turn_client_proto_progress_laws.proofs.Renewing.Lasting.{expiry}

@@ -44,7 +44,7 @@ use Rattle.turn_client_proto_messages.specs.Waiting.{Queued}
 use Rattle.turn_client_proto_messages.specs.Api.declared.event.TurnEvent.{TurnEvent}
 use Rattle.turn_client_proto_handshake_laws.specs.Choosing.{Choice, standing_by}
 use Rattle.turn_client_proto_messages.specs.Judging.{IsJudged}
-use Rattle.turn_client_proto_messages.specs.Requests.{allocation_lifetime}
+use Rattle.turn_client_proto_messages.specs.Api.Options.{allocation_lifetime}
 use Rattle.turn_client_proto_handshake_laws.specs.Sent.{Beginning}
 use Rattle.turn_client_proto_progress_laws.specs.Keeping.{IsKeeping, Term, held_for, next_term}
 use Rattle.turn_client_proto_progress_laws.specs.Refreshed.{IsRenewal, signed_by}
@@ -116,6 +116,9 @@ module _ (b : Beginning) (c : Choice) (address : SocketAddr) (t : Term) (earlier
       waits = w.settings.waits;
       allocates = w.settings.allocates;
       families = w.settings.families;
+      options = w.settings.options;
+      pace = w.settings.pace;
+      usual = w.settings.usual;
     };
     none_requested = none_left p.agent.outstanding (number_at bytes) (λ other x there. w.requested.only other x there ∙ sym is.number_is);
     phase = w.phase;

@@ -33,7 +33,8 @@ use Rattle.turn_client_proto_handshake_laws.specs.Driving.{IsEventTaken}
 use Rattle.turn_client_proto_step_laws.specs.Timers.Drawing.{IsAnswerSent, IsQueuedSent, IsStarted, IsTransmitted, IsNextSent, IsRenewed, IsStill, after_sending, is_resting}
 use Rattle.turn_client_proto_step_laws.specs.Recv.SocketChunks.{raw_waiting}
 use Rattle.turn_client_proto_messages.specs.Api.Sent.{Sent}
-use Rattle.turn_client_proto_step_laws.specs.Timers.Polling.{Answers, HasToReportIn, IsClosing, IsPolled, IsPolledBy, IsPolledIn, IsRefused, IsAgentPolled, AreAllocationsPolled, after_asking, after_time, answer_of, cadence, ended_of, left, longest_pause, socket_for, wait_of, wait_to_send}
+use Rattle.turn_client_proto_messages.specs.Api.Options.{cadence}
+use Rattle.turn_client_proto_step_laws.specs.Timers.Polling.{Answers, HasToReportIn, IsClosing, IsPolled, IsPolledBy, IsPolledIn, IsRefused, IsAgentPolled, AreAllocationsPolled, after_asking, after_time, answer_of, ended_of, left, longest_pause, pace_of, socket_for, wait_of, wait_to_send}
 use Rattle.turn_client_proto_handshake_laws.specs.Sent.{Beginning}
 use Rattle.turn_client_proto_progress_laws.specs.Keeping.{IsRefreshing, IsTerm, Term, end_of}
 use Rattle.turn_client_proto_progress_laws.specs.Refreshed.{refresh_requested, refresh_sent}
@@ -78,6 +79,9 @@ module _ (b : Beginning) (c : Choice) (address : SocketAddr) (t : Term) (earlier
         waits = w.settings.waits;
         allocates = w.settings.allocates;
         families = w.settings.families;
+        options = w.settings.options;
+        pace = w.settings.pace;
+        usual = w.settings.usual;
       };
       requested = w.requested;
       phase = w.phase;
@@ -108,6 +112,9 @@ module _ (b : Beginning) (c : Choice) (address : SocketAddr) (t : Term) (earlier
         waits = w.settings.waits;
         allocates = w.settings.allocates;
         families = w.settings.families;
+        options = w.settings.options;
+        pace = w.settings.pace;
+        usual = w.settings.usual;
       };
       requested = only;
       phase = w.phase;
@@ -126,20 +133,20 @@ module _ (b : Beginning) (c : Choice) (address : SocketAddr) (t : Term) (earlier
         (s.sent_is, subst (λ (x : Protocol). IsRefreshingOn b c address t earlier number made (many + 1) now queue events x) (sym s.after) (again_after s.is_requested))
 
     -- The outcome, by the queue.
-    waiting : (sent : Option Sent) (q : Protocol) → IsQuiet b a many now → IsTransmitted p now sent q → MatchBool (is_resting p.last_send now) (IsAnswerSent (find is_answer queue) p sent q) (IsNextSent queue p now sent q)
-    waiting sent q quiet is = subst (λ (l : List Queued). MatchBool (is_resting p.last_send now) (IsAnswerSent (find is_answer l) p sent q) (IsNextSent l p now sent q)) w.queue_is
+    waiting : (sent : Option Sent) (q : Protocol) → IsQuiet b a many now → IsTransmitted p now sent q → MatchBool (is_resting (pace_of p) p.last_send now) (IsAnswerSent (find is_answer queue) p sent q) (IsNextSent queue p now sent q)
+    waiting sent q quiet is = subst (λ (l : List Queued). MatchBool (is_resting (pace_of p) p.last_send now) (IsAnswerSent (find is_answer l) p sent q) (IsNextSent l p now sent q)) w.queue_is
         (sent_fresh b a many p w.settings w.requested now sent q quiet is)
 
     pub rests : (sent : Option Sent) (q : Protocol) → IsQuiet b a many now → find is_answer queue ≡ None → now < time_after last cadence → IsTransmitted p now sent q → (sent ≡ None) × (q ≡ p)
     rests sent q quiet unanswered soon transmitted =
-        let resting : is_resting p.last_send now ≡ true = ap (λ (l : Option ℕ). is_resting l now) w.last_send ∙ lt-ltb now (time_after last cadence) soon in
+        let resting : is_resting (pace_of p) p.last_send now ≡ true = ap (λ (l : Option ℕ). is_resting (pace_of p) l now) w.last_send ∙ (ap (λ (n : ℕ). is_resting n (Some last) now) (w.settings.pace ∙ w.settings.usual.pace) ∙ lt-ltb now (time_after last cadence) soon) in
         subst (λ (o : Option Queued). IsAnswerSent o p sent q) unanswered
-        (where_true (IsAnswerSent (find is_answer queue) p sent q) (IsNextSent queue p now sent q) (is_resting p.last_send now) resting (waiting sent q quiet transmitted))
+        (where_true (IsAnswerSent (find is_answer queue) p sent q) (IsNextSent queue p now sent q) (is_resting (pace_of p) p.last_send now) resting (waiting sent q quiet transmitted))
 
     pub continues : (sent : Option Sent) (q : Protocol) → IsQuiet b a many now → time_after last cadence ≤ now → IsTransmitted p now sent q → IsNextSent queue p now sent q
     continues sent q quiet late transmitted =
-        let awake : is_resting p.last_send now ≡ false = ap (λ (l : Option ℕ). is_resting l now) w.last_send ∙ le-ltb now (time_after last cadence) late in
-        where_false (IsAnswerSent (find is_answer queue) p sent q) (IsNextSent queue p now sent q) (is_resting p.last_send now) awake (waiting sent q quiet transmitted)
+        let awake : is_resting (pace_of p) p.last_send now ≡ false = ap (λ (l : Option ℕ). is_resting (pace_of p) l now) w.last_send ∙ (ap (λ (n : ℕ). is_resting n (Some last) now) (w.settings.pace ∙ w.settings.usual.pace) ∙ le-ltb now (time_after last cadence) late) in
+        where_false (IsAnswerSent (find is_answer queue) p sent q) (IsNextSent queue p now sent q) (is_resting (pace_of p) p.last_send now) awake (waiting sent q quiet transmitted)
 
     left_after : (rest : List Queued) → IsRefreshingOn b c address t earlier number made many now rest events (after_sending now (record p { queue = rest }))
     left_after rest = record {
@@ -151,6 +158,9 @@ module _ (b : Beginning) (c : Choice) (address : SocketAddr) (t : Term) (earlier
         waits = w.settings.waits;
         allocates = w.settings.allocates;
         families = w.settings.families;
+        options = w.settings.options;
+        pace = w.settings.pace;
+        usual = w.settings.usual;
       };
       requested = w.requested;
       phase = w.phase;
@@ -173,8 +183,8 @@ module _ (b : Beginning) (c : Choice) (address : SocketAddr) (t : Term) (earlier
 
     pub stills : (sent : Option Sent) (q : Protocol) → queue ≡ [] → IsQuiet b a many now → IsTransmitted p now sent q → (sent ≡ None) × (q ≡ p)
     stills sent q none quiet is =
-        let fresh = subst (λ (l : List Queued). MatchBool (is_resting p.last_send now) (IsAnswerSent (find is_answer l) p sent q) (IsNextSent l p now sent q)) none (waiting sent q quiet is) in
-        either (IsStill p sent q) (is_resting p.last_send now) (or_none (is_resting p.last_send now) then_still fresh)
+        let fresh = subst (λ (l : List Queued). MatchBool (is_resting (pace_of p) p.last_send now) (IsAnswerSent (find is_answer l) p sent q) (IsNextSent l p now sent q)) none (waiting sent q quiet is) in
+        either (IsStill p sent q) (is_resting (pace_of p) p.last_send now) (or_none (is_resting (pace_of p) p.last_send now) then_still fresh)
       where
         then_still : IsStarted p.phase p now sent q → IsStill p sent q
         then_still started =
@@ -192,7 +202,7 @@ module _ (b : Beginning) (c : Choice) (address : SocketAddr) (t : Term) (earlier
       before = let f = far b address t is in omega (arith, f, lasts)
 
       abbrev pause : ℕ
-      pause = wait_to_send p.last_send p.queue now (time_after now longest_pause)
+      pause = wait_to_send (pace_of p) p.last_send p.queue now (time_after now longest_pause)
 
       left_here : left None now p ≡ pending b address t earlier number now ∷ []
       left_here = ap (λ (l : List Allocation). map_list (polled None) (stored None now l)) w.allocations ∙ left_is b address t earlier number now before

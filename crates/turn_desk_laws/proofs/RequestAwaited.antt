@@ -30,7 +30,7 @@ use Rattle.turn_client_proto_progress_laws.proofs.Asking.Own.{AreRead, DoClaim, 
 use Rattle.turn_client_proto_step_laws.specs.Recv.ClientState.{ClientState, Protocol}
 use Rattle.turn_client_proto_step_laws.specs.Recv.Control.{Datagrams, Open}
 use Rattle.turn_client_proto_step_laws.specs.Recv.Receipts.{IsWaitingGiven}
-use Rattle.turn_client_proto_step_laws.specs.Timers.Polling.{cadence}
+use Rattle.turn_client_proto_messages.specs.Api.Options.{cadence}
 use Rattle.turn_desk_world_laws.specs.TurnClientProtoConnection.Streams.{emptied_in}
 use Rattle.turn_desk_world_laws.specs.World.Calls.{IsBindReported, IsPermissionReported}
 use Rattle.turn_desk_world_laws.specs.World.Model.{World}
@@ -224,7 +224,7 @@ module _ (read : AreRead) (claim : DoClaim) (plan : Plan) (old : World) (may : M
             let stands = subst (λ (x : Protocol). IsQueuedAfter request ahead x) same behind.is in
             let d = draws_on (control_at plan.client.transport []) w v core now ret s.ready.client.there (passes now until client_end next.early range) step in
             drawn_so plan request ahead now w v ret core d.core s.ready.client.there d.there d.by_draw
-            (drawn_in_time request ahead core stands now d.by_draw.given d.core (not_resting position.sent now core s.ready.client.is.1 late) d.by_draw.transmitted)
+            (drawn_in_time request ahead core stands now d.by_draw.given d.core (not_resting position.sent now core (s.ready.client.is.0.speaks.settings.pace ∙ s.ready.client.is.0.speaks.settings.usual.pace) s.ready.client.is.1 late) d.by_draw.transmitted)
 
 -- ---- the call that makes it
 

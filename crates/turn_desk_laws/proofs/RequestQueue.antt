@@ -44,7 +44,8 @@ use Rattle.turn_client_proto_progress_laws.specs.Speaking.{Speaks}
 use Rattle.turn_client_proto_progress_laws.proofs.Asking.Asks.{made, own_request as permission_own}
 use Rattle.turn_client_proto_progress_laws.proofs.Asking.Binds.{bound, own_request as channel_own}
 use Rattle.turn_client_proto_messages.specs.StunTypesBase.Times.{time_after}
-use Rattle.turn_client_proto_step_laws.specs.Timers.Polling.{cadence}
+use Rattle.turn_client_proto_messages.specs.Api.Options.{cadence}
+use Rattle.turn_client_proto_step_laws.specs.Timers.Polling.{pace_of}
 use Rattle.turn_client_proto_progress_laws.proofs.Asking.Between.{tested}
 use Rattle.turn_client_proto_progress_laws.proofs.Asking.Tools.{refused_or}
 use Rattle.turn_client_proto_progress_laws.proofs.Asking.Lists.{not_both}
@@ -282,9 +283,9 @@ module _ (request : List ℕ) (ahead : ℕ) (p : Protocol) (b : IsQueuedAfter re
   again_outstanding : (s : Sent) (q : Protocol) → IsRepeated p at s q → IsOutstanding s.bytes p
   again_outstanding s q is = record { number = is.number; transaction = is.transaction; there = is.least.present; bytes_are = sym (ap (λ (x : Sent). x.bytes) is.is_sent) }
 
-  pub drawn_in_time : (sent : Option Sent) (q : Protocol) → is_resting p.last_send at ≡ false → IsTransmitted p at sent q → IsInTime request ahead p sent q
+  pub drawn_in_time : (sent : Option Sent) (q : Protocol) → is_resting (pace_of p) p.last_send at ≡ false → IsTransmitted p at sent q → IsInTime request ahead p sent q
   drawn_in_time sent q free (Again s is r) = Repeats s is (again_outstanding s q r) (stays_behind q (again_queue s q r))
-  drawn_in_time sent q free (Fresh none is) = tested (is_resting p.last_send at) (λ rests _. not_both (is_resting p.last_send at) rests free) (λ _ x. next_in_time sent q x) is
+  drawn_in_time sent q free (Fresh none is) = tested (is_resting (pace_of p) p.last_send at) (λ rests _. not_both (is_resting (pace_of p) p.last_send at) rests free) (λ _ x. next_in_time sent q x) is
 
   of_in_time : (sent : Option Sent) (q : Protocol) → IsInTime request ahead p sent q → IsBehind request ahead sent q
   of_in_time sent q (Repeats s is out behind) = Left ahead (omega arith) behind
@@ -293,7 +294,7 @@ module _ (request : List ℕ) (ahead : ℕ) (p : Protocol) (b : IsQueuedAfter re
 
   pub drawn_behind : (sent : Option Sent) (q : Protocol) → IsTransmitted p at sent q → IsBehind request ahead sent q
   drawn_behind sent q (Again s is r) = Left ahead (omega arith) (stays_behind q (again_queue s q r))
-  drawn_behind sent q (Fresh none is) = tested (is_resting p.last_send at) (λ _ x. answer_behind (find is_answer p.queue) sent q x) (λ _ x. of_in_time sent q (next_in_time sent q x)) is
+  drawn_behind sent q (Fresh none is) = tested (is_resting (pace_of p) p.last_send at) (λ _ x. answer_behind (find is_answer p.queue) sent q x) (λ _ x. of_in_time sent q (next_in_time sent q x)) is
 
 -- ---- the time of the last message
 
@@ -321,7 +322,7 @@ module _ (p : Protocol) (at : ℕ) (sent : Option Sent) (q : Protocol) where
 
   pub drawn_last : p.phase ≡ Authenticated → IsTransmitted p at sent q → IsLast p at sent q
   drawn_last on (Again s is r) = inr (s, is, ap (λ (x : Protocol). x.last_send) r.after)
-  drawn_last on (Fresh none is) = tested (is_resting p.last_send at) (λ _ x. answer_last (find is_answer p.queue) x) (λ _ x. next_last on p.queue x) is
+  drawn_last on (Fresh none is) = tested (is_resting (pace_of p) p.last_send at) (λ _ x. answer_last (find is_answer p.queue) x) (λ _ x. next_last on p.queue x) is
 
 -- The time of the last message after a draw.
 abbrev pub sent_or : (at : ℕ) → Option Sent → (before : ℕ) → ℕ
@@ -335,10 +336,10 @@ last_on before at p q (Some s) early h (inl same) = λ last is. (let one = h las
 last_on before at p q (Some s) early h (inr new) = λ last is. (let same : at ≡ last = Prim.cc (sym new.2 ∙ is) in omega (arith, same))
 
 -- The client doesn't rest 50 ms after that time.
-pub not_resting : (sent at : ℕ) (p : Protocol) → HasLastSent sent p → time_after sent cadence ≤ at → is_resting p.last_send at ≡ false
-not_resting sent at p h late = by p.last_send refl
+pub not_resting : (sent at : ℕ) (p : Protocol) → pace_of p ≡ cadence → HasLastSent sent p → time_after sent cadence ≤ at → is_resting (pace_of p) p.last_send at ≡ false
+not_resting sent at p pace h late = ap (λ (n : ℕ). is_resting n p.last_send at) pace ∙ by p.last_send refl
   where
-    by : (last : Option ℕ) → p.last_send ≡ last → is_resting last at ≡ false
+    by : (last : Option ℕ) → p.last_send ≡ last → is_resting cadence last at ≡ false
     by None is = refl
     by (Some last) is = (let one = h last is in le-ltb at (time_after last cadence) (omega (arith, one, late)))
 

@@ -14,7 +14,7 @@ use Rattle.turn_desk_event.specs.StunProtoTransaction.Schedule.{end_at, slot_at}
 use Rattle.turn_client_proto_api.specs.StunProtoAuth.Claims.{claimed}
 use Rattle.turn_client_proto_messages.specs.StunProtoClient.Challenges.{ChallengeFields, challenge_visible}
 use Rattle.turn_client_proto_api.specs.Sent.{Sent, sent_of}
-use Rattle.turn_client_proto_step_laws.specs.Timers.Polling.{cadence}
+use Rattle.turn_client_proto_messages.specs.Api.Options.{cadence}
 use Rattle.turn_client_proto_handshake_laws.specs.Driving.{client_end}
 use Rattle.turn_client_proto_handshake_laws.specs.Requested.{count_of}
 use Rattle.turn_desk_event.specs.declared.answer.Answer.{Answer}

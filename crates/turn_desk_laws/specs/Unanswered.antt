@@ -17,7 +17,7 @@ use Rattle.turn_client_proto_api.specs.declared.event.TurnEvent.{TurnEvent}
 use Rattle.turn_client_proto_handshake_laws.specs.Choosing.{IsAnsweredBy}
 use Rattle.turn_client_proto_handshake_laws.specs.Driving.{client_end}
 use Rattle.turn_client_proto_handshake_laws.specs.Requested.{count_of}
-use Rattle.turn_client_proto_handshake_laws.specs.Sent.{Begins, HasRoom, Sending, first_number, first_sent, sent_at}
+use Rattle.turn_client_proto_handshake_laws.specs.Sent.{Begins, HasRoom, IsUsual, Sending, first_number, first_sent, sent_at}
 use Rattle.turn_client_proto_handshake_laws.specs.Stages.{HasEnded, failures}
 use Rattle.turn_desk_event.specs.declared.answer.Answer.{Answer}
 use Rattle.turn_desk_event.specs.declared.answer.Answer.TheVariants as answer
@@ -34,11 +34,12 @@ use Rattle.turn_desk_progress_laws.specs.Scripts.{BringsOn, IsLook, Plan}
 -- ---- where it begins
 
 -- The client is new, and nothing has come to it. Its user name fits into a request, and it is configured for
--- at most two address families. Of the plan only the client counts, whose first draw (the first call of
+-- at most two address families, and as usual (`IsUsual`). Of the plan only the client counts, whose first draw (the first call of
 -- `poll_transmit`) is at `plan.client.made`. Nothing is said of the server core.
 pub record HasNewClient (plan : Plan) (w : World) : Type 0 where
   pub client : HasClient plan [] w (λ p. Begins plan.client p)
   pub room : HasRoom plan.client.config
+  pub usual : IsUsual plan.client.config
 
 -- ---- where it is
 

@@ -35,7 +35,8 @@ ghost use Rattle.turn_client_proto_messages.specs.Reported.{connection_reported}
 ghost use Rattle.turn_client_proto_messages.specs.Waiting.{Queued, is_answer};
 ghost use Rattle.turn_client_proto_step_laws.specs.Recv.Connecting.{IsConnectAnswered};
 ghost use Rattle.turn_client_proto_step_laws.specs.Timers.Drawing.{IsTransmitted};
-ghost use Rattle.turn_client_proto_step_laws.specs.Timers.Polling.{IsPolled, cadence};
+ghost use Rattle.turn_client_proto_messages.specs.Api.Options.{cadence};
+ghost use Rattle.turn_client_proto_step_laws.specs.Timers.Polling.{IsPolled};
 ghost use Rattle.turn_client_proto_handshake_laws.specs.Core.Permitting.{IsPermissionAnswered};
 ghost use Rattle.turn_client_proto_handshake_laws.specs.Core.Receiving.{IsProcessed};
 ghost use Rattle.turn_client_proto_handshake_laws.specs.Core.Responding.{most_resends};

@@ -13,7 +13,7 @@ ghost use Rattle.std.specs.declared.net.socket_addr.SocketAddr.{SocketAddr};
 ghost use Rattle.turn_desk_core.specs.StunTypesBase.Times.{time_after};
 ghost use Rattle.turn_desk_core.specs.StunTypesBase.declared.transport.TransportType.{TransportType};
 ghost use Rattle.turn_client_proto_messages.specs.StunProtoTransaction.Schedule.{end_at};
-ghost use Rattle.turn_client_proto_step_laws.specs.Timers.Polling.{cadence};
+ghost use Rattle.turn_client_proto_messages.specs.Api.Options.{cadence};
 ghost use Rattle.turn_client_proto_handshake_laws.specs.Core.Responding.{most_resends};
 ghost use Rattle.turn_desk_world_laws.specs.World.Model.{World};
 ghost use Rattle.turn_desk_world_laws.specs.World.Runs.{IsRun, IsStep};

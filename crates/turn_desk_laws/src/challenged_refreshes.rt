@@ -40,7 +40,8 @@ ghost use Rattle.turn_client_proto_step_laws.specs.Recv.Control.{Datagrams, Open
 ghost use Rattle.turn_client_proto_step_laws.specs.Recv.Receipts.{IsReceived};
 ghost use Rattle.turn_client_proto_step_laws.specs.Recv.SocketChunks.{raw_waiting};
 ghost use Rattle.turn_client_proto_step_laws.specs.Timers.Drawing.{IsTransmitted};
-ghost use Rattle.turn_client_proto_step_laws.specs.Timers.Polling.{IsPolled, cadence};
+ghost use Rattle.turn_client_proto_messages.specs.Api.Options.{cadence};
+ghost use Rattle.turn_client_proto_step_laws.specs.Timers.Polling.{IsPolled};
 ghost use Rattle.turn_client_proto_handshake_laws.specs.Core.Receiving.{IsProcessed};
 ghost use Rattle.turn_client_proto_handshake_laws.specs.Core.declared.protocol.Protocol.{Protocol};
 ghost use Rattle.turn_client_proto_handshake_laws.specs.Choosing.{Choice, IsAnsweredBy, IsChoice};

@@ -11,7 +11,7 @@ ghost use Rattle.turn_client_proto_messages.specs.StunProtoAuth.Claims.{claimed}
 ghost use Rattle.turn_client_proto_messages.specs.StunProtoClient.Challenges.{ChallengeFields};
 ghost use Rattle.turn_client_proto_messages.specs.StunProtoClient.Challenges.{challenge_visible};
 ghost use Rattle.turn_client_proto_api.specs.Sent.{Sent, sent_of};
-ghost use Rattle.turn_client_proto_step_laws.specs.Timers.Polling.{cadence};
+ghost use Rattle.turn_client_proto_messages.specs.Api.Options.{cadence};
 ghost use Rattle.turn_desk_event.specs.declared.answer.Answer.TheVariants.{Nothing, Transmit};
 ghost use Rattle.turn_desk_world_laws.specs.World.Model.{World};
 ghost use Rattle.turn_desk_progress_laws.specs.Loops.{IsNoneDue, IsTransmissionDue};

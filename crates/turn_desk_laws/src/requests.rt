@@ -11,7 +11,7 @@ ghost use Rattle.std.specs.declared.net.socket_addr.SocketAddr.{SocketAddr};
 ghost use Rattle.turn_desk_core.specs.StunTypesBase.Times.{time_after};
 ghost use Rattle.turn_desk_core.specs.StunTypesBase.declared.transport.TransportType.{TransportType};
 ghost use Rattle.turn_client_proto_api.specs.Sent.{Sent};
-ghost use Rattle.turn_client_proto_step_laws.specs.Timers.Polling.{cadence};
+ghost use Rattle.turn_client_proto_messages.specs.Api.Options.{cadence};
 ghost use Rattle.turn_client_proto_handshake_laws.specs.Driving.{client_end};
 ghost use Rattle.turn_client_proto_progress_laws.specs.Asking.{MayBind, MayPermit};
 ghost use Rattle.turn_client_proto_progress_laws.specs.Speaking.{Speaks};

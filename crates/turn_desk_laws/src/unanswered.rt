@@ -16,7 +16,7 @@ ghost use Rattle.turn_desk_core.specs.declared.decision.Decision.{Decision};
 ghost use Rattle.turn_client_proto_api.specs.declared.event.TurnEvent.{TurnEvent};
 ghost use Rattle.turn_client_proto_handshake_laws.specs.Coming.{IsPartOf};
 ghost use Rattle.turn_client_proto_handshake_laws.specs.Driving.{client_end};
-ghost use Rattle.turn_client_proto_handshake_laws.specs.Sent.{HasRoom, Sending};
+ghost use Rattle.turn_client_proto_handshake_laws.specs.Sent.{HasRoom, IsUsual, Sending};
 ghost use Rattle.turn_desk_event.specs.declared.answer.Answer.{Answer};
 ghost use Rattle.turn_desk_event.specs.declared.event.ClientCall.{ClientCall};
 ghost use Rattle.turn_desk_event.specs.declared.event.ClientCall.TheVariants.{Poll, PollRecv};
@@ -133,6 +133,7 @@ pub fn unanswered_events_lead_on()
     ensures { (plan : Plan) (w v : World) (reported : List TurnEvent) (sendings : List Sending)
         (position next : Position) (event : Event) (ret : Answer)
         → HasRoom plan.client.config
+        → IsUsual plan.client.config
         → Goes plan position event ret next
         → IsAtPosition plan reported sendings position w
         → IsStep event w ret v
@@ -149,6 +150,7 @@ pub fn unanswered_clients_ask_again()
     ensures asks { (plan : Plan) (w v : World) (reported : List TurnEvent) (request : RequestState)
         (t : Timing) (head : List ℕ) (now : ℕ) (ret : Answer)
         → HasRoom plan.client.config
+        → IsUsual plan.client.config
         → IsStageOf plan reported request t head w
         → MayDraw plan request now
         → now ≤ client_end
@@ -159,6 +161,7 @@ pub fn unanswered_clients_ask_again()
         (sendings : List Sending) (request : RequestState) (t : Timing) (head : List ℕ) (now : ℕ)
         (ret : Answer)
         → HasRoom plan.client.config
+        → IsUsual plan.client.config
         → IsStageOf plan reported request t head w
         → MayDraw plan request now
         → now ≤ client_end

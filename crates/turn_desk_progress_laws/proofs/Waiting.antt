@@ -4,7 +4,7 @@ use Rattle.std.specs.List.{list_any}
 use Rattle.turn_client_proto_api.specs.declared.event.TurnEvent.{TurnEvent}
 use Rattle.turn_client_proto_handshake_laws.specs.Choosing.{Choice}
 use Rattle.turn_client_proto_api.specs.Sent.{Sent}
-use Rattle.turn_client_proto_step_laws.specs.Timers.Polling.{cadence}
+use Rattle.turn_client_proto_messages.specs.Api.Options.{cadence}
 use Rattle.turn_client_proto_messages.specs.Waiting.{Queued, is_answer}
 use Rattle.turn_client_proto_handshake_laws.specs.Stages.{signed_queued}
 use Rattle.turn_client_proto_progress_laws.specs.Keeping.{IsTerm, Term, due_of, next_of}

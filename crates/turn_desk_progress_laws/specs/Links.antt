@@ -16,7 +16,7 @@ use Rattle.turn_client_proto_messages.specs.Allocation.Refreshing.{second}
 use Rattle.turn_client_proto_api.specs.declared.answer.Socket5Tuple.{Socket5Tuple}
 use Rattle.turn_client_proto_api.specs.Sent.{Sent, sent_of}
 use Rattle.turn_client_proto_handshake_laws.specs.Driving.{client_end}
-use Rattle.turn_client_proto_step_laws.specs.Timers.Polling.{cadence}
+use Rattle.turn_client_proto_messages.specs.Api.Options.{cadence}
 use Rattle.turn_client_proto_progress_laws.specs.Resting.{refresh_due}
 use Rattle.turn_desk_event.specs.declared.answer.Answer.{Answer}
 use Rattle.turn_desk_event.specs.declared.answer.Answer.TheVariants as answer

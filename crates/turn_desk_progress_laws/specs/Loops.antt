@@ -12,11 +12,11 @@ use Rattle.turn_desk_event.specs.StunProtoTransaction.Schedule.{end_at, slot_at}
 use Rattle.turn_client_proto_messages.specs.StunProtoClient.Digests.{IsRight}
 use Rattle.turn_client_proto_api.specs.Sent.{Sent, sent_of}
 use Rattle.turn_client_proto_step_laws.specs.Sound.{IsWhole}
-use Rattle.turn_client_proto_step_laws.specs.Timers.Polling.{cadence}
+use Rattle.turn_client_proto_messages.specs.Api.Options.{cadence}
 use Rattle.turn_client_proto_handshake_laws.specs.Choosing.{HasTextName}
 use Rattle.turn_client_proto_handshake_laws.specs.Driving.{client_end}
 use Rattle.turn_client_proto_handshake_laws.specs.Requested.{count_of}
-use Rattle.turn_client_proto_handshake_laws.specs.Sent.{Begins, HasRoom, first_sent}
+use Rattle.turn_client_proto_handshake_laws.specs.Sent.{Begins, HasRoom, IsUsual, first_sent}
 use Rattle.turn_client_proto_handshake_laws.specs.Stages.{AsksForOne}
 use Rattle.turn_desk_event.specs.declared.answer.Answer.{Answer}
 use Rattle.turn_desk_event.specs.declared.answer.Answer.TheVariants as answer
@@ -38,11 +38,12 @@ use Rattle.turn_desk_progress_laws.specs.Scripts.{replied_second, transmitted_fi
 -- first call of `poll_transmit`), at `plan.client.made`: the time of a second draw makes no difference.
 --
 -- - The client is new, and nothing has come to it. Its user name is UTF-8 and fits into a request, and it is
---   configured for at most two address families.
+--   configured for at most two address families, and as usual (`IsUsual`).
 -- - The server core has its user, stores nothing for its address, and has no two users with the same hash.
 pub record MayBegin (plan : Plan) (w : World) : Type 0 where
   pub client : HasClient plan [] w (λ p. Begins plan.client p)
   pub room : HasRoom plan.client.config
+  pub usual : IsUsual plan.client.config
   pub text : HasTextName plan.client.config
   pub unknown : map.get w.desk.auth.clients plan.client.here ≡ None
   pub user : map.get w.desk.auth.users plan.client.config.credentials.username

@@ -23,8 +23,8 @@ use Rattle.turn_client_proto_step_laws.specs.Recv.Control.{Control, Datagrams, O
 use Rattle.turn_client_proto_api.specs.Sent.{Sent}
 use Rattle.turn_client_proto_messages.specs.Allocation.Listed.{relayed_listed}
 use Rattle.turn_client_proto_step_laws.specs.Recv.ClientState.{ClientState, Protocol}
-use Rattle.turn_client_proto_step_laws.specs.Timers.Polling.{cadence}
-use Rattle.turn_client_proto_handshake_laws.specs.Sent.{Begins, HasRoom}
+use Rattle.turn_client_proto_messages.specs.Api.Options.{cadence}
+use Rattle.turn_client_proto_handshake_laws.specs.Sent.{Begins, HasRoom, IsUsual}
 use Rattle.turn_client_proto_handshake_laws.specs.Choosing.{HasTextName}
 use Rattle.turn_client_proto_handshake_laws.specs.Driving.{client_end}
 use Rattle.turn_client_proto_handshake_laws.specs.Stages.{created, failures}
@@ -68,13 +68,14 @@ pub record HasClient (plan : Plan) (head : List ℕ) (w : World) (Is : Protocol 
 -- The state in which an honest run begins:
 --
 -- - The client is new, and nothing has come to it. Its user name is UTF-8 and fits into a request, and it is
---   configured for at most two address families.
+--   configured for at most two address families, and as usual (`IsUsual`).
 -- - The server core has its user, stores nothing for its address, and has no two users with the same hash.
 -- - The second call of `poll_transmit` is in time (`IsTimely`), and before the nonce of the first reply
 --   expires.
 pub record IsFresh (plan : Plan) (w : World) : Type 0 where
   pub client : HasClient plan [] w (λ p. Begins plan.client p)
   pub room : HasRoom plan.client.config
+  pub usual : IsUsual plan.client.config
   pub text : HasTextName plan.client.config
   pub unknown : map.get w.desk.auth.clients plan.client.here ≡ None
   pub user : map.get w.desk.auth.users plan.client.config.credentials.username

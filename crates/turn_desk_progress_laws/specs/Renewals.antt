@@ -11,7 +11,7 @@ use Rattle.turn_desk_core.specs.TurnTypesAttributes.TurnRegistry.{lifetime_kind,
 use Rattle.turn_desk_core.specs.TurnTypesPeer.TurnShows.{number_visible}
 use Rattle.turn_client_proto_messages.specs.Allocation.Listed.{relayed_listed}
 use Rattle.turn_client_proto_api.specs.Sent.{Sent}
-use Rattle.turn_client_proto_messages.specs.Requests.{allocation_lifetime}
+use Rattle.turn_client_proto_messages.specs.Api.Options.{allocation_lifetime}
 use Rattle.turn_desk_world_laws.specs.World.Model.{World}
 use Rattle.turn_desk_progress_laws.specs.Promises.{HasClient, IsOwnSent, IsStrongestOf, key_in_realm}
 use Rattle.turn_desk_progress_laws.specs.Scripts.{Plan}

@@ -7,7 +7,7 @@ use Rattle.turn_client_proto_api.specs.declared.event.TurnEvent.{TurnEvent}
 use Rattle.turn_client_proto_handshake_laws.specs.Choosing.{Choice, IsAnsweredBy, IsChoice}
 use Rattle.turn_client_proto_api.specs.Sent.{Sent}
 use Rattle.turn_client_proto_handshake_laws.specs.Driving.{client_end}
-use Rattle.turn_client_proto_step_laws.specs.Timers.Polling.{cadence}
+use Rattle.turn_client_proto_messages.specs.Api.Options.{cadence}
 use Rattle.turn_client_proto_messages.specs.Waiting.{Queued}
 use Rattle.turn_client_proto_handshake_laws.specs.Coming.{IsPartOf}
 use Rattle.turn_client_proto_handshake_laws.specs.Stages.{Holds, created, signed_queued}

@@ -23,7 +23,7 @@ ghost use Rattle.turn_desk_core.specs.StunTypesBase.declared.transport.Transport
 ghost use Rattle.turn_client_proto_api.specs.declared.answer.Socket5Tuple.{Socket5Tuple};
 ghost use Rattle.turn_client_proto_api.specs.Sent.{Sent};
 ghost use Rattle.turn_client_proto_handshake_laws.specs.Driving.{client_end};
-ghost use Rattle.turn_client_proto_step_laws.specs.Timers.Polling.{cadence};
+ghost use Rattle.turn_client_proto_messages.specs.Api.Options.{cadence};
 ghost use Rattle.turn_desk_event.specs.declared.answer.Answer.{Answer};
 ghost use Rattle.turn_desk_event.specs.declared.answer.Answer.TheVariants.{Reply};
 ghost use Rattle.turn_desk_core.specs.declared.decision.Decision.{Decision};

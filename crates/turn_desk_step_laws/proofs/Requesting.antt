@@ -33,7 +33,10 @@ use Rattle.turn_client_proto_messages.specs.StunTypesIntegrity.Credentials.{Name
 use Rattle.turn_client_proto_messages.specs.ShortTexts.{HasShortTexts, IsShortChallenge}
 use Rattle.turn_client_proto_messages.proofs.StunProtoAuth.KnownLists.{known_is_accepted, list_length}
 use Rattle.turn_client_proto_messages.specs.OwnClaims.{own_claim, returned_list}
-use Rattle.turn_client_proto_messages.specs.Requests.{additional_family, dont_fragment_attribute, families_attributes, lifetime_attribute, allocation_lifetime, request_attributes, request_calls, request_text, request_type, transport_attribute}
+use Rattle.turn_client_proto_messages.specs.Api.declared.options.AllocateOptions.{AllocateOptions}
+use Rattle.turn_client_proto_messages.specs.Api.declared.options.RelayedPort.{RelayedPort}
+use Rattle.turn_client_proto_messages.specs.Api.declared.options.RelayedPort.TheVariants.{Any, Even, EvenAndNextReserved, Reserved}
+use Rattle.turn_client_proto_messages.specs.Requests.{additional_family, dont_fragment_attribute, families_attributes, families_beside, lifetime_attribute, port_attributes, relayed_attributes, request_attributes, request_calls, request_text, request_type, transport_attribute}
 use Rattle.turn_client_proto_messages.specs.declared.request.TurnRequest.{TurnRequest}
 use Rattle.turn_client_proto_messages.specs.declared.request.TurnRequest.TheVariants.{Allocate, FirstAllocate}
 use Rattle.turn_client_proto_messages.proofs.Claims.{plain_unsigned}
@@ -63,18 +66,24 @@ none_requested (IPV4 ∷ []) = none_here
 none_requested (IPV6 ∷ []) = none_more _ _ refl none_here
 none_requested (a ∷ b ∷ rest) = none_in_families (a ∷ b ∷ rest)
 
-module _ (auth : Client) (transport : TransportType) (families : List AddressFamily) (number : ℕ) where
+none_relayed : (families : List AddressFamily) (port : RelayedPort) → last_algorithm (port_attributes port ++ families_beside port families) ≡ None
+none_relayed families Any = none_requested families
+none_relayed families Even = none_more _ _ refl (none_requested families)
+none_relayed families EvenAndNextReserved = none_more _ _ refl (none_requested families)
+none_relayed families (Reserved token) = none_more _ _ refl none_here
+
+module _ (auth : Client) (transport : TransportType) (families : List AddressFamily) (options : AllocateOptions) (number : ℕ) where
   abbrev first : TurnRequest
-  first = FirstAllocate transport families
+  first = FirstAllocate transport families options
 
   abbrev own : List Attr
   own = request_attributes first number
 
   none_own : last_algorithm own ≡ None
   none_own =
-      none_more (lifetime_attribute allocation_lifetime) (transport_attribute transport ∷ dont_fragment_attribute ∷ families_attributes families) refl
-      (none_more (transport_attribute transport) (dont_fragment_attribute ∷ families_attributes families) refl
-      (none_more dont_fragment_attribute (families_attributes families) refl (none_requested families)))
+      none_more (lifetime_attribute options.lifetime) (transport_attribute transport ∷ dont_fragment_attribute ∷ relayed_attributes families options) refl
+      (none_more (transport_attribute transport) (dont_fragment_attribute ∷ relayed_attributes families options) refl
+      (none_more dont_fragment_attribute (relayed_attributes families options) refl (none_relayed families options.port)))
 
   pub is_served_first : IsReadAs (request_type first) number (attributes_of (request_type first) number (request_calls auth first number)) (request_text auth first number) → IsServed (request_text auth first number)
   is_served_first read = record { message = read.message; request = ap class_of read.kind; method = inl (inl (ap method_of read.kind)) }
@@ -169,7 +178,7 @@ as_requested server from auth s bytes short occurs claims right own =
 -- ---- the ALLOCATE
 
 -- A server core serves the request.
-pub is_served : (auth : Client) (transport : TransportType) (families : List AddressFamily) (number : ℕ)
-    → IsReadAs (request_type (Allocate transport families)) number (attributes_of (request_type (Allocate transport families)) number (request_calls auth (Allocate transport families) number)) (request_text auth (Allocate transport families) number)
-    → IsServed (request_text auth (Allocate transport families) number)
-is_served auth transport families number read = record { message = read.message; request = ap class_of read.kind; method = inl (inl (ap method_of read.kind)) }
+pub is_served : (auth : Client) (transport : TransportType) (families : List AddressFamily) (options : AllocateOptions) (number : ℕ)
+    → IsReadAs (request_type (Allocate transport families options)) number (attributes_of (request_type (Allocate transport families options)) number (request_calls auth (Allocate transport families options) number)) (request_text auth (Allocate transport families options) number)
+    → IsServed (request_text auth (Allocate transport families options) number)
+is_served auth transport families options number read = record { message = read.message; request = ap class_of read.kind; method = inl (inl (ap method_of read.kind)) }

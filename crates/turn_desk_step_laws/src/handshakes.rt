@@ -1,7 +1,7 @@
 //! A client's requests meet what a server core requires of them (RFC 8489, section 9.2; RFC 8656,
 //! section 7.2). The functions here do nothing; each contract is a theorem.
 
-ghost use Rattle.std.specs.Prelude.{◌≡◌, ◌≤◌, ◌<◌, ◌^◌, ℕ, List, true, Some, None, length};
+ghost use Rattle.std.specs.Prelude.{◌≡◌, ◌<◌, ◌^◌, ℕ, List, true, Some, None};
 ghost use Rattle.std.specs.FinMap as map;
 ghost use Rattle.std.specs.declared.net.socket_addr.SocketAddr.{SocketAddr};
 ghost use Rattle.rand_core.specs.Stream.{Stream};
@@ -12,10 +12,11 @@ ghost use Rattle.turn_client_proto_messages.specs.StunProtoClient.Client.{Client
 ghost use Rattle.turn_client_proto_messages.specs.StunProtoClient.Digests.{IsRight};
 ghost use Rattle.turn_desk_core.specs.StunProtoServer.Server.{Server, has_standing_nonce};
 ghost use Rattle.turn_desk_core.specs.StunProtoServer.Users.{HashesDiffer};
+ghost use Rattle.turn_client_proto_messages.specs.Api.declared.options.AllocateOptions.{AllocateOptions};
 ghost use Rattle.turn_client_proto_messages.specs.ReadTexts.{HasReadTexts};
 ghost use Rattle.turn_client_proto_messages.specs.Requests.{is_signed, request_text};
 ghost use Rattle.turn_client_proto_messages.specs.ShortTexts.{HasShortTexts};
-ghost use Rattle.turn_client_proto_messages.specs.ReportedRequests.{IsLawfulRequest};
+ghost use Rattle.turn_client_proto_messages.specs.ReportedRequests.{IsLawfulAllocate, IsLawfulRequest};
 ghost use Rattle.turn_client_proto_messages.specs.declared.request.TurnRequest.{TurnRequest as Request};
 ghost use Rattle.turn_client_proto_messages.specs.declared.request.TurnRequest.TheVariants.{Allocate, FirstAllocate};
 ghost use Rattle.turn_desk_core.specs.declared.decision.Decision.TheVariants as decision;
@@ -37,16 +38,16 @@ use turn_client_proto_messages::laws::{proof_requests_are_read, signed_requests_
 /// everything that it supports. (The request is served, and shows no integrity attribute.)
 pub fn first_requests_are_challenged()
     ensures { (old new : State) (from : SocketAddr) (auth : Client) (transport : TransportType)
-        (families : List AddressFamily) (number now : ℕ) (stream : Stream) (decision : Decision)
-        (reply : List ℕ)
+        (families : List AddressFamily) (options : AllocateOptions) (number now : ℕ)
+        (stream : Stream) (decision : Decision) (reply : List ℕ)
         → HasShortTexts auth
-        → length families ≤ 2
+        → IsLawfulAllocate families options
         → number < 2 ^ 96
         → map.get old.auth.clients from ≡ None
-        → IsAnswer old from (request_text auth (FirstAllocate transport families) number)
+        → IsAnswer old from (request_text auth (FirstAllocate transport families options) number)
         now stream decision reply new
         → IsFirstChallenge old from
-        (request_text auth (FirstAllocate transport families) number) now reply new }
+        (request_text auth (FirstAllocate transport families options) number) now reply new }
 {
     proof_requests_are_read();
     strangers_are_challenged();
@@ -83,11 +84,12 @@ pub fn signed_requests_are_of_users()
 /// response is signed under the client's key, by the algorithm that the client chose.
 pub fn signed_allocates_are_granted()
     ensures { (old new : State) (from : SocketAddr) (auth : Client) (transport : TransportType)
-        (families : List AddressFamily) (number now : ℕ) (stream : Stream) (s : Standing)
-        (relayed : List SocketAddr) (lifetime : ℕ) (reply : List ℕ)
+        (families : List AddressFamily) (options : AllocateOptions) (number now : ℕ)
+        (stream : Stream) (s : Standing) (relayed : List SocketAddr) (lifetime : ℕ)
+        (reply : List ℕ)
         → HasShortTexts auth
         → HasReadTexts auth
-        → length families ≤ 2
+        → IsLawfulAllocate families options
         → number < 2 ^ 96
         → standing_of auth ≡ Some s
         → IsOfServer old.auth from s
@@ -96,9 +98,9 @@ pub fn signed_allocates_are_granted()
         → are_relayable relayed ≡ true
         → AreReported number relayed
         → lifetime < 2 ^ 32
-        → IsAnswer old from (request_text auth (Allocate transport families) number)
+        → IsAnswer old from (request_text auth (Allocate transport families options) number)
         now stream (decision.Allocate relayed lifetime) reply new
-        → IsAllocationGranted old from (request_text auth (Allocate transport families) number)
+        → IsAllocationGranted old from (request_text auth (Allocate transport families options) number)
         transport relayed lifetime (user_of s) reply new }
 {
     proof_requests_are_read();

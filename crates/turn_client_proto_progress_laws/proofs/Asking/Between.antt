@@ -31,7 +31,6 @@ use Rattle.turn_client_proto_handshake_laws.specs.Core.Asking.{requested}
 use Rattle.turn_client_proto_handshake_laws.specs.Core.Binding.{IsBindAnswered, IsBindTried, IsChannelRequested, after_binding, allocation_to, asking_channel, bind_refusal, bind_refused_in}
 use Rattle.turn_client_proto_handshake_laws.specs.Core.Numbering.{IsNextNumber, after_number}
 use Rattle.turn_client_proto_handshake_laws.specs.Core.Permitting.{IsPermissionAnswered, IsPermissionRequested, after_asking as after_permission, allocation_for, permission_refusal, refused_in}
-use Rattle.turn_client_proto_messages.specs.Requests.{allocation_lifetime}
 use Rattle.turn_client_proto_messages.specs.ReportedRequests.{IsLawfulRequest}
 use Rattle.turn_client_proto_messages.specs.declared.request.TurnRequest.{TurnRequest}
 use Rattle.turn_client_proto_messages.specs.declared.request.TurnRequest.TheVariants.{ChannelBind, CreatePermission, Refresh as RefreshRequest}
@@ -43,7 +42,7 @@ use Rattle.turn_client_proto_messages.specs.Api.Sent.{Sent}
 use Rattle.turn_client_proto_step_laws.specs.Peers.Permission.Asking.{is_of, is_past, marked}
 use Rattle.turn_client_proto_step_laws.specs.Peers.Permission.Asking as permission_asking
 use Rattle.turn_client_proto_step_laws.specs.Peers.Permission.Wanting as permission_wanting
-use Rattle.turn_client_proto_step_laws.specs.Timers.Polling.{Answers, IsClosing, IsPolled, IsPolledBy, IsPolledIn, AreAllocationsPolled, after_asking as after_socket, after_time, answer_of, ended_of, left, socket_for}
+use Rattle.turn_client_proto_step_laws.specs.Timers.Polling.{Answers, IsClosing, IsPolled, IsPolledBy, IsPolledIn, AreAllocationsPolled, after_asking as after_socket, after_time, answer_of, ended_of, left, pace_of, socket_for}
 use Rattle.turn_client_proto_step_laws.specs.Timers.Reporting as reporting
 use Rattle.turn_client_proto_step_laws.specs.Timers.Wanting.{wanted as to_renew, wants}
 use Rattle.turn_client_proto_step_laws.specs.Timers.declared.wanting.Want.{Want}
@@ -95,14 +94,14 @@ module _ (b : Beginning) (realm : List ℕ) (address : SocketAddr) (wanted : Wan
     unfolding sent_at_once
     made_so =
         let changed = changed_one test f keeps in
-        requested_still b realm address wanted request until beyond Counts p h _ (record { server = refl; remote = refl; transport = refl; here = refl; waits = refl; allocates = refl; families = refl; auth = refl; phase = refl }) refl
+        requested_still b realm address wanted request until beyond Counts p h _ (record { server = refl; remote = refl; transport = refl; here = refl; waits = refl; allocates = refl; asked = refl; auth = refl; phase = refl }) refl
         changed.0 changed.1 changed.2 (others_made b realm address wanted request until beyond Counts p h other number at p.server lawful next) h.transaction (beside_made b realm address wanted request until beyond Counts p h other number at p.server lawful next) h.continues
 
   refreshed_so : (at : ℕ) (sent : Sent) (q : Protocol) → IsRefreshSent p at sent q → Asks q
   unfolding first_refreshed
   refreshed_so at sent q is = subst (λ (x : Protocol). Asks x) (sym is.after)
-      (made_so (RefreshRequest allocation_lifetime) is.number at (omega arith) is.made.is_next (wants at) (refreshing (record { number = is.number; lifetime = allocation_lifetime }))
-      (refresh_sent h.numbers h.number is.number (apart_from b realm address wanted request until beyond Counts p h is.number is.made.is_next) wanted allocation_lifetime h.allocation))
+      (made_so (RefreshRequest p.options.lifetime) is.number at is.lawful is.made.is_next (wants at) (refreshing (record { number = is.number; lifetime = p.options.lifetime }))
+      (refresh_sent h.numbers h.number is.number (apart_from b realm address wanted request until beyond Counts p h is.number is.made.is_next) wanted p.options.lifetime h.allocation))
 
   renewed_so : (at : ℕ) (ip : IpAddr) (sent : Sent) (q : Protocol) → IsRenewalSent p ip at sent q → Asks q
   unfolding first_permitted
@@ -125,7 +124,7 @@ module _ (b : Beginning) (realm : List ℕ) (address : SocketAddr) (wanted : Wan
   -- The client with another queue.
   queued_so : (queue : List Queued) (last : Option ℕ) → Asks (record p { queue = queue; last_send = last })
   queued_so queue last =
-      requested_still b realm address wanted request until beyond Counts p h _ (record { server = refl; remote = refl; transport = refl; here = refl; waits = refl; allocates = refl; families = refl; auth = refl; phase = refl }) refl
+      requested_still b realm address wanted request until beyond Counts p h _ (record { server = refl; remote = refl; transport = refl; here = refl; waits = refl; allocates = refl; asked = refl; auth = refl; phase = refl }) refl
       h.allocation h.only stored_itself h.others h.transaction h.outstanding h.continues
 
   answer_so : (found : Option Queued) (sent : Option Sent) (q : Protocol) → IsAnswerSent found p sent q → Asks q
@@ -140,18 +139,18 @@ module _ (b : Beginning) (realm : List ℕ) (address : SocketAddr) (wanted : Wan
   again_so at sent q is =
       let t = beside_sent b realm address wanted request until beyond Counts p h is.number is.transaction (agents.is_tcp p.agent.transport) is.least.present in
       subst (λ (y : Protocol). Asks y) (sym is.after)
-      (requested_still b realm address wanted request until beyond Counts p h _ (record { server = refl; remote = refl; transport = refl; here = refl; waits = refl; allocates = refl; families = refl; auth = refl; phase = refl }) refl
+      (requested_still b realm address wanted request until beyond Counts p h _ (record { server = refl; remote = refl; transport = refl; here = refl; waits = refl; allocates = refl; asked = refl; auth = refl; phase = refl }) refl
       h.allocation h.only stored_itself (others_sent b realm address wanted request until beyond Counts p h is.number is.transaction (agents.is_tcp p.agent.transport) is.least.present) t.0 t.1 t.2)
 
   pub generated_so : (at : ℕ) (sent : Option Sent) (q : Protocol) → IsTransmitted p at sent q → Asks q
   generated_so at sent q (Again one is r) = again_so at one q r
-  generated_so at sent q (Fresh none is) = tested (is_resting p.last_send at) (λ _ x. answer_so (find is_answer p.queue) sent q x) (λ _ x. next_so p.queue at sent q x) is
+  generated_so at sent q (Fresh none is) = tested (is_resting (pace_of p) p.last_send at) (λ _ x. answer_so (find is_answer p.queue) sent q x) (λ _ x. next_so p.queue at sent q x) is
 
   -- ---- an event is taken
 
   pub reported_so : (event : Option TurnEvent) (q : Protocol) → IsEventTaken p event q → Asks q
   reported_so event q is = subst (λ (y : Protocol). Asks y) (sym is.others)
-      (requested_still b realm address wanted request until beyond Counts p h _ (record { server = refl; remote = refl; transport = refl; here = refl; waits = refl; allocates = refl; families = refl; auth = refl; phase = refl }) refl
+      (requested_still b realm address wanted request until beyond Counts p h _ (record { server = refl; remote = refl; transport = refl; here = refl; waits = refl; allocates = refl; asked = refl; auth = refl; phase = refl }) refl
       h.allocation h.only stored_itself h.others h.transaction h.outstanding h.continues)
 
   -- ---- it is polled, not later
@@ -186,7 +185,7 @@ module _ (b : Beginning) (realm : List ℕ) (address : SocketAddr) (wanted : Wan
         closing = closing;
       })
       with_closing closing =
-          requested_still b realm address wanted request until beyond Counts p h _ (record { server = refl; remote = t.remote; transport = t.transport; here = t.here; waits = t.waits; allocates = refl; families = refl; auth = refl; phase = refl }) refl
+          requested_still b realm address wanted request until beyond Counts p h _ (record { server = refl; remote = t.remote; transport = t.transport; here = t.here; waits = t.waits; allocates = refl; asked = refl; auth = refl; phase = refl }) refl
           after polled_is (all_polled h.numbers h.number over at t.continues wanted h.allocation) t.others h.transaction t.there h.continues
 
       closing_so : (closing : List SocketAddr) (wish ret : TurnPollRet) (q : Protocol) → IsClosing closing wish (after_time over at k) ret q → Asks q
@@ -199,7 +198,7 @@ module _ (b : Beginning) (realm : List ℕ) (address : SocketAddr) (wanted : Wan
       socket_so w ret q is =
           let changed = changed_one has_unasked requested_in (socket_requested h.numbers h.number wanted h.allocation) in
           subst (λ (y : Protocol). Asks y) (sym is.1)
-          (requested_still b realm address wanted request until beyond Counts p h _ (record { server = refl; remote = t.remote; transport = t.transport; here = t.here; waits = t.waits; allocates = refl; families = refl; auth = refl; phase = refl }) refl
+          (requested_still b realm address wanted request until beyond Counts p h _ (record { server = refl; remote = t.remote; transport = t.transport; here = t.here; waits = t.waits; allocates = refl; asked = refl; auth = refl; phase = refl }) refl
           changed.0 changed.1 changed.2 t.others h.transaction t.there h.continues)
 
       standing_so : (found : Option Waiting) (wait : ℕ) (ret : TurnPollRet) (q : Protocol)
@@ -243,7 +242,7 @@ module _ (b : Beginning) (realm : List ℕ) (address : SocketAddr) (wanted : Wan
       unfolding requested
       waits_so =
           let changed = changed_one test f keeps in
-          requested_still b realm address wanted request until beyond Counts p h _ (record { server = refl; remote = refl; transport = refl; here = refl; waits = refl; allocates = refl; families = refl; auth = refl; phase = refl }) refl
+          requested_still b realm address wanted request until beyond Counts p h _ (record { server = refl; remote = refl; transport = refl; here = refl; waits = refl; allocates = refl; asked = refl; auth = refl; phase = refl }) refl
           changed.0 changed.1 changed.2 (others_made b realm address wanted request until beyond Counts p h other number at p.server lawful next) h.transaction (beside_made b realm address wanted request until beyond Counts p h other number at p.server lawful next) h.continues
 
     permission_made : (transport : TransportType) (ip : IpAddr) (q : Protocol) → IsPermissionRequested p transport ip at q → Asks q

@@ -286,7 +286,7 @@ module _ (b : Beginning) (realm : List ℕ) (address : SocketAddr) (p : Protocol
         let same = same_changed in
         let ends : end_at at p.agent.waits ≡ end_at at b.config.waits = ap (λ w. end_at at w) speaks.settings.waits in
         record {
-          speaks = speaks_on b realm address p after (record { server = refl; remote = refl; transport = refl; here = refl; waits = refl; allocates = refl; families = refl; auth = refl; phase = refl })
+          speaks = speaks_on b realm address p after (record { server = refl; remote = refl; transport = refl; here = refl; waits = refl; allocates = refl; asked = refl; auth = refl; phase = refl })
               (subst (λ (l : List Allocation). HasAtMost b address l) (sym only_after) (record { transport = same.transport_is ∙ own.transport; address_is = same.address_is ∙ own.address_is })) speaks;
           phase = continues p.phase is_bound.may.on;
           allocation = changed;

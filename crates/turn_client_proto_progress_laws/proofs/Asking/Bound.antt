@@ -155,6 +155,9 @@ module _ (b : Beginning) (realm : List ℕ) (address : SocketAddr) (channel : �
             waits = like.waits ∙ h.speaks.settings.waits;
             allocates = h.speaks.settings.allocates;
             families = h.speaks.settings.families;
+            options = h.speaks.settings.options;
+            pace = h.speaks.settings.pace;
+            usual = h.speaks.settings.usual;
           };
           phase = h.phase;
           allocation = bound_in_one channel peer number now s.one;

@@ -209,9 +209,9 @@ taken_asks b realm address wanted request until beyond Counts k k2 h (Nothing sa
 taken_asks b realm address wanted request until beyond Counts k k2 h (Raw after control) =
     let at : emptied k.core.allocations ≡ emptied (h.allocation ∷ []) = ap emptied h.only in
     subst (λ (x : Protocol). HasMadeRequest b realm address wanted request until beyond Counts x) (sym after) (elim (cases_Bool (is_any_raw h.allocation)) [
-      | inl raw ↦ requested_still b realm address wanted request until beyond Counts k.core h _ (record { server = refl; remote = refl; transport = refl; here = refl; waits = refl; allocates = refl; families = refl; auth = refl; phase = refl }) refl
+      | inl raw ↦ requested_still b realm address wanted request until beyond Counts k.core h _ (record { server = refl; remote = refl; transport = refl; here = refl; waits = refl; allocates = refl; asked = refl; auth = refl; phase = refl }) refl
           (emptied_in h.allocation) (at ∙ rw raw refl) (emptied_keeps h.numbers h.number wanted h.allocation) h.others h.transaction h.outstanding h.continues
-      | inr none ↦ requested_still b realm address wanted request until beyond Counts k.core h _ (record { server = refl; remote = refl; transport = refl; here = refl; waits = refl; allocates = refl; families = refl; auth = refl; phase = refl }) refl
+      | inr none ↦ requested_still b realm address wanted request until beyond Counts k.core h _ (record { server = refl; remote = refl; transport = refl; here = refl; waits = refl; allocates = refl; asked = refl; auth = refl; phase = refl }) refl
           h.allocation (at ∙ rw none refl) (itself h.numbers h.number wanted h.allocation) h.others h.transaction h.outstanding h.continues
     ])
 
@@ -233,6 +233,9 @@ taken_holds b Is on k k2 h (Raw after control) = subst (λ (x : Protocol). HasHe
         waits = h.settings.waits;
         allocates = h.settings.allocates;
         families = h.settings.families;
+        options = h.settings.options;
+        pace = h.settings.pace;
+        usual = h.settings.usual;
       };
       phase = h.phase;
       allocation = a;

@@ -213,6 +213,9 @@ module _ (b : Beginning) (realm : List ℕ) (address : SocketAddr) (ip : IpAddr)
         waits = like.waits ∙ h.speaks.settings.waits;
         allocates = h.speaks.settings.allocates;
         families = h.speaks.settings.families;
+        options = h.speaks.settings.options;
+        pace = h.speaks.settings.pace;
+        usual = h.speaks.settings.usual;
       };
       phase = h.phase;
       allocation = permitted ip (number_at reply) now a;

@@ -19,12 +19,14 @@ use Rattle.turn_client_proto_messages.specs.Allocation.declared.allocation.Alloc
 use Rattle.turn_client_proto_messages.specs.StunProtoAgent.declared.agent.StunAgentPollRet.{StunAgentPollRet}
 use Rattle.turn_client_proto_messages.specs.StunProtoAgent.declared.agent.StunAgentPollRet.TheVariants.{TransactionCancelled, TransactionTimedOut, WaitUntil}
 use Rattle.turn_client_proto_handshake_laws.specs.Core.Numbering.{IsNextNumber, awaits, is_taken}
+use Rattle.turn_client_proto_messages.specs.Api.declared.options.AllocateOptions.{AllocateOptions}
+use Rattle.turn_client_proto_messages.specs.StunTypesBase.declared.family.AddressFamily.{AddressFamily}
 use Rattle.turn_client_proto_messages.specs.Requests.{request_text}
 use Rattle.turn_client_proto_messages.specs.ReportedRequests.{IsLawfulRequest}
 use Rattle.turn_client_proto_messages.specs.declared.request.TurnRequest.{TurnRequest}
 use Rattle.turn_client_proto_handshake_laws.specs.Core.declared.protocol.Phase.{Phase}
 use Rattle.turn_client_proto_handshake_laws.specs.Core.declared.protocol.Protocol.{Protocol}
-use Rattle.turn_client_proto_step_laws.specs.Timers.Polling.{ended_of}
+use Rattle.turn_client_proto_step_laws.specs.Timers.Polling.{ended_of, pace_of}
 use Rattle.turn_client_proto_messages.proofs.Reading.{number_law}
 use Rattle.turn_client_proto_step_laws.proofs.Lists.{found_in}
 use Rattle.turn_client_proto_step_laws.proofs.Numbers.{number_small}
@@ -38,6 +40,10 @@ use Rattle.turn_client_proto_progress_laws.proofs.Asking.Stored.{Keeps}
 
 -- ---- what no call changes but a message that comes
 
+-- What the client asks the server for, and the least time between two messages.
+abbrev pub asked_of : Protocol → List AddressFamily × (AllocateOptions × ℕ)
+asked_of p = (p.families, p.options, pace_of p)
+
 pub record Same (p q : Protocol) : Type 0 where
   pub server : q.server ≡ p.server
   pub remote : q.agent.remote ≡ p.agent.remote
@@ -45,7 +51,7 @@ pub record Same (p q : Protocol) : Type 0 where
   pub here : q.agent.here ≡ p.agent.here
   pub waits : q.agent.waits ≡ p.agent.waits
   pub allocates : q.allocates ≡ p.allocates
-  pub families : q.families ≡ p.families
+  pub asked : asked_of q ≡ asked_of p
   pub auth : q.auth ≡ p.auth
   pub phase : q.phase ≡ p.phase
 
@@ -57,7 +63,10 @@ settings_on b p q same of = record {
   here = same.here ∙ of.here;
   waits = same.waits ∙ of.waits;
   allocates = same.allocates ∙ of.allocates;
-  families = same.families ∙ of.families;
+  families = ap (λ (x : List AddressFamily × (AllocateOptions × ℕ)). x.0) same.asked ∙ of.families;
+  options = ap (λ (x : List AddressFamily × (AllocateOptions × ℕ)). x.1.0) same.asked ∙ of.options;
+  pace = ap (λ (x : List AddressFamily × (AllocateOptions × ℕ)). x.1.1) same.asked ∙ of.pace;
+  usual = of.usual;
 }
 
 pub speaks_on : (b : Beginning) (realm : List ℕ) (address : SocketAddr) (p q : Protocol) → Same p q → HasAtMost b address q.allocations → Speaks b realm address p → Speaks b realm address q

@@ -145,6 +145,9 @@ module _ (b : Beginning) (realm : List ℕ) (address : SocketAddr) (p : Protocol
       waits = is.settings.waits;
       allocates = is.settings.allocates;
       families = is.settings.families;
+      options = is.settings.options;
+      pace = is.settings.pace;
+      usual = is.settings.usual;
     };
     signs = is.signs;
     served = tt;

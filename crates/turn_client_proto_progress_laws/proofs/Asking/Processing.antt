@@ -57,6 +57,7 @@ use Rattle.turn_client_proto_progress_laws.specs.Speaking.{HasAtMost, HasBeenSer
 use Rattle.turn_client_proto_progress_laws.proofs.Asking.Between.{tested}
 use Rattle.turn_client_proto_progress_laws.proofs.Asking.Granted.{after_like}
 use Rattle.turn_client_proto_progress_laws.proofs.Asking.Others.{end_speaks}
+use Rattle.turn_client_proto_progress_laws.proofs.Asking.Moving.{asked_of}
 use Rattle.turn_client_proto_progress_laws.proofs.Asking.Speaking.{AllStay, IsLike, Stays, as_it_is, most_changed, most_mapped, own_agent, speaks_with}
 
 -- ---- who signs
@@ -172,7 +173,7 @@ module _ (b : Beginning) (realm : List ℕ) (address : SocketAddr) where
 
   module _ (p : Protocol) (is : Speaks b realm address p) where
     -- The client with other allocations.
-    with_allocations : (q : Protocol) → IsLike b realm address p is q.agent → q.server ≡ p.server → q.allocates ≡ p.allocates → q.families ≡ p.families → q.auth ≡ p.auth → q.phase ≡ p.phase → HasAtMost b address q.allocations → Speaking q
+    with_allocations : (q : Protocol) → IsLike b realm address p is q.agent → q.server ≡ p.server → q.allocates ≡ p.allocates → asked_of q ≡ asked_of p → q.auth ≡ p.auth → q.phase ≡ p.phase → HasAtMost b address q.allocations → Speaking q
     with_allocations q = speaks_with b realm address p is q
 
     accepted_so : (bytes : List ℕ) → Speaking (accepted bytes p)
@@ -210,6 +211,9 @@ module _ (b : Beginning) (realm : List ℕ) (address : SocketAddr) where
         waits = is.settings.waits;
         allocates = is.settings.allocates;
         families = is.settings.families;
+        options = is.settings.options;
+        pace = is.settings.pace;
+        usual = is.settings.usual;
       };
       signs = is.signs;
       served = tt;
@@ -401,6 +405,9 @@ module _ (b : Beginning) (realm : List ℕ) (address : SocketAddr) where
       waits = is.settings.waits;
       allocates = is.settings.allocates;
       families = is.settings.families;
+      options = is.settings.options;
+      pace = is.settings.pace;
+      usual = is.settings.usual;
     };
     signs = signs;
     served = is.served;

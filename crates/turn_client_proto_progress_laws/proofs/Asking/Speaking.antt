@@ -34,7 +34,6 @@ use Rattle.turn_client_proto_handshake_laws.specs.Core.Asking.{requested}
 use Rattle.turn_client_proto_handshake_laws.specs.Core.Binding.{IsBindAnswered, IsBindTried, IsChannelRequested, after_binding, allocation_to, asking_channel, bind_refusal, bind_refused_in, permission_beside}
 use Rattle.turn_client_proto_handshake_laws.specs.Core.Numbering.{after_number}
 use Rattle.turn_client_proto_handshake_laws.specs.Core.Permitting.{IsPermissionAnswered, IsPermissionRequested, after_asking as after_permission, allocation_for, permission_refusal, refused_in}
-use Rattle.turn_client_proto_messages.specs.Requests.{allocation_lifetime}
 use Rattle.turn_client_proto_messages.specs.Waiting.{Queued, is_answer}
 use Rattle.turn_client_proto_handshake_laws.specs.Core.declared.protocol.Phase.{Phase}
 use Rattle.turn_client_proto_handshake_laws.specs.Core.declared.protocol.Phase.TheVariants.{Initial, InitialSent, Authenticating, Authenticated, Ended}
@@ -45,7 +44,7 @@ use Rattle.turn_client_proto_step_laws.specs.Peers.Permission.Asking.{is_of, is_
 use Rattle.turn_client_proto_step_laws.specs.Peers.Permission.Asking as permission_asking
 use Rattle.turn_client_proto_step_laws.specs.Peers.Permission.Reporting as permission_reporting
 use Rattle.turn_client_proto_step_laws.specs.Peers.Permission.Wanting as permission_wanting
-use Rattle.turn_client_proto_step_laws.specs.Timers.Polling.{Answers, IsClosing, IsPolled, IsPolledBy, IsPolledIn, AreAllocationsPolled, after_asking as after_socket, after_time, answer_of, ended_of, left, socket_for}
+use Rattle.turn_client_proto_step_laws.specs.Timers.Polling.{Answers, IsClosing, IsPolled, IsPolledBy, IsPolledIn, AreAllocationsPolled, after_asking as after_socket, after_time, answer_of, ended_of, left, pace_of, socket_for}
 use Rattle.turn_client_proto_step_laws.specs.Timers.Reporting as reporting
 use Rattle.turn_client_proto_step_laws.specs.Timers.Wanting.{wanted as to_renew, wants}
 use Rattle.turn_client_proto_step_laws.specs.Timers.declared.wanting.Want.{Want}
@@ -55,7 +54,7 @@ use Rattle.turn_client_proto_handshake_laws.specs.Driving.{IsEventTaken}
 use Rattle.turn_client_proto_handshake_laws.specs.Sent.{Beginning}
 use Rattle.turn_client_proto_progress_laws.specs.Speaking.{HasAtMost, HasBeenServed, IsOwn, Speaks}
 use Rattle.turn_client_proto_progress_laws.proofs.Asking.Between.{sent_so, tested}
-use Rattle.turn_client_proto_progress_laws.proofs.Asking.Moving.{speaks_on}
+use Rattle.turn_client_proto_progress_laws.proofs.Asking.Moving.{asked_of, speaks_on}
 
 -- ---- there is one allocation at most
 
@@ -134,21 +133,21 @@ module _ (b : Beginning) (realm : List ℕ) (address : SocketAddr) (p : Protocol
   pub own_agent : IsLike p.agent
   own_agent = record { remote = refl; transport = refl; here = refl; waits = refl }
 
-  pub speaks_with : (q : Protocol) → IsLike q.agent → q.server ≡ p.server → q.allocates ≡ p.allocates → q.families ≡ p.families → q.auth ≡ p.auth → q.phase ≡ p.phase → HasAtMost b address q.allocations → Speaking q
-  speaks_with q like server allocates families auth phase one =
-      speaks_on b realm address p q (record { server = server; remote = like.remote; transport = like.transport; here = like.here; waits = like.waits; allocates = allocates; families = families; auth = auth; phase = phase }) one is
+  pub speaks_with : (q : Protocol) → IsLike q.agent → q.server ≡ p.server → q.allocates ≡ p.allocates → asked_of q ≡ asked_of p → q.auth ≡ p.auth → q.phase ≡ p.phase → HasAtMost b address q.allocations → Speaking q
+  speaks_with q like server allocates asked auth phase one =
+      speaks_on b realm address p q (record { server = server; remote = like.remote; transport = like.transport; here = like.here; waits = like.waits; allocates = allocates; asked = asked; auth = auth; phase = phase }) one is
 
   -- ---- what is transmitted
 
-  made_so : (q : Protocol) (at : ℕ) (test : Allocation → Bool) (f : Allocation → Allocation) → AllStay f → IsLike q.agent → q.server ≡ p.server → q.allocates ≡ p.allocates → q.families ≡ p.families → q.auth ≡ p.auth → q.phase ≡ p.phase
+  made_so : (q : Protocol) (at : ℕ) (test : Allocation → Bool) (f : Allocation → Allocation) → AllStay f → IsLike q.agent → q.server ≡ p.server → q.allocates ≡ p.allocates → asked_of q ≡ asked_of p → q.auth ≡ p.auth → q.phase ≡ p.phase
       → q.allocations ≡ change_first test f p.allocations → Speaking q
-  made_so q at test f stay like server allocates families auth phase changed =
-      speaks_with q like server allocates families auth phase (subst (λ (l : List Allocation). HasAtMost b address l) (sym changed) (most_changed b address test f stay p.allocations is.one))
+  made_so q at test f stay like server allocates asked auth phase changed =
+      speaks_with q like server allocates asked auth phase (subst (λ (l : List Allocation). HasAtMost b address l) (sym changed) (most_changed b address test f stay p.allocations is.one))
 
   refreshed_so : (at : ℕ) (sent : Sent) (q : Protocol) → IsRefreshSent p at sent q → Speaking q
   unfolding first_refreshed sent_at_once
   refreshed_so at sent q r = subst (λ (x : Protocol). Speaking x) (sym r.after)
-      (made_so (after_sending at (first_refreshed r.number at p)) at (wants at) (refreshing (record { number = r.number; lifetime = allocation_lifetime })) (λ a. record { transport = refl; address = refl })
+      (made_so (after_sending at (first_refreshed r.number at p)) at (wants at) (refreshing (record { number = r.number; lifetime = p.options.lifetime })) (λ a. record { transport = refl; address = refl })
       (record { remote = refl; transport = refl; here = refl; waits = refl }) refl refl refl refl refl refl)
 
   renewed_so : (at : ℕ) (ip : IpAddr) (sent : Sent) (q : Protocol) → IsRenewalSent p ip at sent q → Speaking q
@@ -190,7 +189,7 @@ module _ (b : Beginning) (realm : List ℕ) (address : SocketAddr) (p : Protocol
   pub transmitted_speaks : (at : ℕ) (sent : Option Sent) (q : Protocol) → IsTransmitted p at sent q → Speaking q
   transmitted_speaks at sent q (Again one said r) = subst (λ (y : Protocol). Speaking y) (sym r.after)
       (speaks_with _ (record { remote = refl; transport = refl; here = refl; waits = refl }) refl refl refl refl refl is.one)
-  transmitted_speaks at sent q (Fresh none r) = tested (is_resting p.last_send at) (λ _ x. answer_so (find is_answer p.queue) sent q x) (λ _ x. next_so p.queue at sent q x) r
+  transmitted_speaks at sent q (Fresh none r) = tested (is_resting (pace_of p) p.last_send at) (λ _ x. answer_so (find is_answer p.queue) sent q x) (λ _ x. next_so p.queue at sent q x) r
 
   -- ---- an event is taken
 

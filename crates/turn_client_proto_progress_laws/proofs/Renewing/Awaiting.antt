@@ -46,8 +46,8 @@ use Rattle.turn_client_proto_handshake_laws.specs.Choosing.{Choice}
 use Rattle.turn_client_proto_step_laws.specs.Timers.Drawing.{IsAnswerSent, IsStarted, IsTransmitted, IsNextSent, IsRenewed, IsStill, after_sending, is_resting}
 use Rattle.turn_client_proto_messages.specs.Api.Sent.{Sent}
 use Rattle.turn_client_proto_handshake_laws.specs.Driving.{client_end}
-use Rattle.turn_client_proto_step_laws.specs.Timers.Polling.{Answers, HasToReportIn, IsClosing, IsPolled, IsPolledBy, IsPolledIn, IsRefused, IsAgentPolled, AreAllocationsPolled, after_asking, after_time, answer_of, ended_of, left, longest_pause, ready_after, socket_for, wait_of, wait_to_send}
-use Rattle.turn_client_proto_messages.specs.Requests.{allocation_lifetime}
+use Rattle.turn_client_proto_step_laws.specs.Timers.Polling.{Answers, HasToReportIn, IsClosing, IsPolled, IsPolledBy, IsPolledIn, IsRefused, IsAgentPolled, AreAllocationsPolled, after_asking, after_time, answer_of, ended_of, left, longest_pause, pace_of, ready_after, socket_for, wait_of, wait_to_send}
+use Rattle.turn_client_proto_messages.specs.Api.Options.{allocation_lifetime}
 use Rattle.turn_client_proto_handshake_laws.specs.Sent.{Beginning}
 use Rattle.turn_client_proto_progress_laws.specs.Keeping.{AwaitsResponse, IsRefreshing, IsTerm, Term, end_of, held_for}
 use Rattle.turn_client_proto_progress_laws.specs.Refreshed.{refresh_requested, refresh_sent}
@@ -146,6 +146,9 @@ module _ (b : Beginning) (c : Choice) (address : SocketAddr) (t : Term) (number 
       waits = w.settings.waits;
       allocates = w.settings.allocates;
       families = w.settings.families;
+      options = w.settings.options;
+      pace = w.settings.pace;
+      usual = w.settings.usual;
     };
     requested = only;
     phase = w.phase;
@@ -165,9 +168,9 @@ module _ (b : Beginning) (c : Choice) (address : SocketAddr) (t : Term) (number 
 
   pub refreshing_still : (sent : Option Sent) (q : Protocol) → IsQuiet b a many now → IsTransmitted p now sent q → (sent ≡ None) × (q ≡ p)
   refreshing_still sent q quiet is =
-      let fresh = subst (λ (l : List Queued). MatchBool (is_resting p.last_send now) (IsAnswerSent (find is_answer l) p sent q) (IsNextSent l p now sent q)) w.queue_is
+      let fresh = subst (λ (l : List Queued). MatchBool (is_resting (pace_of p) p.last_send now) (IsAnswerSent (find is_answer l) p sent q) (IsNextSent l p now sent q)) w.queue_is
       (sent_fresh b a many p w.settings w.requested now sent q quiet is) in
-      either (IsStill p sent q) (is_resting p.last_send now) (or_none (is_resting p.last_send now) then_still fresh)
+      either (IsStill p sent q) (is_resting (pace_of p) p.last_send now) (or_none (is_resting (pace_of p) p.last_send now) then_still fresh)
     where
       then_still : IsStarted p.phase p now sent q → IsStill p sent q
       then_still started =
@@ -185,10 +188,10 @@ module _ (b : Beginning) (c : Choice) (address : SocketAddr) (t : Term) (number 
     before = let f = far b address t is in omega (arith, f, lasts)
 
     abbrev pause : ℕ
-    pause = wait_to_send p.last_send p.queue now (time_after now longest_pause)
+    pause = wait_to_send (pace_of p) p.last_send p.queue now (time_after now longest_pause)
 
     pause_is : pause ≡ time_after now longest_pause
-    pause_is = ap (λ (l : List Queued). wait_to_send p.last_send l now (time_after now longest_pause)) w.queue_is
+    pause_is = ap (λ (l : List Queued). wait_to_send (pace_of p) p.last_send l now (time_after now longest_pause)) w.queue_is
 
     left_here : left None now p ≡ pending b address t number now ∷ []
     left_here = ap (λ (l : List Allocation). map_list (polled None) (stored None now l)) w.allocations ∙ left_is b address t number now before
@@ -220,14 +223,14 @@ module _ (b : Beginning) (c : Choice) (address : SocketAddr) (t : Term) (number 
 
     walked : (until : ℕ) → (many < count_of b → until ≤ max now (slot_of b a many)) → until ≤ asks.end_of b a → (IsQuiet b a many now → now < until) → now ≤ until → AreAllocationsPolled None (min pause until) p now ret q → Waits
     walked until by_slot by_end later from_now st =
-        let list : nexts None (ready_after p.last_send now) now (stored None now p.allocations) ≡ expiry b address t ∷ [] =
-        ap (λ (l : List Allocation). nexts None (ready_after p.last_send now) now (stored None now l)) w.allocations
-        ∙ nexts_are b address t number now before (ready_after p.last_send now) in
+        let list : nexts None (ready_after (pace_of p) p.last_send now) now (stored None now p.allocations) ≡ expiry b address t ∷ [] =
+        ap (λ (l : List Allocation). nexts None (ready_after (pace_of p) p.last_send now) now (stored None now l)) w.allocations
+        ∙ nexts_are b address t number now before (ready_after (pace_of p) p.last_send now) in
         let least = subst (λ (l : List ℕ). IsLeastOf (min pause until) l st.next) list st.least in
         let sooner_is = least_of_none st.next st.sooner (subst (λ (l : List ℕ). IsLeastOf st.next l st.sooner)
-        (ap (λ (l : List Allocation). permissions.all_nexts None (ready_after p.last_send now) now l) left_here) st.least_of_permissions) in
+        (ap (λ (l : List Allocation). permissions.all_nexts None (ready_after (pace_of p) p.last_send now) now l) left_here) st.least_of_permissions) in
         let earliest_is = least_of_none st.sooner st.earliest (subst (λ (l : List ℕ). IsLeastOf st.sooner l st.earliest)
-        (ap (λ (l : List Allocation). channels.all_nexts None (ready_after p.last_send now) now l) left_here) st.least_of_channels) in
+        (ap (λ (l : List Allocation). channels.all_nexts None (ready_after (pace_of p) p.last_send now) now l) left_here) st.least_of_channels) in
         let first_is = least_of_none st.earliest st.first (subst (λ (l : List ℕ). IsLeastOf st.earliest l st.first)
         (ap (λ (l : List Allocation). joined.all_nexts l) left_here) st.least_of_connections) in
         let same : st.first ≡ st.next = first_is ∙ (earliest_is ∙ sooner_is) in

@@ -26,6 +26,9 @@ module _ (b : Beginning) (c : Choice) (address : SocketAddr) (t : Term) (last : 
         waits = w.settings.waits;
         allocates = w.settings.allocates;
         families = w.settings.families;
+        options = w.settings.options;
+        pace = w.settings.pace;
+        usual = w.settings.usual;
       };
       none_requested = w.none_requested;
       phase = w.phase;
@@ -57,6 +60,9 @@ module _ (b : Beginning) (c : Choice) (address : SocketAddr) (t : Term) (number 
         waits = w.settings.waits;
         allocates = w.settings.allocates;
         families = w.settings.families;
+        options = w.settings.options;
+        pace = w.settings.pace;
+        usual = w.settings.usual;
       };
       requested = w.requested;
       phase = w.phase;

@@ -3,6 +3,7 @@ use Rattle.std.proofs.Common.{◌≡◌, ℕ, zero, suc, ◌<◌, ◌≤◌, ari
 use Rattle.std.specs.Prelude.{max, min, MatchOption}
 use Rattle.std.specs.List.{Contains, list_any}
 use Rattle.std.specs.declared.net.socket_addr.SocketAddr.{SocketAddr}
+use Rattle.turn_client_proto_messages.specs.Api.Options.{cadence}
 use Rattle.turn_client_proto_messages.specs.StunProtoTransaction.Least.{IsLeastOf}
 use Rattle.turn_client_proto_messages.specs.StunTypesBase.Times.{time_after}
 use Rattle.turn_client_proto_messages.specs.StunProtoAgent.State as agents
@@ -24,7 +25,7 @@ use Rattle.turn_client_proto_messages.specs.Api.declared.answer.TurnPollRet.TheV
 use Rattle.turn_client_proto_messages.specs.Api.declared.event.TurnEvent.{TurnEvent}
 use Rattle.turn_client_proto_handshake_laws.specs.Choosing.{Choice}
 use Rattle.turn_client_proto_handshake_laws.specs.Driving.{client_end}
-use Rattle.turn_client_proto_step_laws.specs.Timers.Polling.{Answers, HasToReportIn, IsClosing, IsPolled, IsPolledBy, IsPolledIn, IsPolledStanding, IsRefused, IsAgentPolled, AreAllocationsPolled, after_asking, after_time, answer_of, cadence, ended_of, left, longest_pause, ready_after, socket_for, wait_of, wait_to_send}
+use Rattle.turn_client_proto_step_laws.specs.Timers.Polling.{Answers, HasToReportIn, IsClosing, IsPolled, IsPolledBy, IsPolledIn, IsPolledStanding, IsRefused, IsAgentPolled, AreAllocationsPolled, after_asking, after_time, answer_of, ended_of, left, longest_pause, pace_of, ready_after, socket_for, wait_of, wait_to_send}
 use Rattle.turn_client_proto_handshake_laws.specs.Sent.{Beginning}
 use Rattle.turn_client_proto_progress_laws.specs.Keeping.{IsKeeping, IsTerm, Term, WaitsToSend, due_of, next_of}
 use Rattle.turn_client_proto_progress_laws.proofs.Renewing.Lasting.{expiry, far, left_is, lone, nexts_are, no_channels, no_connections, no_permissions, none_gone, none_decoded, untouched}
@@ -47,7 +48,7 @@ module _ (b : Beginning) (c : Choice) (address : SocketAddr) (t : Term) (last : 
   before = let f = far b address t is in let enough = is.enough in omega (arith, f, by_due, enough)
 
   abbrev pause : ℕ
-  pause = wait_to_send p.last_send p.queue now (time_after now longest_pause)
+  pause = wait_to_send (pace_of p) p.last_send p.queue now (time_after now longest_pause)
 
   -- The earliest time for which the client, its agent and the allocation wait.
   abbrev bound : ℕ
@@ -92,15 +93,15 @@ module _ (b : Beginning) (c : Choice) (address : SocketAddr) (t : Term) (last : 
 
   walked : Bounds → (until : ℕ) → now < until → AreAllocationsPolled None (min pause until) p now ret q → WaitsToSend t last queue events now p ret q
   walked bounds until after st =
-      let ready : ready_after p.last_send now ≡ max (time_after last cadence) now = ap (λ (l : Option ℕ). ready_after l now) w.last_send in
-      let list : nexts None (ready_after p.last_send now) now (stored None now p.allocations) ≡ bound ∷ [] =
-      ap (λ (l : List Allocation). nexts None (ready_after p.last_send now) now (stored None now l)) w.allocations
-      ∙ (nexts_are b address t is now before (ready_after p.last_send now) ∙ ap (λ (r : ℕ). max (due_of t) r ∷ []) ready) in
+      let ready : ready_after (pace_of p) p.last_send now ≡ max (time_after last cadence) now = ap (λ (l : Option ℕ). ready_after (pace_of p) l now) w.last_send ∙ ap (λ (n : ℕ). ready_after n (Some last) now) (w.settings.pace ∙ w.settings.usual.pace) in
+      let list : nexts None (ready_after (pace_of p) p.last_send now) now (stored None now p.allocations) ≡ bound ∷ [] =
+      ap (λ (l : List Allocation). nexts None (ready_after (pace_of p) p.last_send now) now (stored None now l)) w.allocations
+      ∙ (nexts_are b address t is now before (ready_after (pace_of p) p.last_send now) ∙ ap (λ (r : ℕ). max (due_of t) r ∷ []) ready) in
       let least = subst (λ (l : List ℕ). IsLeastOf (min pause until) l st.next) list st.least in
       let sooner_is = least_of_none st.next st.sooner (subst (λ (l : List ℕ). IsLeastOf st.next l st.sooner)
-      (ap (λ (l : List Allocation). permissions.all_nexts None (ready_after p.last_send now) now l) left_here ∙ no_permissions b address t is now before (ready_after p.last_send now)) st.least_of_permissions) in
+      (ap (λ (l : List Allocation). permissions.all_nexts None (ready_after (pace_of p) p.last_send now) now l) left_here ∙ no_permissions b address t is now before (ready_after (pace_of p) p.last_send now)) st.least_of_permissions) in
       let earliest_is = least_of_none st.sooner st.earliest (subst (λ (l : List ℕ). IsLeastOf st.sooner l st.earliest)
-      (ap (λ (l : List Allocation). channels.all_nexts None (ready_after p.last_send now) now l) left_here ∙ no_channels b address t is now before (ready_after p.last_send now)) st.least_of_channels) in
+      (ap (λ (l : List Allocation). channels.all_nexts None (ready_after (pace_of p) p.last_send now) now l) left_here ∙ no_channels b address t is now before (ready_after (pace_of p) p.last_send now)) st.least_of_channels) in
       let first_is = least_of_none st.earliest st.first (subst (λ (l : List ℕ). IsLeastOf st.earliest l st.first)
       (ap (λ (l : List Allocation). joined.all_nexts l) left_here ∙ no_connections b address t is now before) st.least_of_connections) in
       let same : st.first ≡ st.next = first_is ∙ (earliest_is ∙ sooner_is) in
@@ -172,16 +173,17 @@ bounds : (b : Beginning) (c : Choice) (address : SocketAddr) (t : Term) (last : 
     (unanswered : list_any is_answer queue ≡ false) (is : IsTerm t) (now : ℕ) (in_range : now ≤ client_end) (by_due : now ≤ due_of t) (reached : now ≤ next_of t last queue) (ret : TurnPollRet) (q : Protocol)
     → Bounds b c address t last queue events p w unanswered is now in_range by_due reached ret q
 bounds b c address t last [] events p w unanswered is now in_range by_due reached ret q =
-    let pause_is : wait_to_send p.last_send p.queue now (time_after now longest_pause) ≡ time_after now longest_pause =
-    ap (λ (l : List Queued). wait_to_send p.last_send l now (time_after now longest_pause)) w.queue_is in
+    let pause_is : wait_to_send (pace_of p) p.last_send p.queue now (time_after now longest_pause) ≡ time_after now longest_pause =
+    ap (λ (l : List Queued). wait_to_send (pace_of p) p.last_send l now (time_after now longest_pause)) w.queue_is in
     record {
       by_next = λ next one two. omega (arith, two, reached);
       later = λ soon. ((omega (arith, pause_is, in_range)), (omega (arith, soon)));
     }
 bounds b c address t last (one ∷ rest) events p w unanswered is now in_range by_due reached ret q =
-    let pause_is : wait_to_send p.last_send p.queue now (time_after now longest_pause) ≡ min (time_after now longest_pause) (time_after last cadence) =
-    ap (λ (l : List Queued). wait_to_send p.last_send l now (time_after now longest_pause)) w.queue_is
-    ∙ ap (λ (l : Option ℕ). wait_to_send l (one ∷ rest) now (time_after now longest_pause)) w.last_send in
+    let pause_is : wait_to_send (pace_of p) p.last_send p.queue now (time_after now longest_pause) ≡ min (time_after now longest_pause) (time_after last cadence) =
+    ap (λ (l : List Queued). wait_to_send (pace_of p) p.last_send l now (time_after now longest_pause)) w.queue_is
+    ∙ ap (λ (l : Option ℕ). wait_to_send (pace_of p) l (one ∷ rest) now (time_after now longest_pause)) w.last_send
+    ∙ ap (λ (n : ℕ). wait_to_send n (Some last) (one ∷ rest) now (time_after now longest_pause)) (w.settings.pace ∙ w.settings.usual.pace) in
     record {
       by_next = λ next first two. omega (arith, first, pause_is, reached);
       later = λ soon. ((omega (arith, pause_is, in_range, soon)), (omega (arith, soon)));

@@ -20,12 +20,15 @@ use Rattle.turn_client_proto_handshake_laws.specs.Requested.{IsOnlyRequested, tr
 use Rattle.turn_client_proto_handshake_laws.specs.Choosing.{Choice}
 use Rattle.turn_client_proto_step_laws.specs.Timers.Drawing.{Again, Fresh, IsAnswerSent, IsStarted, IsTransmitted, IsFreshSent, IsNextSent, IsQueuedSent, IsRefreshSent, IsRenewed, IsStill, after_sending, first_refreshed, is_resting, sent_at_once}
 use Rattle.turn_client_proto_messages.specs.Api.Sent.{Sent}
-use Rattle.turn_client_proto_step_laws.specs.Timers.Polling.{cadence}
-use Rattle.turn_client_proto_messages.specs.Requests.{allocation_lifetime, request_text}
+use Rattle.turn_client_proto_step_laws.specs.Timers.Polling.{pace_of}
+use Rattle.turn_client_proto_messages.specs.Api.Options.{allocation_lifetime}
+use Rattle.turn_client_proto_messages.specs.Api.declared.options.AllocateOptions.{AllocateOptions}
+use Rattle.turn_client_proto_messages.specs.Requests.{request_text}
+use Rattle.turn_client_proto_messages.specs.declared.request.TurnRequest.TheVariants.{Refresh}
 use Rattle.turn_client_proto_handshake_laws.specs.Sent.{Beginning}
 use Rattle.turn_client_proto_handshake_laws.specs.Stages.{Holds}
-use Rattle.turn_client_proto_progress_laws.specs.Keeping.{IsKeeping, IsRefreshing, IsTerm, Term, due_of, end_of, first_term}
-use Rattle.turn_client_proto_progress_laws.specs.Refreshed.{refresh_requested, refresh_for, refresh_request, refresh_sent}
+use Rattle.turn_client_proto_progress_laws.specs.Keeping.{IsKeeping, IsRefreshing, IsTerm, Term, due_of, end_of, first_term, held_for}
+use Rattle.turn_client_proto_progress_laws.specs.Refreshed.{refresh_requested, refresh_request, refresh_sent, signed_by}
 use Rattle.turn_client_proto_progress_laws.proofs.Renewing.Lasting.{lone, refreshed_it, wanted_it, wanted_none}
 use Rattle.turn_client_proto_progress_laws.proofs.Renewing.Tools.{either, put_or, put_there, sends_one, where_false, where_true}
 
@@ -53,23 +56,23 @@ module _ (b : Beginning) (c : Choice) (address : SocketAddr) (t : Term) (last : 
   fresh (Fresh none is) = is
 
   -- The outcome, by the queue.
-  waiting : IsTransmitted p now sent q → MatchBool (is_resting p.last_send now) (IsAnswerSent (find is_answer queue) p sent q) (IsNextSent queue p now sent q)
+  waiting : IsTransmitted p now sent q → MatchBool (is_resting (pace_of p) p.last_send now) (IsAnswerSent (find is_answer queue) p sent q) (IsNextSent queue p now sent q)
   waiting transmitted =
-      subst (λ (l : List Queued). MatchBool (is_resting p.last_send now) (IsAnswerSent (find is_answer l) p sent q) (IsNextSent l p now sent q)) w.queue_is (fresh transmitted)
+      subst (λ (l : List Queued). MatchBool (is_resting (pace_of p) p.last_send now) (IsAnswerSent (find is_answer l) p sent q) (IsNextSent l p now sent q)) w.queue_is (fresh transmitted)
 
-  resting : now < time_after last cadence → is_resting p.last_send now ≡ true
-  resting soon = ap (λ (l : Option ℕ). is_resting l now) w.last_send ∙ lt-ltb now (time_after last cadence) soon
+  resting : now < time_after last cadence → is_resting (pace_of p) p.last_send now ≡ true
+  resting soon = ap (λ (l : Option ℕ). is_resting (pace_of p) l now) w.last_send ∙ (ap (λ (n : ℕ). is_resting n (Some last) now) (w.settings.pace ∙ w.settings.usual.pace) ∙ lt-ltb now (time_after last cadence) soon)
 
-  awake : time_after last cadence ≤ now → is_resting p.last_send now ≡ false
-  awake late = ap (λ (l : Option ℕ). is_resting l now) w.last_send ∙ le-ltb now (time_after last cadence) late
+  awake : time_after last cadence ≤ now → is_resting (pace_of p) p.last_send now ≡ false
+  awake late = ap (λ (l : Option ℕ). is_resting (pace_of p) l now) w.last_send ∙ (ap (λ (n : ℕ). is_resting n (Some last) now) (w.settings.pace ∙ w.settings.usual.pace) ∙ le-ltb now (time_after last cadence) late)
 
   pub rests : find is_answer queue ≡ None → now < time_after last cadence → IsTransmitted p now sent q → (sent ≡ None) × (q ≡ p)
   rests unanswered soon transmitted =
       subst (λ (o : Option Queued). IsAnswerSent o p sent q) unanswered
-      (where_true (IsAnswerSent (find is_answer queue) p sent q) (IsNextSent queue p now sent q) (is_resting p.last_send now) (resting soon) (waiting transmitted))
+      (where_true (IsAnswerSent (find is_answer queue) p sent q) (IsNextSent queue p now sent q) (is_resting (pace_of p) p.last_send now) (resting soon) (waiting transmitted))
 
   pub continues : time_after last cadence ≤ now → IsTransmitted p now sent q → IsNextSent queue p now sent q
-  continues late transmitted = where_false (IsAnswerSent (find is_answer queue) p sent q) (IsNextSent queue p now sent q) (is_resting p.last_send now) (awake late) (waiting transmitted)
+  continues late transmitted = where_false (IsAnswerSent (find is_answer queue) p sent q) (IsNextSent queue p now sent q) (is_resting (pace_of p) p.last_send now) (awake late) (waiting transmitted)
 
   begins : IsStarted p.phase p now sent q → IsRenewed (wanted now (lone b address t ∷ [])) p now sent q
   begins is =
@@ -89,6 +92,9 @@ module _ (b : Beginning) (c : Choice) (address : SocketAddr) (t : Term) (last : 
       waits = w.settings.waits;
       allocates = w.settings.allocates;
       families = w.settings.families;
+      options = w.settings.options;
+      pace = w.settings.pace;
+      usual = w.settings.usual;
     };
     none_requested = w.none_requested;
     phase = w.phase;
@@ -117,8 +123,8 @@ module _ (b : Beginning) (c : Choice) (address : SocketAddr) (t : Term) (last : 
   still now sent q soon transmitted =
       let choice = waiting b c address t last [] events p w now sent q transmitted in
       let none = subst (λ (o : Option Want). IsRenewed o p now sent q) (wanted_none b address t is now soon) in
-      either (IsStill p sent q) (is_resting p.last_send now)
-      (or_none (is_resting p.last_send now) (λ started. none (begins b c address t last [] events p w now sent q started)) choice)
+      either (IsStill p sent q) (is_resting (pace_of p) p.last_send now)
+      (or_none (is_resting (pace_of p) p.last_send now) (λ started. none (begins b c address t last [] events p w now sent q started)) choice)
     where
       or_none : (x : Bool) → (IsStarted p.phase p now sent q → IsStill p sent q) → MatchBool x (IsStill p sent q) (IsStarted p.phase p now sent q) → MatchBool x (IsStill p sent q) (IsStill p sent q)
       or_none true then_still s = s
@@ -127,8 +133,13 @@ module _ (b : Beginning) (c : Choice) (address : SocketAddr) (t : Term) (last : 
   -- ---- the REFRESH
 
   module _ (number : ℕ) (visible : number_at (refresh_request b c number) ≡ number) (now : ℕ) (due : due_of t ≤ now) (reached : now ≤ end_of t) where
-    text_is : request_text p.auth refresh_for number ≡ refresh_request b c number
-    text_is = ap (λ (a : Client). request_text a refresh_for number) w.auth
+    lifetime_is : p.options.lifetime ≡ allocation_lifetime
+    lifetime_is = ap (λ (o : AllocateOptions). o.lifetime) w.settings.options ∙ w.settings.usual.lifetime
+
+    text_is : request_text p.auth (Refresh p.options.lifetime) number ≡ refresh_request b c number
+    text_is =
+        ap (λ (a : Client). request_text a (Refresh p.options.lifetime) number) w.auth
+        ∙ ap (λ (n : ℕ). request_text (signed_by b c) (Refresh n) number) lifetime_is
 
     started_so : (text : List ℕ) → text ≡ refresh_request b c number → started p.agent text p.server now ≡ transaction_of b (refresh_requested b c number now) 1
     started_so text same =
@@ -149,7 +160,7 @@ module _ (b : Beginning) (c : Choice) (address : SocketAddr) (t : Term) (last : 
     asks : IsRefreshing b c address t number now 1 now events (after_sending now (first_refreshed number now p))
     unfolding first_refreshed sent_at_once
     asks =
-        let text = request_text p.auth refresh_for number in
+        let text = request_text p.auth (Refresh p.options.lifetime) number in
         record {
           settings = record {
             server = w.settings.server;
@@ -159,12 +170,16 @@ module _ (b : Beginning) (c : Choice) (address : SocketAddr) (t : Term) (last : 
             waits = w.settings.waits;
             allocates = w.settings.allocates;
             families = w.settings.families;
+            options = w.settings.options;
+            pace = w.settings.pace;
+            usual = w.settings.usual;
           };
           requested = only_one text text_is (number_at text) (ap number_at text_is ∙ visible);
           phase = w.phase;
           auth = w.auth;
-          allocations = ap (refreshed_first now (record { number = number; lifetime = allocation_lifetime })) w.allocations
-              ∙ refreshed_it b address t is now due reached (record { number = number; lifetime = allocation_lifetime });
+          allocations = ap (refreshed_first now (record { number = number; lifetime = p.options.lifetime })) w.allocations
+              ∙ (refreshed_it b address t is now due reached (record { number = number; lifetime = p.options.lifetime })
+              ∙ ap (λ (n : ℕ). held_for b address t (record { number = number; lifetime = n } ∷ []) ∷ []) lifetime_is);
           queue_is = w.queue_is;
           last_send = refl;
           events_are = w.events_are;
@@ -174,7 +189,7 @@ module _ (b : Beginning) (c : Choice) (address : SocketAddr) (t : Term) (last : 
 
     pub refreshes_by : (one : Sent) (q : Protocol) → (r : IsRefreshSent p now one q) → r.number ≡ number → (one ≡ refresh_sent b c number now) × IsRefreshing b c address t number now 1 now events q
     refreshes_by one q r same = (
-      r.made.is_sent ∙ (ap (λ (n : ℕ). record { bytes = request_text p.auth refresh_for n; transport = p.agent.transport; from = p.agent.here; to = p.server }) same
+      r.made.is_sent ∙ (ap (λ (n : ℕ). record { bytes = request_text p.auth (Refresh p.options.lifetime) n; transport = p.agent.transport; from = p.agent.here; to = p.server }) same
           ∙ Prim.cc (text_is, w.settings.transport, w.settings.here, w.settings.server)),
       subst (λ (x : Protocol). IsRefreshing b c address t number now 1 now events x) (sym (r.after ∙ ap (λ (n : ℕ). after_sending now (first_refreshed n now p)) same)) asks,
     )

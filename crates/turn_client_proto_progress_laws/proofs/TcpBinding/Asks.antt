@@ -77,6 +77,9 @@ module _ (h : Holder) (awaited : Option Requested) (older : List Requested) (a :
       waits = w.settings.waits;
       allocates = w.settings.allocates;
       families = w.settings.families;
+      options = w.settings.options;
+      pace = w.settings.pace;
+      usual = w.settings.usual;
     };
     signs = w.signs;
     outstanding = outstanding_is;

@@ -67,6 +67,9 @@ module _ (h : Holder) (older : List Requested) (permissions : List Permission) (
       waits = w.settings.waits;
       allocates = w.settings.allocates;
       families = w.settings.families;
+      options = w.settings.options;
+      pace = w.settings.pace;
+      usual = w.settings.usual;
     };
     signs = w.signs;
     outstanding = w.outstanding;

@@ -142,6 +142,9 @@ module _ (h : Holder) (permissions : List Permission) (connection : ℕ) (peer :
       waits = w.settings.waits;
       allocates = w.settings.allocates;
       families = w.settings.families;
+      options = w.settings.options;
+      pace = w.settings.pace;
+      usual = w.settings.usual;
     };
     signs = w.signs;
     outstanding = w.outstanding;

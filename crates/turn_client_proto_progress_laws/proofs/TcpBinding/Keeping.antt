@@ -5,6 +5,7 @@ use Rattle.std.specs.Prelude.{find, option_to_list}
 use Rattle.std.specs.Bool.{MatchBool}
 use Rattle.std.specs.FinMap as map
 use Rattle.std.proofs.lemmas.Bool.{le-ltb, lt-ltb}
+use Rattle.turn_client_proto_messages.specs.Api.Options.{cadence}
 use Rattle.turn_client_proto_messages.specs.StunTypesBase.declared.transport.TransportType.{TransportType}
 use Rattle.turn_client_proto_messages.specs.StunProtoTransaction.Agents.{Transaction, is_due}
 use Rattle.turn_client_proto_messages.specs.StunTypesBase.Times.{time_after}
@@ -17,7 +18,7 @@ use Rattle.turn_client_proto_handshake_laws.specs.Core.declared.protocol.Phase.{
 use Rattle.turn_client_proto_handshake_laws.specs.Core.declared.protocol.Protocol.{Protocol}
 use Rattle.turn_client_proto_step_laws.specs.Timers.Drawing.{Again, Fresh, IsAnswerSent, IsStarted, IsTransmitted, IsFreshSent, IsNextSent, IsQueuedSent, IsRenewed, IsStill, after_sending, is_resting}
 use Rattle.turn_client_proto_messages.specs.Api.Sent.{Sent}
-use Rattle.turn_client_proto_step_laws.specs.Timers.Polling.{cadence}
+use Rattle.turn_client_proto_step_laws.specs.Timers.Polling.{pace_of}
 use Rattle.turn_client_proto_step_laws.specs.Timers.Wanting.{wanted}
 use Rattle.turn_client_proto_step_laws.specs.Timers.declared.wanting.Want.{Want}
 use Rattle.turn_client_proto_handshake_laws.specs.Requested.{Requested, transaction_of}
@@ -42,23 +43,23 @@ module _ (h : Holder) (awaited : Option Requested) (older : List Requested) (a :
   transmitted_fresh now sent q (Fresh none is) = is
 
   fresh : (now : ℕ) (sent : Option Sent) (q : Protocol) → IsTransmitted p now sent q
-      → MatchBool (is_resting p.last_send now) (IsAnswerSent (find is_answer queue) p sent q) (IsNextSent queue p now sent q)
+      → MatchBool (is_resting (pace_of p) p.last_send now) (IsAnswerSent (find is_answer queue) p sent q) (IsNextSent queue p now sent q)
   fresh now sent q is =
-      subst (λ (l : List Queued). MatchBool (is_resting p.last_send now) (IsAnswerSent (find is_answer l) p sent q) (IsNextSent l p now sent q)) w.queue_is
+      subst (λ (l : List Queued). MatchBool (is_resting (pace_of p) p.last_send now) (IsAnswerSent (find is_answer l) p sent q) (IsNextSent l p now sent q)) w.queue_is
       (transmitted_fresh now sent q is)
 
   -- For 50 ms after the last message nothing is transmitted except replies.
   pub tcp_binding_rests : (now : ℕ) (sent : Option Sent) (q : Protocol) → find is_answer queue ≡ None → now < time_after last cadence → IsTransmitted p now sent q
       → (sent ≡ None) × (q ≡ p)
   tcp_binding_rests now sent q none early is =
-      let resting : is_resting p.last_send now ≡ true = ap (λ (l : Option ℕ). is_resting l now) w.last_send ∙ lt-ltb now (time_after last cadence) early in
-      let answers = where_true (IsAnswerSent (find is_answer queue) p sent q) (IsNextSent queue p now sent q) (is_resting p.last_send now) resting (fresh now sent q is) in
+      let resting : is_resting (pace_of p) p.last_send now ≡ true = ap (λ (l : Option ℕ). is_resting (pace_of p) l now) w.last_send ∙ (ap (λ (n : ℕ). is_resting n (Some last) now) (w.settings.pace ∙ w.settings.usual.pace) ∙ lt-ltb now (time_after last cadence) early) in
+      let answers = where_true (IsAnswerSent (find is_answer queue) p sent q) (IsNextSent queue p now sent q) (is_resting (pace_of p) p.last_send now) resting (fresh now sent q is) in
       subst (λ (o : Option Queued). IsAnswerSent o p sent q) none answers
 
   awake : (now : ℕ) (sent : Option Sent) (q : Protocol) → time_after last cadence ≤ now → IsTransmitted p now sent q → IsNextSent queue p now sent q
   awake now sent q late is =
-      let free : is_resting p.last_send now ≡ false = ap (λ (l : Option ℕ). is_resting l now) w.last_send ∙ le-ltb now (time_after last cadence) late in
-      where_false (IsAnswerSent (find is_answer queue) p sent q) (IsNextSent queue p now sent q) (is_resting p.last_send now) free (fresh now sent q is)
+      let free : is_resting (pace_of p) p.last_send now ≡ false = ap (λ (l : Option ℕ). is_resting (pace_of p) l now) w.last_send ∙ (ap (λ (n : ℕ). is_resting n (Some last) now) (w.settings.pace ∙ w.settings.usual.pace) ∙ le-ltb now (time_after last cadence) late) in
+      where_false (IsAnswerSent (find is_answer queue) p sent q) (IsNextSent queue p now sent q) (is_resting (pace_of p) p.last_send now) free (fresh now sent q is)
 
   after_transmitted : (now : ℕ) (rest : List Queued) → IsTcpBinding h awaited older a rest now events (after_sending now (record p { queue = rest }))
   after_transmitted now rest = record {
@@ -70,6 +71,9 @@ module _ (h : Holder) (awaited : Option Requested) (older : List Requested) (a :
       waits = w.settings.waits;
       allocates = w.settings.allocates;
       families = w.settings.families;
+      options = w.settings.options;
+      pace = w.settings.pace;
+      usual = w.settings.usual;
     };
     signs = w.signs;
     outstanding = w.outstanding;
@@ -95,6 +99,9 @@ module _ (h : Holder) (awaited : Option Requested) (older : List Requested) (a :
         waits = w.settings.waits;
         allocates = w.settings.allocates;
         families = w.settings.families;
+        options = w.settings.options;
+        pace = w.settings.pace;
+        usual = w.settings.usual;
       };
       signs = w.signs;
       outstanding = w.outstanding;
@@ -123,10 +130,10 @@ tcp_binding_sends h awaited older a one rest last events p w now sent q late is 
 pub tcp_binding_still : (h : Holder) (awaited : Option Requested) (older : List Requested) (a : Allocation) (last : ℕ) (events : List TurnEvent) (p : Protocol) → IsTcpBinding h awaited older a [] last events p
     → (now : ℕ) (sent : Option Sent) (q : Protocol) → wanted now (a ∷ []) ≡ None → IsTransmitted p now sent q → (sent ≡ None) × (q ≡ p)
 tcp_binding_still h awaited older a last events p w now sent q none is =
-    let both : MatchBool (is_resting p.last_send now) (IsStill p sent q) (IsStarted p.phase p now sent q) = fresh h awaited older a [] last events p w now sent q is in
-    let standing : MatchBool (is_resting p.last_send now) (IsStill p sent q) (IsRenewed (wanted now p.allocations) p now sent q) =
-    subst (λ (f : Phase). MatchBool (is_resting p.last_send now) (IsStill p sent q) (IsStarted f p now sent q)) w.phase both in
-    let one : MatchBool (is_resting p.last_send now) (IsStill p sent q) (IsRenewed (wanted now (a ∷ [])) p now sent q) =
-    subst (λ (l : List Allocation). MatchBool (is_resting p.last_send now) (IsStill p sent q) (IsRenewed (wanted now l) p now sent q)) w.allocations standing in
-    either (IsStill p sent q) (is_resting p.last_send now)
-    (subst (λ (o : Option Want). MatchBool (is_resting p.last_send now) (IsStill p sent q) (IsRenewed o p now sent q)) none one)
+    let both : MatchBool (is_resting (pace_of p) p.last_send now) (IsStill p sent q) (IsStarted p.phase p now sent q) = fresh h awaited older a [] last events p w now sent q is in
+    let standing : MatchBool (is_resting (pace_of p) p.last_send now) (IsStill p sent q) (IsRenewed (wanted now p.allocations) p now sent q) =
+    subst (λ (f : Phase). MatchBool (is_resting (pace_of p) p.last_send now) (IsStill p sent q) (IsStarted f p now sent q)) w.phase both in
+    let one : MatchBool (is_resting (pace_of p) p.last_send now) (IsStill p sent q) (IsRenewed (wanted now (a ∷ [])) p now sent q) =
+    subst (λ (l : List Allocation). MatchBool (is_resting (pace_of p) p.last_send now) (IsStill p sent q) (IsRenewed (wanted now l) p now sent q)) w.allocations standing in
+    either (IsStill p sent q) (is_resting (pace_of p) p.last_send now)
+    (subst (λ (o : Option Want). MatchBool (is_resting (pace_of p) p.last_send now) (IsStill p sent q) (IsRenewed o p now sent q)) none one)

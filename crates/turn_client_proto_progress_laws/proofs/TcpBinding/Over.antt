@@ -43,6 +43,9 @@ bound_stored h older permissions here peer connection last before after events p
     waits = w.settings.waits;
     allocates = w.settings.allocates;
     families = w.settings.families;
+    options = w.settings.options;
+    pace = w.settings.pace;
+    usual = w.settings.usual;
   };
   signs = w.signs;
   outstanding = w.outstanding;

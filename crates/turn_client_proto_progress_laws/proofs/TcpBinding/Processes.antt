@@ -115,6 +115,9 @@ module _ (h : Holder) (x : Requested) (older : List Requested) (a : Allocation) 
       waits = w.settings.waits;
       allocates = w.settings.allocates;
       families = w.settings.families;
+      options = w.settings.options;
+      pace = w.settings.pace;
+      usual = w.settings.usual;
     };
     signs = w.signs;
     outstanding = none_awaited;

@@ -14,7 +14,7 @@ use Rattle.turn_client_proto_messages.specs.StunTypesBase.Times.{time_after}
 use Rattle.turn_client_proto_messages.specs.Api.declared.answer.TurnPollRet.{TurnPollRet}
 use Rattle.turn_client_proto_messages.specs.Api.declared.event.TurnEvent.{TurnEvent}
 use Rattle.turn_client_proto_messages.specs.Waiting.{is_answer}
-use Rattle.turn_client_proto_step_laws.specs.Timers.Polling.{Answers, IsPolled, IsPolledBy, IsRefused, IsAgentPolled, longest_pause, wait_to_send}
+use Rattle.turn_client_proto_step_laws.specs.Timers.Polling.{Answers, IsPolled, IsPolledBy, IsRefused, IsAgentPolled, longest_pause, pace_of, wait_to_send}
 use Rattle.turn_client_proto_messages.specs.StunTypesWire.Attributes.{kind_at}
 use Rattle.turn_client_proto_messages.specs.StunTypesWire.Grammar.{number_at, refusal}
 use Rattle.turn_client_proto_messages.specs.StunTypesWire.declared.class.MessageClass.{MessageClass}
@@ -110,7 +110,7 @@ module _ (p : Protocol) (now : ℕ) (ret : TurnPollRet) (q : Protocol) where
       where_false (Answers (answer.WaitUntil now) p ret q) (IsAgentPolled p now ret q) (list_any is_answer p.queue) unanswered none
 
   abbrev pub pause : ℕ
-  pause = wait_to_send p.last_send p.queue now (time_after now longest_pause)
+  pause = wait_to_send (pace_of p) p.last_send p.queue now (time_after now longest_pause)
 
 -- While an event is queued, `poll` returns `WaitUntil` now.
 pub holding_polled : (p : Protocol) (event : TurnEvent) (others : List TurnEvent) → p.events ≡ event ∷ others → (now : ℕ) (ret : TurnPollRet) (q : Protocol) → IsPolled p now ret q

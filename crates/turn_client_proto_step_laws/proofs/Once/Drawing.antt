@@ -7,11 +7,12 @@ use Rattle.turn_client_proto_timers.specs.StunProtoTransaction.Agents.{Transacti
 use Rattle.turn_client_proto_timers.specs.StunProtoAgent.Sending.{NoneDue, is_due_of, stored_under}
 use Rattle.turn_client_proto_timers.specs.StunProtoAgent.State.{is_tcp}
 use Rattle.turn_client_proto_timers.specs.Drawing.{Again, Fresh, IsAnswerSent, IsStarted, IsChannelRenewalSent, IsTransmitted, IsFirstSent, IsFreshSent, IsMade, IsNextSent, IsQueuedSent, IsRefreshSent, IsRenewalSent, IsRenewed, IsRepeated, IsStill, Sends, after_sending, first_allocated, first_bound, first_permitted, first_refreshed, is_resting}
+use Rattle.turn_client_proto_timers.specs.Polling.{pace_of}
 use Rattle.turn_client_proto_timers.specs.Api.Sent.{Sent}
 use Rattle.turn_client_proto_timers.specs.Wanting.{wanted}
 use Rattle.turn_client_proto_timers.specs.declared.wanting.Want.{Want}
 use Rattle.turn_client_proto_timers.specs.declared.wanting.Want.TheVariants.{Refresh, Channel, Permission}
-use Rattle.turn_client_proto_timers.specs.Messages.Requests.{allocation_lifetime, request_text}
+use Rattle.turn_client_proto_timers.specs.Messages.Requests.{request_text}
 use Rattle.turn_client_proto_timers.specs.Messages.declared.request.TurnRequest.{TurnRequest}
 use Rattle.turn_client_proto_timers.specs.Messages.declared.request.TurnRequest.TheVariants.{ChannelBind, CreatePermission, FirstAllocate}
 use Rattle.turn_client_proto_timers.specs.Messages.declared.request.TurnRequest.TheVariants.{Refresh as RefreshRequest}
@@ -52,13 +53,13 @@ module _ (old : Protocol) (now : ℕ) where
   first_definite : IsDefinite (λ (sent : Sent) (new : Protocol). IsFirstSent old now sent new)
   first_definite = record {
     same = λ sent more one other a b.
-        made_same (FirstAllocate old.allocates old.families) (λ n. after_sending now (first_allocated n now old)) a.number b.number sent more one other a.made b.made a.after b.after;
+        made_same (FirstAllocate old.allocates old.families old.options) (λ n. after_sending now (first_allocated n now old)) a.number b.number sent more one other a.made b.made a.after b.after;
   }
 
   refresh_definite : IsDefinite (λ (sent : Sent) (new : Protocol). IsRefreshSent old now sent new)
   refresh_definite = record {
     same = λ sent more one other a b.
-        made_same (RefreshRequest allocation_lifetime) (λ n. after_sending now (first_refreshed n now old)) a.number b.number sent more one other a.made b.made a.after b.after;
+        made_same (RefreshRequest old.options.lifetime) (λ n. after_sending now (first_refreshed n now old)) a.number b.number sent more one other a.made b.made a.after b.after;
   }
 
   renewal_definite : (ip : IpAddr) → IsDefinite (λ (sent : Sent) (new : Protocol). IsRenewalSent old ip now sent new)
@@ -104,7 +105,7 @@ module _ (old : Protocol) (now : ℕ) where
   answer_definite (Some q) = only (Some (answer_sent q)) (record old { queue = without_answer old.queue })
 
   fresh_definite : IsDefinite (IsFreshSent old now)
-  fresh_definite = tested (is_resting old.last_send now) (answer_definite (find is_answer old.queue)) (next_definite old.queue)
+  fresh_definite = tested (is_resting (pace_of old) old.last_send now) (answer_definite (find is_answer old.queue)) (next_definite old.queue)
 
   -- ---- a request that is due again
 

@@ -18,7 +18,7 @@ use Rattle.turn_client_proto_timers.specs.Connection.Waiting.{unasked}
 use Rattle.turn_client_proto_timers.specs.Core.Ending.{ended}
 use Rattle.turn_client_proto_timers.specs.Messages.Waiting.{is_answer}
 use Rattle.turn_client_proto_step_laws.specs.Held.{Waiting}
-use Rattle.turn_client_proto_timers.specs.Polling.{IsClosing, IsPolled, IsPolledBy, IsPolledIn, IsPolledSent, IsPolledStanding, IsAgentPolled, AreAllocationsPolled, after_asking, after_time, answer_of, ended_of, left, longest_pause, ready_after, socket_for, wait_of, wait_to_send, waits_until}
+use Rattle.turn_client_proto_timers.specs.Polling.{IsClosing, IsPolled, IsPolledBy, IsPolledIn, IsPolledSent, IsPolledStanding, IsAgentPolled, AreAllocationsPolled, after_asking, after_time, answer_of, ended_of, left, longest_pause, pace_of, ready_after, socket_for, wait_of, wait_to_send, waits_until}
 use Rattle.turn_client_proto_timers.specs.Core.declared.protocol.Phase.{Phase}
 use Rattle.turn_client_proto_timers.specs.Core.declared.protocol.Phase.TheVariants.{Initial, InitialSent, Authenticating, Authenticated, Ended}
 use Rattle.turn_client_proto_timers.specs.Core.declared.protocol.Protocol.{Protocol}
@@ -41,11 +41,11 @@ module _ (over : Option ℕ) (wait : ℕ) (p : Protocol) (now : ℕ) where
   walked_definite : IsDefinite (AreAllocationsPolled over wait p now)
   walked_definite = record {
     same = λ ret again one other a b.
-        let next : a.next ≡ b.next = least_of_same wait (nexts over (ready_after p.last_send now) now (stored over now p.allocations)) a.next b.next a.least b.least in
-        let all : List ℕ = permissions.all_nexts over (ready_after p.last_send now) now (left over now p) in
+        let next : a.next ≡ b.next = least_of_same wait (nexts over (ready_after (pace_of p) p.last_send now) now (stored over now p.allocations)) a.next b.next a.least b.least in
+        let all : List ℕ = permissions.all_nexts over (ready_after (pace_of p) p.last_send now) now (left over now p) in
         let moved = subst (λ (n : ℕ). IsLeastOf n all a.sooner) next a.least_of_permissions in
         let sooner : a.sooner ≡ b.sooner = least_of_same b.next all a.sooner b.sooner moved b.least_of_permissions in
-        let each : List ℕ = channels.all_nexts over (ready_after p.last_send now) now (left over now p) in
+        let each : List ℕ = channels.all_nexts over (ready_after (pace_of p) p.last_send now) now (left over now p) in
         let again_moved = subst (λ (n : ℕ). IsLeastOf n each a.earliest) sooner a.least_of_channels in
         let earliest : a.earliest ≡ b.earliest = least_of_same b.sooner each a.earliest b.earliest again_moved b.least_of_channels in
         let ends : List ℕ = joined.all_nexts (left over now p) in
@@ -73,7 +73,7 @@ module _ (over : Option ℕ) (wait : ℕ) (p : Protocol) (now : ℕ) where
 module _ (old : Protocol) (now : ℕ) where
   -- The wait before the agent is polled.
   abbrev pause : ℕ
-  pause = wait_to_send old.last_send old.queue now (time_after now longest_pause)
+  pause = wait_to_send (pace_of old) old.last_send old.queue now (time_after now longest_pause)
 
   abbrev InAfter : StunAgentPollRet → agents.Agent → TurnPollRet → Protocol → Type 0
   InAfter ticked agent ret new = IsPolledIn old.phase (ended_of ticked) (wait_of pause ticked) (record old { agent = agent }) now ret new

@@ -1,5 +1,7 @@
-use Rattle.std.proofs.Common.{◌≤◌, List, length, subst}
+use Rattle.std.proofs.Common.{List, subst}
 use Rattle.stun_types_base.specs.declared.family.AddressFamily.{AddressFamily}
+use Rattle.turn_client_proto_api.specs.declared.options.AllocateOptions.{AllocateOptions}
+use Rattle.turn_client_proto_messages.specs.ReportedRequests.{IsLawfulAllocate}
 use Rattle.turn_client_proto_handshake_laws.specs.Promises.{HasSent, HasReported}
 use Rattle.turn_client_proto_handshake_laws.specs.Sent.{Beginning, HasRoom}
 use Rattle.turn_client_proto_handshake_laws.specs.declared.driving.Stage.{Stage}
@@ -17,7 +19,7 @@ beginning c = record {
 }
 
 has_room : (c : goal.After-drive-stage) → HasRoom c.args.config
-has_room c = (c.requires, subst (λ (l : List AddressFamily). length l ≤ 2) c.requested_families.ensures c.proof_requests_are_lawful.ensures)
+has_room c = (c.requires, subst (λ (o : AllocateOptions). IsLawfulAllocate c.args.config.families o) c.allocate_options-options.ensures (subst (λ (l : List AddressFamily). IsLawfulAllocate l c.allocate_options-options.result) c.requested_families-families.ensures c.proof_requests_are_lawful.ensures))
 
 pub returns-clause-closed : goal.returns-clause-closed
 returns-clause-closed c = λ now over.

@@ -21,7 +21,8 @@ use Rattle.turn_client_proto_handshake_laws.specs.Core.declared.protocol.Protoco
 use Rattle.turn_client_proto_handshake_laws.specs.Requested.{Requested, transaction_of}
 use Rattle.turn_client_proto_step_laws.specs.Recv.Connecting.{IsConnectAnswered, after_connecting}
 use Rattle.turn_client_proto_step_laws.specs.Timers.Drawing.{Again, Fresh, IsAnswerSent, IsFreshSent, IsNextSent, IsQueuedSent, IsTransmitted, is_resting}
-use Rattle.turn_client_proto_step_laws.specs.Timers.Polling.{cadence}
+use Rattle.turn_client_proto_messages.specs.Api.Options.{cadence}
+use Rattle.turn_client_proto_step_laws.specs.Timers.Polling.{pace_of}
 use Rattle.turn_client_proto_progress_laws.specs.Holders.{Holder}
 use Rattle.turn_client_proto_progress_laws.specs.TcpBinding.{IsHolding, IsReady, IsTcpBinding}
 use Rattle.turn_client_proto_progress_laws.proofs.TcpBinding.Connects.{connect_refused, connect_taken}
@@ -43,9 +44,9 @@ module _ (h : Holder) (awaited : Option Requested) (older : List Requested) (a :
 
   pub sent_counts : (now : ℕ) (sent : Option Sent) (q : Protocol) → time_after last cadence ≤ now → IsTransmitted p now sent q → q.resends ≡ p.resends
   sent_counts now sent q late is =
-      let both = subst (λ (l : List Queued). MatchBool (is_resting p.last_send now) (IsAnswerSent (find is_answer l) p sent q) (IsNextSent l p now sent q)) w.queue_is (transmitted_fresh now sent q is) in
-      let free : is_resting p.last_send now ≡ false = ap (λ (l : Option ℕ). is_resting l now) w.last_send ∙ le-ltb now (time_after last cadence) late in
-      let next = where_false (IsAnswerSent (find is_answer (one ∷ rest)) p sent q) (IsNextSent (one ∷ rest) p now sent q) (is_resting p.last_send now) free both in
+      let both = subst (λ (l : List Queued). MatchBool (is_resting (pace_of p) p.last_send now) (IsAnswerSent (find is_answer l) p sent q) (IsNextSent l p now sent q)) w.queue_is (transmitted_fresh now sent q is) in
+      let free : is_resting (pace_of p) p.last_send now ≡ false = ap (λ (l : Option ℕ). is_resting (pace_of p) l now) w.last_send ∙ (ap (λ (n : ℕ). is_resting n (Some last) now) (w.settings.pace ∙ w.settings.usual.pace) ∙ le-ltb now (time_after last cadence) late) in
+      let next = where_false (IsAnswerSent (find is_answer (one ∷ rest)) p sent q) (IsNextSent (one ∷ rest) p now sent q) (is_resting (pace_of p) p.last_send now) free both in
       let x = sends_one sent (λ (y : Sent). IsQueuedSent p now one rest y q) next in
       ap (λ (y : Protocol). y.resends) x.2.after
 

@@ -9,7 +9,7 @@ use Rattle.turn_desk_core.specs.TurnTypesAttributes.TurnRegistry.{refresh_method
 use Rattle.turn_client_proto_api.specs.Sent.{Sent, sent_of}
 use Rattle.turn_client_proto_messages.specs.Waiting.{Queued, is_answer}
 use Rattle.turn_client_proto_step_laws.specs.Timers.Drawing.{IsTransmitted}
-use Rattle.turn_client_proto_step_laws.specs.Timers.Polling.{cadence}
+use Rattle.turn_client_proto_messages.specs.Api.Options.{cadence}
 use Rattle.turn_client_proto_step_laws.specs.Recv.ClientState.{Protocol}
 use Rattle.turn_client_proto_handshake_laws.specs.Choosing.{Choice, allocate_of, signed_request, signed_sent, signer_by}
 use Rattle.turn_client_proto_handshake_laws.specs.Stages.{signed_queued}

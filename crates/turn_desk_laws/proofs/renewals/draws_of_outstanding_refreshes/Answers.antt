@@ -8,7 +8,7 @@ use Rattle.turn_client_proto_messages.specs.StunProtoClient.Challenges.{Challeng
 use Rattle.turn_client_proto_api.specs.StunProtoAuth.Claims.{Claimed}
 use Rattle.turn_client_proto_api.specs.declared.event.TurnEvent.{TurnEvent}
 use Rattle.turn_client_proto_api.specs.Sent.{Sent, sent_of}
-use Rattle.turn_client_proto_step_laws.specs.Timers.Polling.{cadence}
+use Rattle.turn_client_proto_messages.specs.Api.Options.{cadence}
 use Rattle.turn_client_proto_step_laws.specs.Recv.ClientState.{Protocol}
 use Rattle.turn_client_proto_handshake_laws.specs.Choosing.{Choice}
 use Rattle.turn_client_proto_handshake_laws.specs.Driving.{client_end}

@@ -6,7 +6,7 @@ use Rattle.turn_client_proto_progress_laws.specs.Asking.{APermission, AChannel, 
 use Rattle.turn_client_proto_progress_laws.specs.Speaking.{Speaks}
 use Rattle.turn_client_proto_progress_laws.proofs.Asking.Own.{AreRead}
 use Rattle.turn_client_proto_step_laws.specs.Recv.ClientState.{Protocol}
-use Rattle.turn_client_proto_step_laws.specs.Timers.Polling.{cadence}
+use Rattle.turn_client_proto_messages.specs.Api.Options.{cadence}
 use Rattle.turn_desk_world_laws.specs.World.Model.{World}
 use Rattle.turn_desk_world_laws.specs.World.Runs.{IsRun, IsStep}
 use Rattle.turn_desk_event.specs.declared.answer.Answer.{Answer}

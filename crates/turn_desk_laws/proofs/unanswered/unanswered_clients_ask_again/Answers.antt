@@ -5,7 +5,7 @@ use Rattle.turn_client_proto_step_laws.specs.Recv.ClientState.{Protocol}
 use Rattle.turn_client_proto_step_laws.specs.Timers.Drawing.{IsTransmitted}
 use Rattle.turn_client_proto_handshake_laws.specs.Driving.{client_end}
 use Rattle.turn_client_proto_handshake_laws.specs.Requested.{IsDue, IsQuiet, count_of}
-use Rattle.turn_client_proto_handshake_laws.specs.Sent.{HasRoom, Sending, first_sent}
+use Rattle.turn_client_proto_handshake_laws.specs.Sent.{HasRoom, IsUsual, Sending, first_sent}
 use Rattle.turn_client_proto_handshake_laws.specs.Stages.{IsAsking, first_requested}
 use Rattle.turn_client_proto_handshake_laws.proofs.Waiting.{slots_begin, some_sent}
 use Rattle.turn_desk_event.specs.StunProtoTransaction.Schedule.{slot_at}
@@ -31,7 +31,7 @@ module _ (c : goal.After-ended_clients_rest) (plan : Plan) (w v : World) (report
   After request ret = IsStageOf plan (reported ++ event_in ret) (after_draw request) (counted now ret t) head v × IsDrawAt plan request t now ret
 
   -- The first draw.
-  module _ (room : HasRoom plan.client.config) (is : IsNewSo plan reported t head w) (first : now ≡ plan.client.made) where
+  module _ (room : HasRoom plan.client.config) (usual : IsUsual plan.client.config) (is : IsNewSo plan reported t head w) (first : now ≡ plan.client.made) where
     asks : (core : Protocol) → IsAsking plan.client 1 plan.client.made core → IsAsking plan.client (t.many + 1) now core
     asks core is_asking =
         subst (λ (m : ℕ). IsAsking plan.client (t.many + 1) m core) (sym first)
@@ -40,11 +40,11 @@ module _ (c : goal.After-ended_clients_rest) (plan : Plan) (w v : World) (report
     by_first : (ret : Answer) (core : Protocol) → v.client ≡ Some (over (control_at plan.client.transport head) core) → IsTransmittedAs ret is.client.core plan.client.made core → After Unmade ret
     unfolding IsTransmittedAs
     by_first (answer.Transmit sent) core there transmitted =
-        let requested = c.new_clients_ask.ensures.transmitted plan.client is.client.core core (Some (sent_of sent)) room is.client.is transmitted in (
+        let requested = c.new_clients_ask.ensures.transmitted plan.client is.client.core core (Some (sent_of sent)) room usual is.client.is transmitted in (
           record { untold = untold reported [] is.untold refl; client = record { core = core; there = there; is = asks core requested.1 } },
           same_sent (sent_of sent) (first_sent plan.client) requested.0,
         )
-    by_first answer.Nothing core there transmitted = absurd (Prim.cc (c.new_clients_ask.ensures.transmitted plan.client is.client.core core None room is.client.is transmitted).0)
+    by_first answer.Nothing core there transmitted = absurd (Prim.cc (c.new_clients_ask.ensures.transmitted plan.client is.client.core core None room usual is.client.is transmitted).0)
     by_first _ core there transmitted = absurd transmitted
 
   -- Any later draw while the request is outstanding.
@@ -83,14 +83,14 @@ module _ (c : goal.After-ended_clients_rest) (plan : Plan) (w v : World) (report
     )
 
   module _ (ret : Answer) (step : IsStep (Draw now) w ret v) where
-    drawn_so : (request : RequestState) → HasRoom plan.client.config → MayDraw plan request now → IsStageOf plan reported request t head w → After request ret
-    drawn_so Unmade room first is =
+    drawn_so : (request : RequestState) → HasRoom plan.client.config → IsUsual plan.client.config → MayDraw plan request now → IsStageOf plan reported request t head w → After request ret
+    drawn_so Unmade room usual first is =
         let d = draws (control_at plan.client.transport head) w v is.client.core now ret is.client.there early step in
-        by_first room is first ret d.core d.there (subst (λ (m : ℕ). IsTransmittedAs ret is.client.core m d.core) first d.transmitted)
-    drawn_so Outstanding room may is =
+        by_first room usual is first ret d.core d.there (subst (λ (m : ℕ). IsTransmittedAs ret is.client.core m d.core) first d.transmitted)
+    drawn_so Outstanding room usual may is =
         let d = draws (control_at plan.client.transport head) w v is.client.core now ret is.client.there early step in
         by_later is ret d.core d.there d.transmitted (c.asking_clients_wait.ensures.cases plan.client (first_requested plan.client) t.many now)
-    drawn_so TimedOut room may is = ended is ret step
+    drawn_so TimedOut room usual may is = ended is ret step
 
   -- ---- what was transmitted
 
@@ -118,8 +118,8 @@ module _ (c : goal.After-ended_clients_rest) (plan : Plan) (w v : World) (report
     sends_on ret TimedOut may is so = subst Sent_ (sym so) (sent_same plan t sendings [] refl all)
 
 pub returns-clause-asks : goal.returns-clause-asks
-returns-clause-asks c = λ plan w v reported request t head now ret room is may early step. drawn_so c plan w v reported t head now early ret step request room may is
+returns-clause-asks c = λ plan w v reported request t head now ret room usual is may early step. drawn_so c plan w v reported t head now early ret step request room usual may is
 
 pub returns-clause-sends : goal.returns-clause-sends
-returns-clause-sends c = λ plan w v reported sendings request t head now ret room is may early step all.
-    sends_on c plan w v reported t head now early sendings all ret request may is (drawn_so c plan w v reported t head now early ret step request room may is).1
+returns-clause-sends c = λ plan w v reported sendings request t head now ret room usual is may early step all.
+    sends_on c plan w v reported t head now early sendings all ret request may is (drawn_so c plan w v reported t head now early ret step request room usual may is).1

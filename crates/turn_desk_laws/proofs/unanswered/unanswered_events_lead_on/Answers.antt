@@ -1,7 +1,7 @@
 use Rattle.std.proofs.Common.{◌≡◌, ◌++◌, ℕ, List, [], refl, sym, subst}
 use Rattle.turn_client_proto_api.specs.declared.event.TurnEvent.{TurnEvent}
 use Rattle.turn_client_proto_handshake_laws.specs.Coming.{IsPartOf}
-use Rattle.turn_client_proto_handshake_laws.specs.Sent.{HasRoom, Sending}
+use Rattle.turn_client_proto_handshake_laws.specs.Sent.{HasRoom, IsUsual, Sending}
 use Rattle.turn_desk_event.specs.declared.answer.Answer.{Answer}
 use Rattle.turn_desk_event.specs.declared.event.ClientCall.TheVariants as call
 use Rattle.turn_desk_event.specs.declared.event.Event.{Event}
@@ -16,7 +16,7 @@ use Rattle.turn_desk_laws.specs.UnansweredStages.{IsAtPosition, IsStageOf}
 use Rattle.turn_desk_laws.proofs.UnansweredStaying.{sent_same}
 use Rattle.turn_desk_laws.proofs.unanswered.unanswered_events_lead_on.Goals as goal
 
-module _ (c : goal.After-unanswered_clients_ignore) (plan : Plan) (w v : World) (reported : List TurnEvent) (sendings : List Sending) (room : HasRoom plan.client.config) (position next : Position) (event : Event) (ret : Answer) (is : IsAtPosition plan reported sendings position w) where
+module _ (c : goal.After-unanswered_clients_ignore) (plan : Plan) (w v : World) (reported : List TurnEvent) (sendings : List Sending) (room : HasRoom plan.client.config) (usual : IsUsual plan.client.config) (position next : Position) (event : Event) (ret : Answer) (is : IsAtPosition plan reported sendings position w) where
   abbrev t : Timing
   t = position.timing
 
@@ -41,8 +41,8 @@ module _ (c : goal.After-unanswered_clients_ignore) (plan : Plan) (w v : World) 
   one (Draws now may early is_event to) = as_said _ _ is_event to (λ step. record {
     message = is.message;
     part = is.part;
-    sent = c.unanswered_clients_ask_again.ensures.sends plan w v reported sendings position.request t position.buffered now ret room is.stage may early step is.sent;
-    stage = (c.unanswered_clients_ask_again.ensures.asks plan w v reported position.request t position.buffered now ret room is.stage may early step).0;
+    sent = c.unanswered_clients_ask_again.ensures.sends plan w v reported sendings position.request t position.buffered now ret room usual is.stage may early step is.sent;
+    stage = (c.unanswered_clients_ask_again.ensures.asks plan w v reported position.request t position.buffered now ret room usual is.stage may early step).0;
   })
   one (Polls now before early is_event to) = as_said _ _ is_event to (λ step. stays (Call call.Poll now) refl (c.unanswered_clients_time_out.ensures.waits plan w v reported position.request t position.buffered now ret is.stage before early step))
   one (TimesOut now at over early is_event to) = as_said _ _ is_event to (λ step. record {
@@ -64,4 +64,4 @@ module _ (c : goal.After-unanswered_clients_ignore) (plan : Plan) (w v : World) 
       record { message = s.1.0; part = s.1.1; sent = untransmitted (ToClient bytes plan.client.server plan.client.here now) refl; stage = s.0 })
 
 pub returns : goal.returns
-returns c = λ plan w v reported sendings position next event ret room goes is step. one c plan w v reported sendings room position next event ret is goes step
+returns c = λ plan w v reported sendings position next event ret room usual goes is step. one c plan w v reported sendings room usual position next event ret is goes step

@@ -29,7 +29,7 @@ module _ (c : goal.After-unanswered_clients_time_out) (plan : Plan) (old : World
       (subst (λ (l : List Sending). IsAtPosition plan reported l last new) (sym (append-nil sendings))
       (subst (λ (p : Position). IsAtPosition plan reported sendings p new) (sym is) (subst (λ (x : World). IsAtPosition plan reported sendings position x) (sym run) occurs)))
   all w new reported sendings position last (pair ∷ pairs) occurs run is =
-      let following = c.unanswered_events_lead_on.ensures plan w run.0 reported sendings position is.0 pair.0 pair.1 fresh.room is.1 occurs run.1 in
+      let following = c.unanswered_events_lead_on.ensures plan w run.0 reported sendings position is.0 pair.0 pair.1 fresh.room fresh.usual is.1 occurs run.1 in
       let sent : (sendings ++ sending_of pair.0 pair.1) ++ sendings_in pairs ≡ sendings ++ sendings_in (pair ∷ pairs) = append_assoc sendings (sending_of pair.0 pair.1) (sendings_in pairs) in
       subst (λ (l : List Sending). IsAtPosition plan (reported ++ events_in (pair ∷ pairs)) l last new) sent
       (subst (λ (l : List TurnEvent). IsAtPosition plan l ((sendings ++ sending_of pair.0 pair.1) ++ sendings_in pairs) last new) (append_assoc reported (event_in pair.1) (events_in pairs))
@@ -37,7 +37,7 @@ module _ (c : goal.After-unanswered_clients_time_out) (plan : Plan) (old : World
 
   started : IsPartOf [] (first_request plan.client)
   started = none_yet (first_request plan.client)
-      (c.proof_requests_are_read.ensures.message (signer_of plan.client.config) (FirstAllocate plan.client.config.transport plan.client.config.families) (first_number plan.client)
+      (c.proof_requests_are_read.ensures.message (signer_of plan.client.config) (FirstAllocate plan.client.config.transport plan.client.config.families plan.client.config.options) (first_number plan.client)
       (c.new_clients_ask.ensures.short plan.client fresh.room) fresh.room.1 (first_fits plan.client))
 
   none_sent : HasSent plan begin.timing []
@@ -63,7 +63,7 @@ module _ (c : goal.After-unanswered_clients_time_out) (plan : Plan) (old : World
 pub returns-clause-draws : goal.returns-clause-draws
 returns-clause-draws c = λ plan old w v pairs position now ret fresh run is may early step.
     let o = occurs c plan old fresh w pairs position run is in
-    (c.unanswered_clients_ask_again.ensures.asks plan w v (events_in pairs) position.request position.timing position.buffered now ret fresh.room o.stage may early step).1
+    (c.unanswered_clients_ask_again.ensures.asks plan w v (events_in pairs) position.request position.timing position.buffered now ret fresh.room fresh.usual o.stage may early step).1
 
 pub returns-clause-sent : goal.returns-clause-sent
 returns-clause-sent c = λ plan old new pairs position fresh run is. (occurs c plan old fresh new pairs position run is).sent
@@ -81,4 +81,4 @@ pub returns-clause-occurs : goal.returns-clause-occurs
 returns-clause-occurs c = λ plan old new pairs position fresh run is. occurs c plan old fresh new pairs position run is
 
 pub returns-clause-premises : goal.returns-clause-premises
-returns-clause-premises c = λ plan old may. record { client = may.client; room = may.room }
+returns-clause-premises c = λ plan old may. record { client = may.client; room = may.room; usual = may.usual }

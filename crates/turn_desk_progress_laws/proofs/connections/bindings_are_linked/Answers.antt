@@ -16,7 +16,7 @@ use Rattle.turn_client_proto_handshake_laws.specs.Driving.{client_end}
 use Rattle.turn_client_proto_progress_laws.specs.Holders.{Holder, queued_from, sent_from}
 use Rattle.turn_client_proto_progress_laws.specs.TcpBinding.{HasSentBind, allocation_of, bind_request, joining}
 use Rattle.turn_client_proto_progress_laws.specs.Overs.{IsFromServerTo}
-use Rattle.turn_client_proto_step_laws.specs.Timers.Polling.{cadence}
+use Rattle.turn_client_proto_messages.specs.Api.Options.{cadence}
 use Rattle.turn_client_proto_messages.specs.declared.request.TurnRequest.TheVariants.{ConnectionBind}
 use Rattle.turn_desk_world_laws.specs.World.Calls.{IsTransmittedAs, IsReported}
 use Rattle.turn_client_proto_step_laws.specs.Recv.Control.{Control}

@@ -282,7 +282,7 @@ module _ (c : goal.After-connections_are_listed) (plan : Plan) (old w v : World)
     receives_on : IsFresh plan old → IsStep (Call call.PollRecv now) w ret v → IsAtStageAgain plan old address lifetime link (Turned sent request reply head) v
     receives_on fresh step =
         let started : IsPartOf [] (first_request plan.client) = none_yet (first_request plan.client)
-        (c.proof_requests_are_read.ensures.message (signer_of plan.client.config) (FirstAllocate plan.client.config.transport plan.client.config.families) (first_number plan.client)
+        (c.proof_requests_are_read.ensures.message (signer_of plan.client.config) (FirstAllocate plan.client.config.transport plan.client.config.families plan.client.config.options) (first_number plan.client)
         (c.new_clients_ask.ensures.short plan.client fresh.room) fresh.room.1 (first_fits plan.client)) in
         let wait : DoWait = record { waiting = c.messages_reach_clients.ensures.waiting; none_waits = c.messages_reach_clients.ensures.none_waits } in
         let r = waiting_rests wait plan.client w v s.client.core [] (first_request plan.client) now ret s.client.there (c.connections_are_listed.ensures.joining_none _ _ _ _ _ _ _ _ _ _ _ _ _ _ t.binding.is) started step in

@@ -199,7 +199,7 @@ module _ (c : goal.After-holders_can_ask) (plan : Plan) (old : World) (fresh : I
       -- Nothing of a message has come: here of the first request.
       started : IsPartOf [] (first_request plan.client)
       started = none_yet (first_request plan.client)
-          (c.proof_requests_are_read.ensures.message (signer_of plan.client.config) (FirstAllocate plan.client.config.transport plan.client.config.families) (first_number plan.client)
+          (c.proof_requests_are_read.ensures.message (signer_of plan.client.config) (FirstAllocate plan.client.config.transport plan.client.config.families plan.client.config.options) (first_number plan.client)
           (c.new_clients_ask.ensures.short plan.client fresh.room) fresh.room.1 (first_fits plan.client))
 
       wait : DoWait

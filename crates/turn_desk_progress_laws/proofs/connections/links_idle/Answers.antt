@@ -8,7 +8,7 @@ use Rattle.turn_client_proto_handshake_laws.specs.Requested.{Requested as Reques
 use Rattle.turn_client_proto_progress_laws.specs.Holders.{Holder, IsListed}
 use Rattle.turn_client_proto_progress_laws.specs.TcpBinding.{connect_request, permission_request}
 use Rattle.turn_desk_world_laws.specs.TurnClientProtoPeers.Permission.Granted.{granted_for}
-use Rattle.turn_client_proto_step_laws.specs.Timers.Polling.{cadence}
+use Rattle.turn_client_proto_messages.specs.Api.Options.{cadence}
 use Rattle.turn_client_proto_progress_laws.specs.Resting.{IsResting}
 use Rattle.turn_desk_world_laws.specs.World.Model.{World}
 use Rattle.turn_desk_world_laws.specs.World.Runs.{IsStep}

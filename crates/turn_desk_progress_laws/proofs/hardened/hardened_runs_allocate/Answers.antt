@@ -124,7 +124,7 @@ module _ (c : goal.After-honest_runs_allocate) (plan : Plan) (old : World) (fres
       -- Nothing of a message has come: here of the first request.
       started : IsPartOf [] (first_request b)
       started = none_yet (first_request b)
-          (c.proof_requests_are_read.ensures.message (signer_of b.config) (FirstAllocate b.config.transport b.config.families) (first_number b) (c.new_clients_ask.ensures.short b fresh.room) fresh.room.1 (first_fits b))
+          (c.proof_requests_are_read.ensures.message (signer_of b.config) (FirstAllocate b.config.transport b.config.families b.config.options) (first_number b) (c.new_clients_ask.ensures.short b fresh.room) fresh.room.1 (first_fits b))
 
       receives : (head message : List ℕ) (Is : Protocol → Type 0) (h : HasClient plan head w Is) → IsPartOf head message → IsUnserved b h.core → Rests ret w v
       receives head message Is h part u = waiting_rests wait b w v h.core head message now ret h.there (c.stages_are_unserved.ensures.none_waits b h.core u) part step

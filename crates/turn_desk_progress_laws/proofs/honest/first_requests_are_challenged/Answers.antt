@@ -30,13 +30,13 @@ module _ (c : goal.After-first_requests_are_challenged) (plan : Plan) (old w v :
       request_is = is.request_is;
       client = record { core = is.client.core; there = client ∙ is.client.there; is = is.client.is };
       part = none_yet reply.items (is_message old.desk v.desk plan.client.here (first_request plan.client) reply.items plan.client.made seed decision replied.answer);
-      challenge = c.first_requests_are_challenged.ensures old.desk v.desk plan.client.here (signer_of plan.client.config) plan.client.config.transport plan.client.config.families (first_number plan.client) plan.client.made
+      challenge = c.first_requests_are_challenged.ensures old.desk v.desk plan.client.here (signer_of plan.client.config) plan.client.config.transport plan.client.config.families plan.client.config.options (first_number plan.client) plan.client.made
           (words_of seed) decision reply.items (c.new_clients_ask.ensures.short plan.client fresh.room) fresh.room.1 (first_fits plan.client) fresh.unknown replied.answer;
     },
   )
   by_reply answer.Nothing replied =
-      absurd (replied.0 (is_served_first (signer_of plan.client.config) plan.client.config.transport plan.client.config.families (first_number plan.client)
-      (c.proof_requests_are_read.ensures.read (signer_of plan.client.config) (FirstAllocate plan.client.config.transport plan.client.config.families) (first_number plan.client)
+      absurd (replied.0 (is_served_first (signer_of plan.client.config) plan.client.config.transport plan.client.config.families plan.client.config.options (first_number plan.client)
+      (c.proof_requests_are_read.ensures.read (signer_of plan.client.config) (FirstAllocate plan.client.config.transport plan.client.config.families plan.client.config.options) (first_number plan.client)
       (c.new_clients_ask.ensures.short plan.client fresh.room) fresh.room.1 (first_fits plan.client))))
   by_reply _ replied = absurd replied
 

@@ -20,7 +20,7 @@ module _ (c : goal.After-new_clients_ask) (plan : Plan) (old w v : World) (repor
   by_draw : (ret : Answer) (core : Protocol) → v.client ≡ Some (over (control_at plan.client.transport []) core) → v.desk ≡ w.desk → IsTransmittedAs ret is.client.core plan.client.made core → IsAtStage plan old (reported ++ event_in ret) (transmitted_first ret) v
   unfolding IsTransmittedAs
   by_draw (answer.Transmit sent) core there same transmitted =
-      let requested = c.new_clients_ask.ensures.transmitted plan.client is.client.core core (Some (sent_of sent)) fresh.room is.client.is transmitted in (
+      let requested = c.new_clients_ask.ensures.transmitted plan.client is.client.core core (Some (sent_of sent)) fresh.room fresh.usual is.client.is transmitted in (
         untold reported [] none refl,
         record {
           request_is = same_sent (sent_of sent) (requested_sent plan.client (first_requested plan.client)) requested.0;
@@ -28,7 +28,7 @@ module _ (c : goal.After-new_clients_ask) (plan : Plan) (old w v : World) (repor
           desk_is = same ∙ is.desk_is;
         },
       )
-  by_draw answer.Nothing core there same transmitted = absurd (Prim.cc (c.new_clients_ask.ensures.transmitted plan.client is.client.core core None fresh.room is.client.is transmitted).0)
+  by_draw answer.Nothing core there same transmitted = absurd (Prim.cc (c.new_clients_ask.ensures.transmitted plan.client is.client.core core None fresh.room fresh.usual is.client.is transmitted).0)
   by_draw _ core there same transmitted = absurd transmitted
 
 pub returns : goal.returns

@@ -52,7 +52,7 @@ module _ (c : goal.After-messages_are_reported_alike) (plan : Plan) (old w v : W
 
   by_reply : (ret : Answer) → IsReply ret w.desk bytes plan.client.here plan.second (by.Allocate (address ∷ []) lifetime) seed v.desk → IsAtStage plan old (reported ++ event_in ret) (replied_second request address lifetime ret) v
   by_reply (answer.Reply reply) replied =
-      let g = c.signed_allocates_are_granted.ensures w.desk v.desk plan.client.here (signer_by plan.client is.choice) plan.client.config.transport plan.client.config.families is.choice.number plan.second
+      let g = c.signed_allocates_are_granted.ensures w.desk v.desk plan.client.here (signer_by plan.client is.choice) plan.client.config.transport plan.client.config.families plan.client.config.options is.choice.number plan.second
       (words_of seed) (standing_by plan.client is.choice) (address ∷ []) lifetime reply.items short reads fresh.room.1 choice_is.fits (c.signed_allocates_answer.ensures.occurs plan.client is.choice) own
       (differ_still plan old.desk w.desk is.choice.reported is.chosen.under fresh.hashes) (is.chosen.under.challenge.occurs plan.second fresh.occurs) refl
       (c.relayed_addresses_are_reported.ensures.relayed is.choice.number (address ∷ []) (whole, tt)) four replied.answer in
@@ -85,7 +85,7 @@ module _ (c : goal.After-messages_are_reported_alike) (plan : Plan) (old w v : W
         },
       )
   by_reply answer.Nothing replied =
-      absurd (replied.0 (is_served (signer_by plan.client is.choice) plan.client.config.transport plan.client.config.families is.choice.number
+      absurd (replied.0 (is_served (signer_by plan.client is.choice) plan.client.config.transport plan.client.config.families plan.client.config.options is.choice.number
       (c.proof_requests_are_read.ensures.read (signer_by plan.client is.choice) (allocate_of plan.client) is.choice.number short fresh.room.1 choice_is.fits)))
   by_reply _ replied = absurd replied
 

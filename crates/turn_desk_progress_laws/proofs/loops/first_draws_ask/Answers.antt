@@ -24,7 +24,7 @@ module _ (c : goal.After-new_clients_ask) (plan : Plan) (old w v : World) (repor
   by_draw : (ret : Answer) (core : Protocol) → v.client ≡ Some (over (control_at plan.client.transport []) core) → v.desk ≡ w.desk → IsTransmittedAs ret is.client.core plan.client.made core → After ret
   unfolding IsTransmittedAs
   by_draw (answer.Transmit sent) core there same transmitted =
-      let requested = c.new_clients_ask.ensures.transmitted plan.client is.client.core core (Some (sent_of sent)) may.room is.client.is transmitted in
+      let requested = c.new_clients_ask.ensures.transmitted plan.client is.client.core core (Some (sent_of sent)) may.room may.usual is.client.is transmitted in
       let so : sent_of sent ≡ first_sent plan.client = same_sent (sent_of sent) (first_sent plan.client) requested.0 in (
         (
           untold reported [] none refl,
@@ -32,7 +32,7 @@ module _ (c : goal.After-new_clients_ask) (plan : Plan) (old w v : World) (repor
         ),
         so,
       )
-  by_draw answer.Nothing core there same transmitted = absurd (Prim.cc (c.new_clients_ask.ensures.transmitted plan.client is.client.core core None may.room is.client.is transmitted).0)
+  by_draw answer.Nothing core there same transmitted = absurd (Prim.cc (c.new_clients_ask.ensures.transmitted plan.client is.client.core core None may.room may.usual is.client.is transmitted).0)
   by_draw _ core there same transmitted = absurd transmitted
 
 pub returns : goal.returns

@@ -4,7 +4,7 @@ use Rattle.turn_desk_core.specs.StunTypesBase.declared.data.Data.{Data}
 use Rattle.turn_desk_core.specs.StunTypesBase.declared.transmit.Transmit.{Transmit}
 use Rattle.turn_desk_core.specs.StunTypesBase.Times.{time_after}
 use Rattle.turn_client_proto_api.specs.declared.event.TurnEvent.{TurnEvent}
-use Rattle.turn_client_proto_step_laws.specs.Timers.Polling.{cadence}
+use Rattle.turn_client_proto_messages.specs.Api.Options.{cadence}
 use Rattle.turn_client_proto_api.specs.Sent.{Sent, sent_of}
 use Rattle.turn_client_proto_step_laws.specs.Recv.ClientState.{Protocol}
 use Rattle.turn_client_proto_handshake_laws.specs.Choosing.{Choice, IsChoice, signed_requested, signed_sent}

@@ -1,7 +1,7 @@
 use Rattle.std.proofs.Common.{◌≡◌, ◌<◌, ◌≤◌, ◌+◌, ◌⊎◌, ℕ, List, [], Some, None, refl, sym, ◌∙◌, subst, inl, inr}
 use Rattle.std.specs.declared.net.socket_addr.SocketAddr.{SocketAddr}
 use Rattle.turn_desk_core.specs.StunTypesBase.Times.{time_after}
-use Rattle.turn_client_proto_step_laws.specs.Timers.Polling.{cadence}
+use Rattle.turn_client_proto_messages.specs.Api.Options.{cadence}
 use Rattle.turn_client_proto_api.specs.Sent.{Sent, sent_of}
 use Rattle.turn_client_proto_step_laws.specs.Recv.ClientState.{Protocol}
 use Rattle.turn_client_proto_handshake_laws.specs.Choosing.{Choice, signed_requested, signed_sent}

@@ -55,7 +55,7 @@ module _ (c : goal.After-messages_are_reported_alike) (plan : Plan) (old w v : W
 
   by_reply : (ret : Answer) → IsReply ret w.desk bytes plan.client.here now (by.Allocate (address ∷ []) lifetime) seed v.desk → IsStageOf plan old (reported ++ event_in ret) (replied_second request address lifetime ret) t v
   by_reply (answer.Reply reply) replied =
-      let g = c.signed_allocates_are_granted.ensures w.desk v.desk plan.client.here (signer_by plan.client is.choice) plan.client.config.transport plan.client.config.families is.choice.number now
+      let g = c.signed_allocates_are_granted.ensures w.desk v.desk plan.client.here (signer_by plan.client is.choice) plan.client.config.transport plan.client.config.families plan.client.config.options is.choice.number now
       (words_of seed) (standing_by plan.client is.choice) (address ∷ []) lifetime reply.items short reads may.room.1 choice_is.fits (c.signed_allocates_answer.ensures.occurs plan.client is.choice) own
       (differ_still (plan_at plan t.challenged) old.desk w.desk is.choice.reported is.is.under may.hashes) (is.is.under.challenge.occurs now in_time) refl
       (c.relayed_addresses_are_reported.ensures.relayed is.choice.number (address ∷ []) (whole, tt)) four replied.answer in
@@ -88,7 +88,7 @@ module _ (c : goal.After-messages_are_reported_alike) (plan : Plan) (old w v : W
         },
       )
   by_reply answer.Nothing replied =
-      absurd (replied.0 (is_served (signer_by plan.client is.choice) plan.client.config.transport plan.client.config.families is.choice.number
+      absurd (replied.0 (is_served (signer_by plan.client is.choice) plan.client.config.transport plan.client.config.families plan.client.config.options is.choice.number
       (c.proof_requests_are_read.ensures.read (signer_by plan.client is.choice) (allocate_of plan.client) is.choice.number short may.room.1 choice_is.fits)))
   by_reply _ replied = absurd replied
 

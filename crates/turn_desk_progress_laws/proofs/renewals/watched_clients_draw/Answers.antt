@@ -11,7 +11,7 @@ use Rattle.turn_client_proto_handshake_laws.specs.Choosing.{Choice, allocate_of,
 use Rattle.turn_client_proto_step_laws.specs.Timers.Drawing.{IsTransmitted}
 use Rattle.turn_client_proto_api.specs.Sent.{Sent, sent_of}
 use Rattle.turn_client_proto_handshake_laws.specs.Driving.{client_end}
-use Rattle.turn_client_proto_step_laws.specs.Timers.Polling.{cadence}
+use Rattle.turn_client_proto_messages.specs.Api.Options.{cadence}
 use Rattle.turn_client_proto_messages.specs.Waiting.{Queued, is_answer}
 use Rattle.turn_client_proto_handshake_laws.specs.Stages.{signed_queued}
 use Rattle.turn_client_proto_progress_laws.specs.Keeping.{IsKeeping, IsRefreshing, IsTerm, Term, due_of, next_of}

@@ -198,8 +198,8 @@ module _ (plan : Plan) (old : World) (core : Protocol) where
 
     -- The first request is not signed.
     first_request_unsigned : IsUnsigned (first_request plan.client)
-    first_request_unsigned = is_unsigned (signer_of plan.client.config) plan.client.config.transport plan.client.config.families (first_number plan.client)
-        (c.proof_requests_are_read.ensures.read (signer_of plan.client.config) (FirstAllocate plan.client.config.transport plan.client.config.families) (first_number plan.client)
+    first_request_unsigned = is_unsigned (signer_of plan.client.config) plan.client.config.transport plan.client.config.families plan.client.config.options (first_number plan.client)
+        (c.proof_requests_are_read.ensures.read (signer_of plan.client.config) (FirstAllocate plan.client.config.transport plan.client.config.families plan.client.config.options) (first_number plan.client)
         (c.new_clients_ask.ensures.short plan.client fresh.room) fresh.room.1 (first_fits plan.client))
 
     first_unsigned_so : (request : Sent) → request ≡ requested_sent plan.client (first_requested plan.client) → IsUnsigned request.bytes
