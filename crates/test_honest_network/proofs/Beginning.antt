@@ -10,6 +10,7 @@ use Rattle.stun_types_base.specs.Times.{time_after}
 use Rattle.stun_proto_server.specs.Server.{Server}
 use Rattle.stun_proto_server.specs.Users.{HashesDiffer}
 use Rattle.turn_client_proto_api.specs.TurnTypesFrame.Streams.{alive}
+use Rattle.turn_desk_progress_laws.specs.TurnClientProtoHandshakeLaws.Sent.{IsUsual}
 use Rattle.turn_desk_progress_laws.specs.Promises.{IsFresh, IsTimely, control_at, over}
 use Rattle.turn_desk_progress_laws.specs.Scripts.{plan_over}
 use Rattle.turn_client_proto.specs.Core.Beginning.{IsNew}
@@ -39,7 +40,7 @@ module _ (here server : SocketAddr) (config : Config) (seed : List ℕ) where
 
 abbrev pub Law : Config → Type 0
 Law config = (transport : TransportType) (local remote : SocketAddr) (seed : List ℕ) (made second : ℕ) (core : Protocol) (w : World) → w.client ≡ Some (over (control_at transport []) core)
-    → IsNew transport local remote config seed core → length config.credentials.username ≤ longest_username → map.get w.desk.auth.clients local ≡ None
+    → IsNew transport local remote config seed core → length config.credentials.username ≤ longest_username → IsUsual config → map.get w.desk.auth.clients local ≡ None
     → map.get w.desk.auth.users config.credentials.username ≡ Some config.credentials.password → HashesDiffer w.desk.auth
     → IsTimely (plan_over transport local remote config seed made second) → second < time_after made w.desk.auth.nonce_expiry
     → IsFresh (plan_over transport local remote config seed made second) w
@@ -48,7 +49,7 @@ pub begins : (s : Setting) (config : Config) (w : World) (k : ClientState) → L
 begins s config w k law config_is auth_is there started short =
     let l : Law (config_of s) = subst Law config_is law in
     let new = subst (λ (c : Config). IsNew s.transport s.here s.server c (replicate 32 0) started.0) config_is started.2 in
-    l s.transport s.here s.server (replicate 32 0) 0 SECOND started.0 w (there ∙ ap Some started.1) new short
+    l s.transport s.here s.server (replicate 32 0) 0 SECOND started.0 w (there ∙ ap Some started.1) new short (record { lifetime = refl; pace = refl })
     (ap (λ (a : Server). map.get a.clients s.here) auth_is ∙ map.get-empty socket_addr_cmp s.here)
     (ap (λ (a : Server). map.get a.users s.name.now) auth_is ∙ put_user s.name.now s.password.now)
     (differ w.desk.auth s.name.now s.password.now (ap (λ (a : Server). a.users) auth_is))

@@ -1,6 +1,6 @@
 -- A simulation of a server core and of a client over TCP that requests an allocation over TCP is ready for an
 -- honest run.
-use Rattle.std.proofs.Common.{◌≡◌, ◌≤◌, ◌<◌, [], Some, length, replicate, sym, ap, ◌∙◌, subst, arith}
+use Rattle.std.proofs.Common.{◌≡◌, ◌≤◌, ◌<◌, [], Some, length, replicate, refl, sym, ap, ◌∙◌, subst, arith}
 use Rattle.std.specs.Prelude.{Bool, IfOk, IsTrue, Result, Ok, Err}
 use Rattle.std.specs.FinMap as map
 use Rattle.std.specs.declared.net.socket_addr.SocketAddr.{SocketAddr}
@@ -30,7 +30,7 @@ pub begins : (s : Setting) (config : Config) (w : World) (k : ClientState) → L
 begins s config w k law config_is auth_is there started open_is short =
     let l : Law (stream_config_of s) = subst Law config_is law in
     let new = subst (λ (c : Config). IsNew Tcp s.here s.server c (replicate 32 0) k.core) config_is started in
-    l Tcp s.here s.server (replicate 32 0) 0 SECOND k.core w (there ∙ ap (λ (c : Control). Some (over c k.core)) open_is) new short
+    l Tcp s.here s.server (replicate 32 0) 0 SECOND k.core w (there ∙ ap (λ (c : Control). Some (over c k.core)) open_is) new short (record { lifetime = refl; pace = refl })
     (ap (λ (a : Server). map.get a.clients s.here) auth_is ∙ map.get-empty socket_addr_cmp s.here)
     (ap (λ (a : Server). map.get a.users s.name.now) auth_is ∙ put_user s.name.now s.password.now)
     (differ w.desk.auth s.name.now s.password.now (ap (λ (a : Server). a.users) auth_is))

@@ -14,6 +14,7 @@ use Rattle.turn_client_proto.specs.Allocation.Refreshing.{granted}
 use Rattle.turn_client_proto.specs.Allocation.declared.allocation.Allocation.{Allocation}
 use Rattle.turn_client_proto.specs.Timers.Drawing.{IsTransmitted, is_resting}
 use Rattle.turn_client_proto.specs.Timers.Polling.{pace_of}
+use Rattle.turn_client_proto_api.specs.Options.{cadence}
 use Rattle.turn_client_proto_api.specs.Sent.{Sent, sent_of}
 use Rattle.turn_client_proto.specs.TurnRuns.Members.{IsIn}
 use Rattle.turn_desk_progress_laws.specs.TurnClientProtoProgressLaws.Asking.{IsMade}
@@ -139,8 +140,10 @@ module _ (standing : Standing) (s : Setting) (address : SocketAddr) (what : Clie
 
   -- ---- it rests
 
-  free : (now : ℕ) → is_resting (Some SECOND) now ≡ false → is_resting (pace_of p) p.last_send now ≡ false
-  free now is_free = ap (λ (l : Option ℕ). is_resting l now) holds.last_send ∙ is_free
+  free : (now : ℕ) → is_resting cadence (Some SECOND) now ≡ false → is_resting (pace_of p) p.last_send now ≡ false
+  free now is_free =
+      ap (λ (l : Option ℕ). is_resting (pace_of p) l now) holds.last_send
+      ∙ (ap (λ (n : ℕ). is_resting n (Some SECOND) now) (holds.settings.pace ∙ holds.settings.usual.pace) ∙ is_free)
 
   abbrev drawing : IsTransmittedOn control p CALLED answer.Nothing one is.resting
   drawing = draws control one is.resting p CALLED answer.Nothing held.client.there (omega arith) (step_of one is.resting (Draw CALLED) answer.Nothing is.rests)
@@ -191,7 +194,7 @@ module _ (standing : Standing) (s : Setting) (address : SocketAddr) (what : Clie
   is_made =
       let m = requested.made in
       let d = draws control is.requested sends.transmitted requested.after TRANSMITTED (answer.Transmit sends.sent) requested.there (omega arith) step_transmitted in
-      transmitted p requested.after requested.text CALLED m holds.none_requested still.0 d.core TRANSMITTED (sent_of sends.sent) (ap (λ (l : Option ℕ). is_resting l TRANSMITTED) m.last ∙ free TRANSMITTED refl) (something requested.after d.core TRANSMITTED sends.sent d.transmitted)
+      transmitted p requested.after requested.text CALLED m holds.none_requested still.0 d.core TRANSMITTED (sent_of sends.sent) (ap (λ (l : Option ℕ). is_resting (pace_of requested.after) l TRANSMITTED) m.last ∙ (ap (λ (n : ℕ). is_resting n p.last_send TRANSMITTED) m.pace ∙ free TRANSMITTED refl)) (something requested.after d.core TRANSMITTED sends.sent d.transmitted)
 
   of : IsRequestOf is.resting is.requested request
   of = record { old = over control p; old_there = there_two; new = over control requested.after; new_there = requested.there; made = is_made }

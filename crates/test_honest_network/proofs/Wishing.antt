@@ -56,6 +56,7 @@ pub record HasMade (p q : Protocol) (text : List ℕ) (made : ℕ) : Type 0 wher
   pub agent : q.agent ≡ with_request p.agent text p.server made
   pub queue : q.queue ≡ p.queue ++ queued_request p.agent.here text ∷ []
   pub last : q.last_send ≡ p.last_send
+  pub pace : pace_of q ≡ pace_of p
 
 made_so : (p q : Protocol) (transport : TransportType) (ip : IpAddr) (made : ℕ) → (is : IsPermissionRequested p transport ip made q) → HasMade p q (request_text p.auth (PermissionRequest ip) is.number) made
 unfolding after_asking requested
@@ -63,6 +64,7 @@ made_so p q transport ip made is = record {
   agent = ap (λ (x : Protocol). x.agent) is.after;
   queue = ap (λ (x : Protocol). x.queue) is.after;
   last = ap (λ (x : Protocol). x.last_send) is.after;
+  pace = ap pace_of is.after;
 }
 
 abbrev ok : Result (Unit {0}) CreatePermissionError
@@ -84,6 +86,7 @@ bound_so p q transport peer channel made is = record {
   agent = ap (λ (x : Protocol). x.agent) is.after;
   queue = ap (λ (x : Protocol). x.queue) is.after;
   last = ap (λ (x : Protocol). x.last_send) is.after;
+  pace = ap pace_of is.after;
 }
 
 abbrev bound : Result (Unit {0}) BindChannelError

@@ -20,6 +20,7 @@ use Rattle.turn_client_proto_handshake_laws.specs.Core.declared.protocol.Phase.T
 use Rattle.turn_client_proto_step_laws.specs.Recv.Control.{Control}
 use Rattle.turn_client_proto_step_laws.specs.Recv.ClientState.{ClientState, Protocol}
 use Rattle.turn_client_proto_step_laws.specs.Timers.Drawing.{Again, Fresh, IsAnswerSent, IsFirstSent, IsNextSent, IsStarted, IsTransmitted, after_sending, first_allocated, is_resting, sent_at_once}
+use Rattle.turn_client_proto_step_laws.specs.Timers.Polling.{pace_of}
 use Rattle.turn_client_proto_handshake_laws.specs.Sent.{Beginning, Begins, first_number}
 use Rattle.turn_client_proto_handshake_laws.specs.Stages.{IsAsking}
 use Rattle.turn_client_proto_handshake_laws.proofs.First.{none_there, sends_one}
@@ -37,7 +38,7 @@ pub first_draws : (b : Beginning) (p : Protocol) → Begins b p → (sent : Opti
 unfolding first_allocated sent_at_once
 first_draws b p is sent q (Again one e r) = none_there b p is r.number r.transaction r.least.present
 first_draws b p is sent q (Fresh none fresh) =
-    let awake = subst (λ (l : Option ℕ). MatchBool (is_resting l b.made) (IsAnswerSent (find is_answer p.queue) p sent q) (IsNextSent p.queue p b.made sent q)) is.last_send fresh in
+    let awake = subst (λ (l : Option ℕ). MatchBool (is_resting (pace_of p) l b.made) (IsAnswerSent (find is_answer p.queue) p sent q) (IsNextSent p.queue p b.made sent q)) is.last_send fresh in
     let empty = subst (λ (l : List Queued). IsNextSent l p b.made sent q) is.queue awake in
     let begins = subst (λ (f : Phase). IsStarted f p b.made sent q) is.phase empty in
     let one = sends_one sent (λ (s : Sent). IsFirstSent p b.made s q) begins in

@@ -10,6 +10,7 @@ ghost use Rattle.turn_desk_core.specs.StunTypesBase.declared.transport.Transport
 ghost use Rattle.turn_client_proto_handshake_laws.specs.Core.Beginning.{IsNew};
 ghost use Rattle.turn_client_proto_step_laws.specs.Recv.ClientState.{Protocol};
 ghost use Rattle.turn_desk_world_laws.specs.World.Model.{World};
+ghost use Rattle.turn_client_proto_handshake_laws.specs.Sent.{IsUsual};
 ghost use Rattle.turn_desk_progress_laws.specs.Promises.{IsFresh, IsTimely, control_at, over};
 ghost use Rattle.turn_desk_progress_laws.specs.Scripts.{plan_over};
 
@@ -20,7 +21,8 @@ use turn_client_proto_messages::request::TurnRequest;
 /// An honest run can begin (`IsFresh`) in a simulation with:
 ///
 /// - a client as `TurnClientUdp::allocate` or `TurnClientTcp::allocate` makes it of these settings,
-///   whose user name fits into a request (RFC 8489, section 14.3)
+///   whose user name fits into a request (RFC 8489, section 14.3), and which request half an hour
+///   and leave 50 ms between two messages, as new settings do
 /// - a server core that has the client's user, stores nothing for the client's address, and has no
 ///   two users with the same USERHASH
 ///
@@ -33,6 +35,7 @@ pub fn worlds_begin_fresh(config: &TurnConfig)
         → w.client ≡ Some (over (control_at transport []) core)
         → IsNew transport local remote config.now seed core
         → length config.now.credentials.username ≤ longest_username
+        → IsUsual config.now
         → map.get w.desk.auth.clients local ≡ None
         → map.get w.desk.auth.users config.now.credentials.username
         ≡ Some config.now.credentials.password
@@ -43,5 +46,7 @@ pub fn worlds_begin_fresh(config: &TurnConfig)
 {
     names_are_texts(config);
     let allocates = config.allocation_transport();
-    proof_requests_are_lawful(&TurnRequest::FirstAllocate(allocates, config.requested_families()));
+    let families = config.requested_families();
+    let options = config.allocate_options();
+    proof_requests_are_lawful(&TurnRequest::FirstAllocate(allocates, families, options));
 }

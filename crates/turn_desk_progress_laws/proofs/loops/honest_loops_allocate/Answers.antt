@@ -108,6 +108,7 @@ pub returns-clause-premises : goal.returns-clause-premises
 returns-clause-premises c = λ plan old fresh. record {
   client = fresh.client;
   room = fresh.room;
+  usual = fresh.usual;
   text = fresh.text;
   unknown = fresh.unknown;
   user = fresh.user;
