@@ -1,15 +1,16 @@
--- What the client notes of the server's messages (RFC 8489, section 14).
+-- What the client notes of the server's messages (RFC 8489, section 14; RFC 8656, section 18).
 use Rattle.std.specs.Prelude.{ℕ, Bool, false, List, [], drop, length, nat_lt, Option, None, Some, is_none, if◌then◌else◌}
 use Rattle.std.specs.Option.{option_and_then}
 use Rattle.std.specs.declared.net.socket_addr.SocketAddr.{SocketAddr}
+use Rattle.byteorder.specs.Endian.{big_number}
 use Rattle.stun_types_attributes.specs.Addresses.{address_again, address_of, address_read_refusal}
 use Rattle.stun_types_attributes.specs.Xor.{xored}
 use Rattle.stun_types_wire.specs.Attributes.{Attr}
 use Rattle.stun_types_wire.specs.Grammar.{number_at}
 use Rattle.stun_types_wire.specs.Registry.{alternate_domain_kind, alternate_server_kind, error_code_kind, longest_domain, xor_mapped_address_kind}
 use Rattle.stun_types_wire.specs.declared.error.StunParseError.{StunParseError}
-use Rattle.stun_types_write.specs.ValueReading.{text_read_refusal, utf8_refusal}
-use Rattle.turn_types_attributes.specs.TurnRegistry.{xor_relayed_address_kind}
+use Rattle.stun_types_write.specs.ValueReading.{text_read_refusal, utf8_refusal, value_refusal}
+use Rattle.turn_types_attributes.specs.TurnRegistry.{reservation_token_kind, reservation_token_length, xor_relayed_address_kind}
 use Rattle.turn_types_peer.specs.TurnShows.{first_visible, unless_refused}
 
 -- The address in an XOR-MAPPED-ADDRESS of a message with this transaction ID, if that is well formed.
@@ -27,6 +28,16 @@ alternate_in a = unless_refused (address_read_refusal alternate_server_kind a) (
 -- The address in the first ALTERNATE-SERVER of the message (RFC 8489, section 14.15).
 abbrev pub alternate_reported : List ℕ → Option SocketAddr
 alternate_reported bytes = option_and_then alternate_in (first_visible alternate_server_kind bytes)
+
+-- The token in a RESERVATION-TOKEN, if that is well formed: its first byte is the most significant.
+abbrev pub reservation_in : Attr → Option ℕ
+reservation_in a =
+    unless_refused (value_refusal reservation_token_kind reservation_token_length reservation_token_length a)
+    (Some (big_number 8 a.value))
+
+-- The token in the first RESERVATION-TOKEN of the message (RFC 8656, section 18.10).
+abbrev pub reservation_reported : List ℕ → Option ℕ
+reservation_reported bytes = option_and_then reservation_in (first_visible reservation_token_kind bytes)
 
 -- The text in an ALTERNATE-DOMAIN, if that is well formed.
 abbrev pub domain_in : Attr → Option (List ℕ)

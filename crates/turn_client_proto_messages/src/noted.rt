@@ -1,7 +1,7 @@
 //! What the client notes of the server's messages.
 
 ghost use Rattle.std.specs.Prelude.{◌≡◌, IfOk};
-ghost use Rattle.turn_client_proto_messages.specs.Noted.{alternate_reported, domain_reported, is_relaying, mapped_reported, phrase_of, reason_reported};
+ghost use Rattle.turn_client_proto_messages.specs.Noted.{alternate_reported, domain_reported, is_relaying, mapped_reported, phrase_of, reason_reported, reservation_reported};
 
 use std::alloc::Global;
 use std::convert::TryFrom;
@@ -15,6 +15,7 @@ use stun_types_wire::registry;
 use stun_types_write::attribute::AttributeStaticType;
 use stun_types_write::reading::{read_text, text_of};
 use turn_client_proto_api::cause::MessageText;
+use turn_types_attributes::reservation_token::ReservationToken;
 use turn_types_attributes::xor_relayed_address::XorRelayedAddress;
 
 /// Returns the address in the first XOR-MAPPED-ADDRESS of the message (RFC 8489, section 14.2), or
@@ -37,6 +38,18 @@ pub fn alternate_reported(message: &Message<'_>) -> Option<SocketAddr>
     let raw = message.raw_attribute(AlternateServer::TYPE)?;
     match AlternateServer::try_from(&raw) {
         Ok(alternate) => Some(alternate.server()),
+        Err(_) => None,
+    }
+}
+
+/// Returns the token in the first RESERVATION-TOKEN of the message (RFC 8656, section 18.10), its
+/// first byte the most significant, or `None` if that is missing or malformed.
+pub fn reservation_reported(message: &Message<'_>) -> Option<u64>
+    ensures { result ≡ reservation_reported message.now }
+{
+    let raw = message.raw_attribute(ReservationToken::TYPE)?;
+    match ReservationToken::try_from(&raw) {
+        Ok(reservation) => Some(u64::from_be_bytes(*reservation.token())),
         Err(_) => None,
     }
 }
