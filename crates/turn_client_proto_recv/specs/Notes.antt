@@ -1,6 +1,6 @@
 -- What a client notes of the messages that it handles: why its events happened, its own address as the server
 -- saw it, and the server to which it was redirected.
-use Rattle.std.specs.Prelude.{◌≡◌, ℕ, ◌==◌, Bool, true, false, not, ◌&&◌, ◌||◌, List, length, Option, Some, None, is_some, if◌then◌else◌, ◌⊎◌}
+use Rattle.std.specs.Prelude.{◌≡◌, ℕ, ◌==◌, Bool, true, false, not, ◌&&◌, ◌||◌, List, [], length, Option, Some, None, is_some, if◌then◌else◌, ◌⊎◌}
 use Rattle.std.specs.Bool.{MatchBool}
 use Rattle.std.specs.declared.net.socket_addr.SocketAddr.{SocketAddr}
 use Rattle.stun_types_wire.specs.Attributes.{kind_at}
@@ -19,7 +19,7 @@ use Rattle.turn_client_proto_core.specs.declared.protocol.Phase.TheVariants.{Ini
 use Rattle.turn_client_proto_core.specs.declared.protocol.Protocol.{Protocol}
 use Rattle.turn_client_proto_messages.specs.Reported.{first_code, is_code, lifetime_reported}
 use Rattle.turn_client_proto_recv.specs.Processing.{IsProcessedAt}
-use Rattle.turn_client_proto_messages.specs.Noted.{alternate_reported, domain_reported, is_relaying, mapped_reported, reason_reported}
+use Rattle.turn_client_proto_messages.specs.Noted.{alternate_reported, domain_reported, is_relaying, mapped_reported, reason_reported, reservation_reported}
 use Rattle.turn_client_proto_api.specs.Causes.{IsPushed, advanced, no_causes}
 use Rattle.turn_client_proto_api.specs.declared.cause.TurnCause.{TurnCause}
 use Rattle.turn_client_proto_api.specs.declared.cause.TurnCause.TheVariants.{Rejected, Integrity, NoCommonAlgorithm, OtherFamily, Deleted, Unusable}
@@ -129,9 +129,11 @@ abbrev pub no_notes : Notes
 no_notes = record {
   causes = no_causes;
   mapped = None;
+  reservation = None;
   alternate = None;
   domain = None;
   is_deleted = false;
+  expired = [];
 }
 
 -- The notes after `delete` requested the end of the allocations.
@@ -152,6 +154,11 @@ is_redirected before bytes new = has_ended before bytes new && (has_end new.phas
 abbrev pub mapped_after : Before → List ℕ → Protocol → Option SocketAddr → Option SocketAddr
 mapped_after before bytes new mapped = if is_allocated before new then mapped_reported bytes else mapped
 
+-- The token of the port that the server reserved. It changes only by the response that allocated.
+abbrev pub reservation_after : Before → List ℕ → Protocol → Option ℕ → Option ℕ
+reservation_after before bytes new reservation =
+    if is_allocated before new then reservation_reported bytes else reservation
+
 -- The other server that the message names was noted. The domain is not if memory for it ran out.
 pub record IsRedirectNoted (bytes : List ℕ) (old new : Notes) : Type 0 where
   pub alternate : new.alternate ≡ alternate_reported bytes
@@ -169,8 +176,10 @@ pub record IsNotedBy (before : Before) (bytes : List ℕ) (p : Protocol) (old ne
   pub cause : IsPushed before.events (length p.events) (unless_deleted old.is_deleted (cause_of before bytes p))
       old.causes new.causes
   pub mapped : new.mapped ≡ mapped_after before bytes p old.mapped
+  pub reserved : new.reservation ≡ reservation_after before bytes p old.reservation
   pub redirect : IsRedirected before bytes p old new
   pub deleted : new.is_deleted ≡ old.is_deleted
+  pub expired : new.expired ≡ old.expired
 
 -- This cause was noted for the events that were queued since there were `before`, and nothing else. `p` is the
 -- client afterwards.

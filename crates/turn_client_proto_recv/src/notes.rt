@@ -1,6 +1,6 @@
 //! What a client notes of the messages that it handles: why its events happened, its own address
-//! as the server saw it, and the server to which it was redirected. What it notes changes nothing
-//! that it does otherwise.
+//! as the server saw it, and the server to which it was redirected; and which allocations expired.
+//! What it notes changes nothing that it does otherwise.
 
 ghost use Rattle.std.specs.Option.{option_copied};
 ghost use Rattle.std.specs.Prelude.{◌≡◌, IfOk, length};
@@ -18,9 +18,11 @@ use stun_types_wire::registry::{NONCE, REALM, STALE_NONCE, TRY_ALTERNATE, UNAUTH
 use turn_client_proto_api::cause::{MessageText, TurnCause};
 use turn_client_proto_api::causes::Causes;
 use turn_client_proto_api::event::TurnEvent;
+use turn_client_proto_api::expired::Expired;
 use turn_client_proto_core::protocol::{Phase, Protocol};
 use turn_client_proto_messages::noted::{
     alternate_reported, domain_reported, is_relaying, mapped_reported, reason_reported,
+    reservation_reported,
 };
 use turn_client_proto_messages::reported::{first_code, lifetime_reported};
 
@@ -59,6 +61,9 @@ pub struct Notes {
     /// The client's own address as the server saw it: the XOR-MAPPED-ADDRESS of the signed response
     /// that allocated (RFC 8656, section 7.3).
     pub mapped: Option<SocketAddr>,
+    /// The RESERVATION-TOKEN of that response (RFC 8656, section 18.10), its first byte the most
+    /// significant.
+    pub reservation: Option<u64>,
     /// The ALTERNATE-SERVER of the response 300 that ended the client (RFC 8489, section 10).
     pub alternate: Option<SocketAddr>,
     /// The ALTERNATE-DOMAIN of that response; `None` too if memory for it ran out.
@@ -66,6 +71,8 @@ pub struct Notes {
     /// Whether `delete` requested the end of the allocations. It is the cause of whatever fails or
     /// ends afterwards.
     pub is_deleted: bool,
+    /// The allocations whose time was over, and which the user was not told of yet.
+    pub expired: Expired,
 }
 
 impl Notes {
@@ -76,9 +83,11 @@ impl Notes {
         Notes {
             causes: Causes::new(alloc),
             mapped: None,
+            reservation: None,
             alternate: None,
             domain: None,
             is_deleted: false,
+            expired: Expired::new(),
         }
     }
 
@@ -88,6 +97,7 @@ impl Notes {
     {
         if is_allocated(before, protocol) {
             self.mapped = mapped_reported(message);
+            self.reservation = reservation_reported(message);
         }
         if is_redirected(before, message, protocol) {
             self.note_redirect(message, protocol.alloc);
