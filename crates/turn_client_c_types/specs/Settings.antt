@@ -14,12 +14,15 @@ use Rattle.stun_proto_auth.specs.declared.feature.Feature.TheVariants.{Required,
 use Rattle.turn_client_proto_api.specs.StunProtoTransaction.Schedule.{Waits}
 use Rattle.turn_client_proto_api.specs.Config.{Config, default_config}
 use Rattle.turn_client_proto_api.specs.Families.{with_family}
+use Rattle.turn_client_proto_api.specs.declared.options.AllocateOptions.{AllocateOptions}
+use Rattle.turn_client_proto_api.specs.declared.options.RelayedPort.{RelayedPort}
+use Rattle.turn_client_proto_api.specs.declared.options.RelayedPort.TheVariants.{Any, Even, EvenAndNextReserved, Reserved}
 use Rattle.turn_client_c_types.specs.Addresses.{transport_of}
 use Rattle.turn_client_c_types.specs.declared.settings.TurnSettings.{TurnSettings}
 
 -- The size of the settings in bytes.
 abbrev pub settings_size : ℕ
-settings_size = 104
+settings_size = 120
 
 -- The settings state this size.
 abbrev pub has_size : TurnSettings → Bool
@@ -44,7 +47,7 @@ both_of _ _ = None
 unfoldable pub transports_of : TurnSettings → Option (TransportType × TransportType)
 transports_of s =
     if nat_lt 3 s.families || (nat_lt 7 s.integrity || (nat_lt 2 s.anonymous
-    || (nat_lt 1 s.compatible || nat_lt 1 s.ignore_short_lifetimes))) then None
+    || (nat_lt 1 s.compatible || (nat_lt 1 s.ignore_short_lifetimes || nat_lt 3 s.port)))) then None
     else both_of (transport_set s.transport) (transport_set s.peers)
 
 -- The requested families, by the bits of families; by default IPv4.
@@ -106,6 +109,26 @@ attempts_of s = if not (s.max_connection_attempts == 0) then Some s.max_connecti
 abbrev pub short_lifetimes_of : TurnSettings → Bool
 short_lifetimes_of s = not (s.ignore_short_lifetimes == 1) && not (s.compatible == 1)
 
+-- The requested port of the relayed address.
+abbrev pub port_of : TurnSettings → RelayedPort
+port_of s = if s.port == 1 then Even else if s.port == 2 then EvenAndNextReserved
+    else if s.port == 3 then Reserved s.reservation else Any
+
+-- What an ALLOCATE asks for besides transport and families. The lifetime is the default if it is 0.
+abbrev pub options_of : TurnSettings → AllocateOptions → AllocateOptions
+options_of s first = record {
+  lifetime = if s.lifetime == 0 then first.lifetime else s.lifetime;
+  port = port_of s;
+}
+
+-- The greatest number stands for no time between two messages.
+abbrev pub no_pace : ℕ
+no_pace = 4_294_967_295
+
+-- The least time between two messages, in nanoseconds; the default if it is 0.
+abbrev pub pace_of : TurnSettings → ℕ → ℕ
+pace_of s first = if s.pace == no_pace then 0 else if s.pace == 0 then first else s.pace * millisecond
+
 -- The settings of a client of this user, whose allocation is over this transport. It is hardened unless they say
 -- otherwise.
 abbrev pub config_of : TurnSettings → TransportType → NameAndPassword → Config
@@ -117,5 +140,7 @@ config_of s peers user = record (default_config user) {
   hardened = not (s.compatible == 1);
   max_connection_attempts = attempts_of s;
   short_lifetimes = short_lifetimes_of s;
+  options = options_of s (default_config user).options;
+  pace = pace_of s (default_config user).pace;
   waits = waits_of s (default_config user).waits;
 }

@@ -2,7 +2,7 @@
 
 ghost use Rattle.std.specs.Prelude.{◌≡◌, ◌<◌, IfOk, IfSome};
 ghost use Rattle.stun_types_base.specs.declared.transport.TransportType.TheVariants.{Udp};
-ghost use Rattle.turn_client_c_types.specs.Settings.{algorithms_of, anonymous_of, attempts_of, config_of, families_of, has_bit, has_size, is_zero_seed, short_lifetimes_of, transport_set, transports_of, waits_of};
+ghost use Rattle.turn_client_c_types.specs.Settings.{algorithms_of, anonymous_of, attempts_of, config_of, families_of, has_bit, has_size, is_zero_seed, options_of, pace_of, port_of, short_lifetimes_of, transport_set, transports_of, waits_of};
 
 use crate::address::{TurnAddress, transport_of};
 use std::alloc::Global;
@@ -13,6 +13,8 @@ use stun_types_base::memory::NoMemory;
 use stun_types_base::transport::TransportType;
 use stun_types_wire::algorithm::IntegrityAlgorithm;
 use turn_client_proto_api::config::TurnConfig;
+use turn_client_proto_api::error::ZeroLifetime;
+use turn_client_proto_api::options::RelayedPort;
 use turn_types_attributes::credentials::TurnCredentials;
 
 /// The bit of IPv6 in `families`.
@@ -44,6 +46,18 @@ const COMPATIBLE: u32 = 1;
 
 /// A REFRESH doesn't shorten allocations.
 const IGNORES_SHORT_LIFETIMES: u32 = 1;
+
+/// An even port is requested.
+const PORT_EVEN: u32 = 1;
+
+/// An even port is requested, and the next one reserved.
+const PORT_EVEN_AND_NEXT: u32 = 2;
+
+/// The reserved port is requested.
+const PORT_RESERVED: u32 = 3;
+
+/// The client leaves no time between two messages.
+const NO_PACE: u32 = u32::MAX;
 
 /// The limit on connections of peers of a hardened client that states none.
 const DEFAULT_ATTEMPTS: usize = 64;
@@ -93,6 +107,17 @@ pub struct TurnSettings {
     /// 0: a REFRESH may shorten an allocation (`TurnConfig::set_short_lifetimes`), unless the
     /// client is not hardened. 1: it may not.
     pub ignore_short_lifetimes: u32,
+    /// The lifetime that an ALLOCATE and each REFRESH request, in seconds
+    /// (`TurnConfig::set_requested_lifetime`). 0 is 1800.
+    pub lifetime: u32,
+    /// The least time between two messages that the client sends, in milliseconds
+    /// (`TurnConfig::set_pace`). 0 is 50, and the greatest number is none.
+    pub pace: u32,
+    /// The requested port of the relayed address (`TurnConfig::set_relayed_port`): 0 is any, 1 an
+    /// even one, 2 an even one and the next one reserved, 3 the one that `reservation` names.
+    pub port: u32,
+    /// The token of a reserved port (RFC 8656, section 18.10).
+    pub reservation: u64,
 }
 
 /// The seed of the generator of a client's transaction IDs.
@@ -153,6 +178,7 @@ impl TurnSettings {
             || self.anonymous > ANONYMOUS_DISABLED
             || self.compatible > COMPATIBLE
             || self.ignore_short_lifetimes > IGNORES_SHORT_LIFETIMES
+            || self.port > PORT_RESERVED
         {
             return None;
         }
@@ -186,6 +212,8 @@ impl TurnSettings {
         config.set_hardened(self.compatible != COMPATIBLE);
         config.set_max_connection_attempts(self.attempts());
         config.set_short_lifetimes(self.short_lifetimes());
+        self.set_options(&mut config);
+        self.set_pace(&mut config);
         self.set_waits(&mut config);
         Ok(config)
     }
@@ -208,6 +236,41 @@ impl TurnSettings {
         ensures { result ≡ short_lifetimes_of self.now }
     {
         self.ignore_short_lifetimes != IGNORES_SHORT_LIFETIMES && self.compatible != COMPATIBLE
+    }
+
+    /// Returns the requested port of the relayed address.
+    fn relayed_port(&self) -> RelayedPort
+        ensures { result ≡ port_of self.now }
+    {
+        match self.port {
+            PORT_EVEN => RelayedPort::Even,
+            PORT_EVEN_AND_NEXT => RelayedPort::EvenAndNextReserved,
+            PORT_RESERVED => RelayedPort::Reserved(self.reservation),
+            _ => RelayedPort::Any,
+        }
+    }
+
+    /// Sets the requested lifetime, unless it is 0, and the requested port.
+    fn set_options(&self, config: &mut TurnConfig)
+        ensures { config.new ≡ record config.old {
+          options = options_of self.now config.old.options;
+        } }
+    {
+        match config.set_requested_lifetime(self.lifetime) {
+            Ok(()) | Err(ZeroLifetime) => {}
+        }
+        config.set_relayed_port(self.relayed_port());
+    }
+
+    /// Sets the least time between two messages, unless it is 0.
+    fn set_pace(&self, config: &mut TurnConfig)
+        ensures { config.new ≡ record config.old { pace = pace_of self.now config.old.pace } }
+    {
+        if self.pace == NO_PACE {
+            config.set_pace(Duration::from_millis(0));
+        } else if self.pace != 0 {
+            config.set_pace(Duration::from_millis(u64::from(self.pace)));
+        }
     }
 
     /// Sets the families.
