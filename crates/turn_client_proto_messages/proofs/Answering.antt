@@ -125,7 +125,7 @@ type_small Failed = omega arith
 pub answer_number : (client : Client) (answer : AttemptAnswer) (number : ℕ) → number < 2 ^ 96 → number_at (answer_text client answer number) ≡ number
 unfolding answer_text
 answer_number client answer number n =
-    (whole_read (answer_type answer) number (answer_attributes answer) (addition_for client (answer_class answer)) (type_small answer) n (answer_small answer) (answer_few answer) (answer_short client answer)).number
+    (whole_read (answer_type answer) number (answer_attributes answer) (addition_for client (answer_class answer)) (type_small answer) n (answer_small answer) (let few = answer_few answer in omega (arith, few)) (answer_short client answer)).number
 
 -- A response has its class.
 pub answer_is : (client : Client) (answer : AttemptAnswer) (number : ℕ) → class_of (kind_at (answer_text client answer number)) ≡ answer_class answer

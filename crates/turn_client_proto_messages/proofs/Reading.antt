@@ -85,8 +85,8 @@ relayed_few families EvenAndNextReserved = let few = requested_few families in o
 relayed_few families (Reserved token) = omega arith
 
 pub attributes_few : (request : TurnRequest) (number : ℕ) → IsLawfulRequest request → length (request_attributes request number) ≤ 6
-attributes_few (FirstAllocate transport families options) number lawful = let few = relayed_few families options.port in let two = lawful.families in omega (arith, few, two)
-attributes_few (Allocate transport families options) number lawful = let few = relayed_few families options.port in let two = lawful.families in omega (arith, few, two)
+attributes_few (FirstAllocate transport families options) number lawful = let few = relayed_few families options.port in let two = lawful.few in omega (arith, few, two)
+attributes_few (Allocate transport families options) number lawful = let few = relayed_few families options.port in let two = lawful.few in omega (arith, few, two)
 attributes_few (Refresh lifetime) number lawful = omega arith
 attributes_few (CreatePermission ip) number lawful = omega arith
 attributes_few (ChannelBind channel peer) number lawful = omega arith

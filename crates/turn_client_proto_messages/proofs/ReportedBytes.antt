@@ -169,10 +169,10 @@ pub request_reported : (request : TurnRequest) (number : ℕ) (rest : List Attr)
     → reported_of (request_type request) number (request_attributes request number ++ rest) ≡ reported_request request number
 request_reported (FirstAllocate transport families options) number rest lawful read other =
     reported_made (request_type (FirstAllocate transport families options)) number (request_attributes (FirstAllocate transport families options) number ++ rest) (Some transport) (Some options.lifetime) [] None None
-    (report_first number options.lifetime transport (relayed_attributes families options ++ rest) lawful.lifetime (other_both (relayed_attributes families options) rest (relayed_other families options.port) other))
+    (report_first number options.lifetime transport (relayed_attributes families options ++ rest) lawful.fits (other_both (relayed_attributes families options) rest (relayed_other families options.port) other))
 request_reported (Allocate transport families options) number rest lawful read other =
     reported_made (request_type (Allocate transport families options)) number (request_attributes (Allocate transport families options) number ++ rest) (Some transport) (Some options.lifetime) [] None None
-    (report_allocate number options.lifetime transport (relayed_attributes families options ++ rest) lawful.lifetime (other_both (relayed_attributes families options) rest (relayed_other families options.port) other))
+    (report_allocate number options.lifetime transport (relayed_attributes families options ++ rest) lawful.fits (other_both (relayed_attributes families options) rest (relayed_other families options.port) other))
 request_reported (Refresh lifetime) number rest lawful read other =
     reported_made (request_type (Refresh lifetime)) number (lifetime_attribute lifetime ∷ rest) None (Some lifetime) [] None None (report_lifetime number lifetime rest lawful other)
 request_reported (CreatePermission ip) number rest lawful read other =

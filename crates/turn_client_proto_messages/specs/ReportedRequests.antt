@@ -59,8 +59,8 @@ CanBeRead _ transaction_id = Unit {0}
 
 -- What the types of an ALLOCATE ensure: at most two families, and a lifetime that fits its bits.
 pub record IsLawfulAllocate (families : List AddressFamily) (options : AllocateOptions) : Type 0 where
-  pub families : length families ≤ 2
-  pub lifetime : options.lifetime < 2 ^ 32
+  pub few : length families ≤ 2
+  pub fits : options.lifetime < 2 ^ 32
 
 -- What the types of a request ensure: at most two families, numbers that fit their bits, and octets or
 -- segments that fit theirs.
