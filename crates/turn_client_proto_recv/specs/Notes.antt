@@ -1,6 +1,6 @@
 -- What a client notes of the messages that it handles: why its events happened, its own address as the server
 -- saw it, and the server to which it was redirected.
-use Rattle.std.specs.Prelude.{◌≡◌, ℕ, ◌==◌, Bool, true, false, not, ◌&&◌, ◌||◌, List, length, Option, Some, None, is_some, if◌then◌else◌, ◌⊎◌}
+use Rattle.std.specs.Prelude.{◌≡◌, ℕ, ◌==◌, Bool, true, false, not, ◌&&◌, ◌||◌, List, [], length, Option, Some, None, is_some, if◌then◌else◌, ◌⊎◌}
 use Rattle.std.specs.Bool.{MatchBool}
 use Rattle.std.specs.declared.net.socket_addr.SocketAddr.{SocketAddr}
 use Rattle.stun_types_wire.specs.Attributes.{kind_at}
@@ -132,6 +132,7 @@ no_notes = record {
   alternate = None;
   domain = None;
   is_deleted = false;
+  expired = [];
 }
 
 -- The notes after `delete` requested the end of the allocations.
@@ -171,6 +172,7 @@ pub record IsNotedBy (before : Before) (bytes : List ℕ) (p : Protocol) (old ne
   pub mapped : new.mapped ≡ mapped_after before bytes p old.mapped
   pub redirect : IsRedirected before bytes p old new
   pub deleted : new.is_deleted ≡ old.is_deleted
+  pub expired : new.expired ≡ old.expired
 
 -- This cause was noted for the events that were queued since there were `before`, and nothing else. `p` is the
 -- client afterwards.

@@ -1,6 +1,6 @@
 //! What a client notes of the messages that it handles: why its events happened, its own address
-//! as the server saw it, and the server to which it was redirected. What it notes changes nothing
-//! that it does otherwise.
+//! as the server saw it, and the server to which it was redirected; and which allocations expired.
+//! What it notes changes nothing that it does otherwise.
 
 ghost use Rattle.std.specs.Option.{option_copied};
 ghost use Rattle.std.specs.Prelude.{◌≡◌, IfOk, length};
@@ -18,6 +18,7 @@ use stun_types_wire::registry::{NONCE, REALM, STALE_NONCE, TRY_ALTERNATE, UNAUTH
 use turn_client_proto_api::cause::{MessageText, TurnCause};
 use turn_client_proto_api::causes::Causes;
 use turn_client_proto_api::event::TurnEvent;
+use turn_client_proto_api::expired::Expired;
 use turn_client_proto_core::protocol::{Phase, Protocol};
 use turn_client_proto_messages::noted::{
     alternate_reported, domain_reported, is_relaying, mapped_reported, reason_reported,
@@ -66,6 +67,8 @@ pub struct Notes {
     /// Whether `delete` requested the end of the allocations. It is the cause of whatever fails or
     /// ends afterwards.
     pub is_deleted: bool,
+    /// The allocations whose time was over, and which the user was not told of yet.
+    pub expired: Expired,
 }
 
 impl Notes {
@@ -79,6 +82,7 @@ impl Notes {
             alternate: None,
             domain: None,
             is_deleted: false,
+            expired: Expired::new(),
         }
     }
 
