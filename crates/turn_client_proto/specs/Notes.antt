@@ -42,5 +42,5 @@ expired_after held p expired =
     if is_authenticated p.phase then pushed_all (gone_of held p.allocations) expired else expired
 
 -- The notes after the user was told of the oldest expired allocation, or there was none.
-abbrev pub after_told : Notes → Notes
-after_told n = record n { expired = rest_of n.expired }
+abbrev pub after_report : Notes → Notes
+after_report n = record n { expired = rest_of n.expired }

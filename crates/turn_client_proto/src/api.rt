@@ -16,7 +16,7 @@ ghost use Rattle.turn_client_proto_core.specs.Permitting.{IsPermissionAnswered};
 ghost use Rattle.turn_client_proto_timers.specs.Polling.{IsPolled};
 ghost use Rattle.turn_client_proto_payload.specs.Sending.{IsSendAnswered, answered_as};
 ghost use Rattle.turn_client_proto.specs.Getters.{channels_of, connections_of, has_permission, permissions_of, relayed_of};
-ghost use Rattle.turn_client_proto.specs.Notes.{IsPollNoted, after_told, expired_after, held_of};
+ghost use Rattle.turn_client_proto.specs.Notes.{IsPollNoted, after_report, expired_after, held_of};
 ghost use Rattle.turn_client_proto_api.specs.Causes.{cause_taken};
 ghost use Rattle.turn_client_proto_api.specs.Expired.{first_of};
 ghost use Rattle.turn_client_proto_api.specs.declared.cause.TurnCause.TheVariants.{SocketClosed};
@@ -623,7 +623,7 @@ pub trait TurnClientApi: Debug + Send {
     ///   time was left. The same holds of a client that has ended.
     fn poll_expired(&mut self) -> Option<AllocationExpired>
         ensures oldest { result ≡ first_of (noted self.old).expired }
-        ensures left { noted self.new ≡ after_told (noted self.old) }
+        ensures left { noted self.new ≡ after_report (noted self.old) }
         ensures client { stored self.new ≡ stored self.old };
 
     /// Returns why the event that `poll_event` returned last reports that something failed or
