@@ -3,6 +3,7 @@
 pub mod Clients
 pub mod Codes
 pub mod Getters
+pub mod Gone
 pub mod Notes
 pub mod SocketsReported
 pub use Rattle.turn_client_proto_recv.specs.Control

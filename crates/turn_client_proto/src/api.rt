@@ -16,8 +16,9 @@ ghost use Rattle.turn_client_proto_core.specs.Permitting.{IsPermissionAnswered};
 ghost use Rattle.turn_client_proto_timers.specs.Polling.{IsPolled};
 ghost use Rattle.turn_client_proto_payload.specs.Sending.{IsSendAnswered, answered_as};
 ghost use Rattle.turn_client_proto.specs.Getters.{channels_of, connections_of, has_permission, permissions_of, relayed_of};
-ghost use Rattle.turn_client_proto.specs.Notes.{IsPollNoted};
+ghost use Rattle.turn_client_proto.specs.Notes.{IsPollNoted, after_report, expired_after, held_of};
 ghost use Rattle.turn_client_proto_api.specs.Causes.{cause_taken};
+ghost use Rattle.turn_client_proto_api.specs.Expired.{first_of};
 ghost use Rattle.turn_client_proto_api.specs.declared.cause.TurnCause.TheVariants.{SocketClosed};
 ghost use Rattle.turn_client_proto_recv.specs.ClientState.{ClientState, Leaves};
 ghost use Rattle.turn_client_proto_recv.specs.Notes.{AreNoted, IsCallNoted, after_deletion, after_event};
@@ -46,6 +47,7 @@ pub use turn_client_proto_api::error::{
     TcpConnectError,
 };
 pub use turn_client_proto_api::event::TurnEvent;
+pub use turn_client_proto_api::expired::AllocationExpired;
 pub use turn_client_proto_api::send::{DelayedMessageOrChannelSend, DelayedTransmit};
 pub use turn_types_attributes::credentials::TurnCredentials;
 pub use turn_types_frame::build::TransmitBuild;
@@ -65,7 +67,7 @@ pub const CLIENT_END: u64 = 1 << 62;
 /// | purpose | calls |
 /// |---|---|
 /// | exchange bytes | `recv`, `poll_recv`, `poll_transmit`, `send_to` |
-/// | time and events | `poll`, `poll_event` |
+/// | time and events | `poll`, `poll_event`, `poll_expired` |
 /// | request something from the server | `create_permission`, `bind_channel`, `tcp_connect`, `delete` |
 /// | report what the caller did | `allocated_tcp_socket`, `tcp_closed`, `protocol_error` |
 /// | change what requests carry | `set_credentials`, `set_software`, `set_fingerprint` |
@@ -117,7 +119,8 @@ pub const CLIENT_END: u64 = 1 << 62;
 ///
 /// # What may surprise a caller
 ///
-/// - An allocation that expires is removed without an event: look at `relayed_addresses`.
+/// - An allocation that expires is removed without an event: look at `relayed_addresses`, or call
+///   `poll_expired`.
 /// - If a REFRESH is granted less than 600 seconds, the allocation keeps its earlier end, no
 ///   further REFRESH is sent, and the allocation expires then; unless the settings say otherwise
 ///   (`TurnConfig::set_short_lifetimes`).
@@ -558,7 +561,8 @@ pub trait TurnClientApi: Debug + Send {
     /// - connections that a peer began and whose request has ended: of each allocation one at each
     ///   call.
     ///
-    /// Each removal is reported by an event, except that of an allocation.
+    /// Each removal is reported by an event, except that of an allocation: `poll_expired` returns
+    /// it, if the settings say so (`TurnConfig::set_short_lifetimes`).
     ///
     /// # Out of memory
     ///
@@ -567,7 +571,10 @@ pub trait TurnClientApi: Debug + Send {
     fn poll(&mut self, now: Instant) -> TurnPollRet
         ensures polled { Leaves (λ old new. IsPolled old now result new) (stored self.old)
             (stored self.new) }
-        ensures noted { IsPollNoted (noted self.old) (noted self.new) };
+        ensures noted { IsPollNoted (noted self.old) (noted self.new) }
+        ensures expired { (noted self.new).expired
+            ≡ expired_after (held_of (stored self.old).core (noted self.old)) (stored self.new).core
+            (noted self.old).expired };
 
     /// Returns what is to be sent at `now`, or `None`. Call it again until it returns `None`.
     ///
@@ -603,6 +610,21 @@ pub trait TurnClientApi: Debug + Send {
         ensures others { Leaves (λ old new. new ≡ record old { events = new.events })
             (stored self.old) (stored self.new) }
         ensures noted { noted self.new ≡ after_event result (noted self.old) };
+
+    /// Returns the oldest allocation that `poll` removed because its time was over (RFC 8656, section
+    /// 6) and that was not returned yet, or `None` if there is none. Needs no memory. Call it after
+    /// `poll`, until it returns `None`.
+    ///
+    /// - Each is returned once, if the settings say that short lifetimes are believed
+    ///   (`TurnConfig::set_short_lifetimes`). Otherwise it is always `None`.
+    /// - What goes after `delete` succeeded is not returned: the caller knows that it goes. What
+    ///   expired before is.
+    /// - If `poll` returns `NoMemory`, it adds nothing: the client holds nothing any more, whatever
+    ///   time was left. The same holds of a client that has ended.
+    fn poll_expired(&mut self) -> Option<AllocationExpired>
+        ensures oldest { result ≡ first_of (noted self.old).expired }
+        ensures left { noted self.new ≡ after_report (noted self.old) }
+        ensures client { stored self.new ≡ stored self.old };
 
     /// Returns why the event that `poll_event` returned last reports that something failed or
     /// ended. It is `None` if that event reports a success, or if there was none yet.

@@ -25,6 +25,7 @@ use turn_client_proto_api::error::{
     TcpConnectError,
 };
 use turn_client_proto_api::event::TurnEvent;
+use turn_client_proto_api::expired::AllocationExpired;
 use turn_client_proto_api::send::DelayedMessageOrChannelSend;
 use turn_types_attributes::credentials::TurnCredentials;
 use turn_types_frame::build::TransmitBuild;
@@ -244,6 +245,13 @@ impl TurnClientApi for TurnClient {
         match self {
             TurnClient::Udp(client) => client.poll_event(),
             TurnClient::Tcp(client) => client.poll_event(),
+        }
+    }
+
+    fn poll_expired(&mut self) -> Option<AllocationExpired> {
+        match self {
+            TurnClient::Udp(client) => client.poll_expired(),
+            TurnClient::Tcp(client) => client.poll_expired(),
         }
     }
 

@@ -13,6 +13,7 @@
 pub mod api;
 pub mod client;
 mod getters;
+mod gone;
 pub mod laws;
 mod notes;
 pub mod prelude;

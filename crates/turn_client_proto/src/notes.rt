@@ -1,15 +1,17 @@
-//! What a client notes of `poll`: why it queued events.
+//! What a client notes of `poll`: why it queued events, and which allocations it removed.
 
 ghost use Rattle.std.specs.Prelude.{◌≡◌, ◌⊎◌, ◌<◌};
-ghost use Rattle.turn_client_proto_api.specs.declared.cause.TurnCause.TheVariants.{Expired, Unanswered};
+ghost use Rattle.turn_client_proto_api.specs.declared.cause.TurnCause.TheVariants.{Expired as Over, Unanswered};
 ghost use Rattle.turn_client_proto_api.specs.declared.causes.Causes.{Causes as Noted};
-ghost use Rattle.turn_client_proto.specs.Notes.{AreTimed, IsPollNoted, IsTimed};
+ghost use Rattle.turn_client_proto.specs.Notes.{AreTimed, IsPollNoted, IsTimed, expired_after, held_of};
 
+use crate::gone::{first_two, push_gone};
 use std::net::IpAddr;
 use turn_client_proto_allocation::allocation::Allocation;
 use turn_client_proto_api::cause::TurnCause;
 use turn_client_proto_api::causes::Causes;
 use turn_client_proto_api::event::TurnEvent;
+use turn_client_proto_api::expired::Expired;
 use turn_client_proto_core::protocol::Protocol;
 use turn_client_proto_recv::notes::Notes;
 
@@ -70,7 +72,7 @@ impl Requested {
 
     /// Returns why `poll` queued an event of a client whose allocations were not to be deleted.
     fn cause_of(&mut self, event: &TurnEvent) -> TurnCause
-        ensures { (result ≡ Unanswered) ⊎ (result ≡ Expired) }
+        ensures { (result ≡ Unanswered) ⊎ (result ≡ Over) }
     {
         match event {
             TurnEvent::PermissionCreateFailed(_, ip) => {
@@ -84,9 +86,45 @@ impl Requested {
     }
 }
 
+/// What is noted of a client before `poll`.
+#[derive(Clone, Copy, Debug)]
+pub(crate) struct Unpolled {
+    /// How many events are queued.
+    events: usize,
+    /// What is requested and not granted yet.
+    requested: Requested,
+    /// The allocations of which the user is told if `poll` removes them.
+    held: Expired,
+}
+
+impl Unpolled {
+    /// Returns what is noted of a client before `poll`.
+    pub(crate) fn of(protocol: &Protocol, notes: &Notes) -> Unpolled
+        ensures { result.held ≡ held_of protocol.now notes.now }
+    {
+        Unpolled {
+            events: protocol.events.len(),
+            requested: Requested::of(protocol.allocations.as_slice()),
+            held: held_of(protocol, notes),
+        }
+    }
+}
+
+/// Returns the allocations of which the user is told if `poll` removes them: none, if the client
+/// does not believe short lifetimes, or `delete` was called before.
+fn held_of(protocol: &Protocol, notes: &Notes) -> Expired
+    ensures { result ≡ held_of protocol.now notes.now }
+{
+    if protocol.short_lifetimes && !notes.is_deleted {
+        first_two(protocol.allocations.as_slice())
+    } else {
+        Expired::new()
+    }
+}
+
 /// Returns `Unanswered` and counts down; or `Expired`, if the count is 0.
 fn by_count(count: &mut usize) -> TurnCause
-    ensures { (result ≡ Unanswered) ⊎ (result ≡ Expired) }
+    ensures { (result ≡ Unanswered) ⊎ (result ≡ Over) }
 {
     if *count == 0 {
         return TurnCause::Expired;
@@ -102,15 +140,17 @@ fn gone(before: [usize; 2], left: [usize; 2]) -> [usize; 2] {
     ]
 }
 
-/// Notes what `poll` did. There were `events` events before, and these requests. Only a poll that
-/// finds no event queues some.
-pub(crate) fn note_poll(notes: &mut Notes, events: usize, before: Requested, protocol: &Protocol)
-    ensures { IsPollNoted notes.old notes.new }
+/// Notes what `poll` did. Only a poll that finds no event queues some.
+pub(crate) fn note_poll(notes: &mut Notes, before: Unpolled, protocol: &Protocol)
+    ensures noted { IsPollNoted notes.old notes.new }
+    ensures expired { notes.new.expired ≡ expired_after before.held protocol.now notes.old.expired }
 {
-    if events > 0 {
+    note_expired(&mut notes.expired, before.held, protocol);
+    if before.events > 0 {
         return;
     }
-    let mut gone = before.gone(Requested::of(protocol.allocations.as_slice()));
+    let left = Requested::of(protocol.allocations.as_slice());
+    let mut gone = before.requested.gone(left);
     let (first, second) = protocol.events.as_slices();
     let is_deleted = notes.is_deleted;
     note_timed(&mut notes.causes, is_deleted, &mut gone, first, 0);
@@ -121,6 +161,16 @@ pub(crate) fn note_poll(notes: &mut Notes, events: usize, before: Requested, pro
         second,
         first.len(),
     );
+}
+
+/// Notes the allocations that `poll` removed, of these which were there before. A client that has
+/// failed holds none, but not because their time was over.
+fn note_expired(expired: &mut Expired, held: Expired, protocol: &Protocol)
+    ensures { expired.new ≡ expired_after held protocol.now expired.old }
+{
+    if protocol.is_authenticated() {
+        push_gone(expired, held, protocol.allocations.as_slice());
+    }
 }
 
 /// Notes events that `poll` queued. There were `before` events before them, and `is_deleted` says

@@ -10,7 +10,7 @@ use crate::api::TurnClientApi;
 use crate::getters::{
     ChannelsIter, ConnectionsIter, PermissionAddressesIter, RelayedAddressesIter,
 };
-use crate::notes::{Requested, note_poll};
+use crate::notes::{Unpolled, note_poll};
 use std::alloc::Global;
 use std::convert::AsSlice;
 use std::fmt::Debug;
@@ -31,6 +31,7 @@ use turn_client_proto_api::error::{
     TcpConnectError,
 };
 use turn_client_proto_api::event::TurnEvent;
+use turn_client_proto_api::expired::AllocationExpired;
 use turn_client_proto_api::send::DelayedMessageOrChannelSend;
 use turn_client_proto_core::protocol::Protocol;
 use turn_client_proto_core::{binding, calls, ending, permitting};
@@ -213,10 +214,9 @@ impl TurnClientApi for TurnClientUdp {
     }
 
     fn poll(&mut self, now: Instant) -> TurnPollRet {
-        let events = self.protocol.events.len();
-        let before = Requested::of(self.protocol.allocations.as_slice());
+        let before = Unpolled::of(&self.protocol, &self.notes);
         let answer = polling::poll(&mut self.protocol, now);
-        note_poll(&mut self.notes, events, before, &self.protocol);
+        note_poll(&mut self.notes, before, &self.protocol);
         answer
     }
 
@@ -228,6 +228,10 @@ impl TurnClientApi for TurnClientUdp {
         let event = calls::poll_event(&mut self.protocol);
         self.notes.note_event(event);
         event
+    }
+
+    fn poll_expired(&mut self) -> Option<AllocationExpired> {
+        self.notes.expired.pop()
     }
 
     fn protocol_error(&mut self) -> Result<(), NoMemory> {

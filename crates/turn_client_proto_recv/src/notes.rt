@@ -198,10 +198,7 @@ fn is_redirected(before: Before, message: &Message<'_>, protocol: &Protocol) -> 
 fn is_error(message: &Message<'_>) -> bool
     ensures { result ≡ is_error_class (class_of (kind_at message.now)) }
 {
-    match message.class() {
-        MessageClass::Error => true,
-        MessageClass::Success | MessageClass::Request | MessageClass::Indication => false,
-    }
+    matches!(message.class(), MessageClass::Error)
 }
 
 /// Returns whether a message is an error response with code 401 or 438 (RFC 8489, section 9.2.5).
