@@ -5,12 +5,12 @@ use Rattle.turn_client_proto_api.specs.declared.cause.TurnCause.{TurnCause}
 use Rattle.turn_client_proto_api.specs.declared.cause.TurnCause.TheVariants.{Deleted, Expired, Unanswered}
 use Rattle.turn_client_proto_api.specs.Causes.{IsPushed}
 use Rattle.turn_client_proto_api.specs.declared.causes.Causes.{Causes}
-use Rattle.turn_client_proto_api.specs.Expired.{pushed_all, rest_of}
+use Rattle.turn_client_proto_api.specs.Expired.{rest_of}
 use Rattle.turn_client_proto_api.specs.declared.expired.AllocationExpired.{AllocationExpired}
 use Rattle.turn_client_proto_core.specs.Deleting.{is_authenticated}
 use Rattle.turn_client_proto_core.specs.declared.protocol.Protocol.{Protocol}
 use Rattle.turn_client_proto_recv.specs.declared.notes.Notes.{Notes}
-use Rattle.turn_client_proto.specs.Gone.{gone_of, reported_of}
+use Rattle.turn_client_proto.specs.Gone.{gone_of, pushed_all, reported_of}
 
 -- Why `poll` queued an event: no response came in time, or time was over; or the user requested the end of the
 -- allocations before.

@@ -125,7 +125,8 @@ pub const CLIENT_END: u64 = 1 << 62;
 ///   further REFRESH is sent, and the allocation expires then; unless the settings say otherwise
 ///   (`TurnConfig::set_short_lifetimes`).
 /// - A client doesn't follow a response 300: `alternate_server` has the server that it names.
-/// - New requests are sent at least 50 ms apart. Retransmissions are sent without that pause.
+/// - New requests are sent at least 50 ms apart (`TurnConfig::set_pace`). Retransmissions are sent
+///   without that pause.
 /// - A client that `protocol_error` has ended still lists what it held.
 pub trait TurnClientApi: Debug + Send {
     ghost stored: { Self → ClientState };
@@ -644,6 +645,14 @@ pub trait TurnClientApi: Debug + Send {
     /// formed.
     fn mapped_address(&self) -> Option<SocketAddr>
         ensures { result ≡ (noted self.now).mapped };
+
+    /// Returns the token of the port that the server reserved beside the relayed one: the
+    /// RESERVATION-TOKEN of the signed response that allocated (RFC 8656, section 18.10), its first
+    /// byte the most significant. It is `None` before, or if the response had none that is well
+    /// formed. A server gives one if `RelayedPort::EvenAndNextReserved` was requested; another
+    /// client takes the port by `RelayedPort::Reserved`, within 30 seconds on most servers.
+    fn reservation_token(&self) -> Option<u64>
+        ensures { result ≡ (noted self.now).reservation };
 
     /// Returns the server that the response 300 (Try Alternate) named which ended the client, by
     /// its ALTERNATE-SERVER (RFC 8489, section 10). It is `None` if no such response came, or if it

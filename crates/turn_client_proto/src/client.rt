@@ -297,6 +297,13 @@ impl TurnClientApi for TurnClient {
         }
     }
 
+    fn reservation_token(&self) -> Option<u64> {
+        match self {
+            TurnClient::Udp(client) => client.reservation_token(),
+            TurnClient::Tcp(client) => client.reservation_token(),
+        }
+    }
+
     fn alternate_server(&self) -> Option<SocketAddr> {
         match self {
             TurnClient::Udp(client) => client.alternate_server(),

@@ -1,8 +1,7 @@
 //! The allocations that `poll` removes because their time is over.
 
 ghost use Rattle.std.specs.Prelude.{◌≡◌, map, option_to_list, take};
-ghost use Rattle.turn_client_proto_api.specs.Expired.{pushed_all};
-ghost use Rattle.turn_client_proto.specs.Gone.{gone_of, is_held, reported_of};
+ghost use Rattle.turn_client_proto.specs.Gone.{gone_of, is_held, pushed_all, reported_of};
 
 use std::net::SocketAddr;
 use turn_client_proto_allocation::allocation::Allocation;

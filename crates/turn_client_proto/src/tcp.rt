@@ -304,6 +304,10 @@ impl TurnClientApi for TurnClientTcp {
         self.notes.mapped
     }
 
+    fn reservation_token(&self) -> Option<u64> {
+        self.notes.reservation
+    }
+
     fn alternate_server(&self) -> Option<SocketAddr> {
         self.notes.alternate
     }

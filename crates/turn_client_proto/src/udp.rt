@@ -262,6 +262,10 @@ impl TurnClientApi for TurnClientUdp {
         self.notes.mapped
     }
 
+    fn reservation_token(&self) -> Option<u64> {
+        self.notes.reservation
+    }
+
     fn alternate_server(&self) -> Option<SocketAddr> {
         self.notes.alternate
     }

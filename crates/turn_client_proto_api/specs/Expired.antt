@@ -6,11 +6,6 @@ use Rattle.turn_client_proto_api.specs.declared.expired.AllocationExpired.{Alloc
 abbrev pub pushed : AllocationExpired → List AllocationExpired → List AllocationExpired
 pushed allocation allocations = take 2 (allocations ++ allocation ∷ [])
 
--- The list with these added, one after another.
-abbrev pub pushed_all : List AllocationExpired → List AllocationExpired → List AllocationExpired
-pushed_all [] allocations = allocations
-pushed_all (first ∷ others) allocations = pushed_all others (pushed first allocations)
-
 -- The oldest, if there is one.
 abbrev pub first_of : List AllocationExpired → Option AllocationExpired
 first_of [] = None

@@ -297,8 +297,7 @@ impl TurnConfig {
     ///
     /// - On: the allocation expires that many seconds after the response, 0 included: then it ends
     ///   at once. The next REFRESH is sent when half of the lifetime is left if that is 120 seconds
-    ///   or less, else a minute before the expiry. `poll_expired` returns each allocation that
-    ///   expired.
+    ///   or less, else a minute before the expiry.
     /// - Off: such a response changes nothing. The allocation keeps its earlier expiry, which may
     ///   be later than the server's, and the request counts as unanswered.
     ///
