@@ -649,8 +649,9 @@ pub trait TurnClientApi: Debug + Send {
     /// Returns the token of the port that the server reserved beside the relayed one: the
     /// RESERVATION-TOKEN of the signed response that allocated (RFC 8656, section 18.10), its first
     /// byte the most significant. It is `None` before, or if the response had none that is well
-    /// formed. A server gives one if `RelayedPort::EvenAndNextReserved` was requested; another
-    /// client takes the port by `RelayedPort::Reserved`, within 30 seconds on most servers.
+    /// formed. A server gives one if `RelayedPort::EvenAndNextReserved` was requested, and holds
+    /// the port for at least 30 seconds (section 7.2); another client takes it by
+    /// `RelayedPort::Reserved`.
     fn reservation_token(&self) -> Option<u64>
         ensures { result ≡ (noted self.now).reservation };
 
@@ -675,6 +676,9 @@ pub trait TurnClientApi: Debug + Send {
     /// - Until a challenge comes, the client signs and validates as before, so what is outstanding
     ///   still validates. The server challenges the first request that it no longer accepts, with
     ///   401 or 438, and the client makes that request again under the new credentials.
+    /// - Every challenge that the client accepts counts, also one for a stale nonce (438). What is
+    ///   signed with the former credentials no longer validates then, so the server has to accept
+    ///   the new ones from this call on.
     /// - Credentials that were set before and are not in use yet are dropped.
     /// - The user's name has at most 513 bytes.
     fn set_credentials(&mut self, credentials: TurnCredentials)
