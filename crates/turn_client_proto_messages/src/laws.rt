@@ -28,6 +28,7 @@ use crate::request::TurnRequest;
 use std::net::IpAddr;
 use stun_types_write::reading::proof_text_is_read;
 use turn_client_proto_api::config::TurnConfig;
+use turn_client_proto_api::options::AllocateOptions;
 
 /// Each request meets `IsLawfulRequest`, which the other theorems presume: it has at most two
 /// families, its numbers fit their bits, and an IP has its octets or segments.
@@ -38,11 +39,11 @@ pub fn proof_requests_are_lawful(request: &TurnRequest)
     match request {
         TurnRequest::FirstAllocate(_, families, options) => {
             let _families = families.as_slice();
-            let _lifetime = options.lifetime;
+            let _lifetime = lifetime_of(*options);
         }
         TurnRequest::Allocate(_, families, options) => {
             let _families = families.as_slice();
-            let _lifetime = options.lifetime;
+            let _lifetime = lifetime_of(*options);
         }
         TurnRequest::Refresh(lifetime) => {
             let _lifetime = *lifetime;
@@ -61,6 +62,13 @@ pub fn proof_requests_are_lawful(request: &TurnRequest)
             let _connection = *connection;
         }
     }
+}
+
+/// Returns the lifetime, which fits into 32 bits.
+fn lifetime_of(options: AllocateOptions) -> u32
+    ensures { result ≡ options.lifetime }
+{
+    options.lifetime
 }
 
 /// For each transaction ID, an address without flow information and scope is the one that is
