@@ -488,15 +488,12 @@ impl Walker {
             }
             "poll" => tell_poll(self.client().poll(now).unwrap()),
             "event" => self.client().poll_event().map_or(answer("TURN_NOTHING"), tell_event),
-            "expired" => self
-                .client()
-                .poll_expired()
-                .map_or(answer("TURN_NOTHING"), |it| Told {
-                    answer: "TURN_OK",
-                    transport: shown(it.transport),
-                    peer: kept(it.relayed),
-                    ..TOLD
-                }),
+            "expired" => self.client().poll_expired().map_or(answer("TURN_NOTHING"), |it| Told {
+                answer: "TURN_OK",
+                transport: shown(it.transport),
+                peer: kept(it.relayed),
+                ..TOLD
+            }),
             "cause" | "reason" | "domain" | "mapped" => self.note(step),
             "credentials" | "software" | "fingerprint" => self.introduce(step),
             _ => self.ask(step, now),
