@@ -132,7 +132,8 @@ def opened(module: Any, settings: dict[str, Any]) -> Any:
     config = module.TurnConfig(
         base.NAME.decode(), base.SECRET.decode(), transport_of(settings["peers"]),
         settings.get("families", NUMBERS["TURN_IPV4"]), settings.get("integrity", NUMBERS["TURN_SHA1"]),
-        NUMBERS[anonymous], module.RequestRetransmits(*waits) if waits else None)
+        NUMBERS[anonymous], module.RequestRetransmits(*waits) if waits else None,
+        short_lifetimes=not settings.get("ignore_short_lifetimes"))
     return module.TurnClient(read(settings["local"]), read(settings["server"]), config,
                              transport_of(settings["transport"]), seed=base.SEED)
 
@@ -237,6 +238,12 @@ class Walker:
             address = shown((told, 0) if isinstance(told, str) else told)
             transport = "tcp" if kind.startswith("Tcp") else text_of(event.transport)
         return "TURN_OK", {"number": EVENTS[kind], "transport": transport, "peer": address}
+
+    def expired(self, step: Step) -> Any:
+        expired = self.client.poll_expired()
+        if expired is None:
+            return "TURN_NOTHING", {}
+        return "TURN_OK", {"transport": text_of(expired.transport), "peer": shown(expired.relayed)}
 
     # ---- why it happened, and what the server named
 
@@ -417,7 +424,7 @@ class Causes(unittest.TestCase):
         client, _ = allocated()
         client.close()
         calls: list[Callable[[], object]] = [client.cause, client.poll_event_with_cause, client.mapped_address,
-                                             client.alternate_server, client.alternate_domain]
+                                             client.alternate_server, client.alternate_domain, client.poll_expired]
         for call in calls:
             with self.subTest(call), self.assertRaises(turn_client.NoClient):
                 call()

@@ -384,6 +384,14 @@ class TcpConnectFailed:
 
 
 @dataclass(frozen=True)
+class AllocationExpired:
+    """The time of an allocation was over, and it isn't held any more."""
+
+    transport: Transport
+    relayed: Address
+
+
+@dataclass(frozen=True)
 class Rejected:
     """The server rejected the request, by an error response with this code, 300 to 699. The reason phrase is the
     server's words, or those of whoever sent the response: remove control characters before it is printed. It is empty
@@ -593,6 +601,7 @@ _CALLS: dict[str, tuple[Any, Sequence[Any]]] = {
     "send": (_STATUS, (_NUMBER, _AT, _BYTES, _SIZE, _MOMENT, _BYTES, _SIZE, ctypes.POINTER(_Transmit))),
     "poll": (_STATUS, (_MOMENT, ctypes.POINTER(_Wait))),
     "event": (_STATUS, (ctypes.POINTER(_Event),)),
+    "expired": (_STATUS, (ctypes.POINTER(_Relayed),)),
     "cause": (_STATUS, (ctypes.POINTER(_Cause),)),
     "reason": (_STATUS, (_BYTES, _SIZE)),
     "domain": (_STATUS, (_BYTES, _SIZE)),
@@ -878,6 +887,15 @@ class TurnClient:
         """The event that has waited longest."""
         event = _Event()
         return None if self._status("event", event) == _NOTHING else _EVENTS[event.kind - 1](event)
+
+    def poll_expired(self) -> AllocationExpired | None:
+        """The allocation that has waited longest of those that poll removed because their time was over (RFC 8656,
+        section 6), where the settings believe short_lifetimes. Ask it after poll, until it is None: no event tells the
+        end of an allocation. What goes after delete isn't told."""
+        expired = _Relayed()
+        if self._status("expired", expired) == _NOTHING:
+            return None
+        return AllocationExpired(Transport(expired.transport), _of_c(expired.address))
 
     def poll_event_with_cause(self) -> tuple[TurnEvent, TurnCause | None] | None:
         """Takes the event that has waited longest, as poll_event does, with its cause: None for one that reports no

@@ -652,6 +652,59 @@ def lapsed():
     return t
 
 
+def ends_by_itself(title, *expired, **settings):
+    """Nothing is drawn until an allocation of 600 seconds is over, and so it isn't renewed. Whether that is told is up
+    to the settings (crates/turn_client_proto/CALLING.md)."""
+    t = Exchange(f"an allocation ends, {title}", **settings)
+    t.begins()
+    t.challenged()
+    t.at(50)
+    t.draws(allocate())
+    t.feeds(grant(RELAYED, seconds=600))
+    t.tells("TURN_ALLOCATION_CREATED", RELAYED)
+    t.has_expired()
+    t.part("it was granted 600 seconds before")
+    t.at(600_050)
+    t.holds_relayed(RELAYED)
+    t.has_expired()
+    t.ends()
+    t.holds_relayed()
+    t.tells_no_more()
+    t.has_expired(*expired)
+    t.ends()
+    t.has_expired()
+    t.does("close")
+    return t
+
+
+def expired():
+    return ends_by_itself("and that is told", RELAYED)
+
+
+def expired_untold():
+    return ends_by_itself("and that isn't told", ignore_short_lifetimes=1)
+
+
+def expired_behind_deletion():
+    """No response to the deletion comes: the allocation goes as it was asked to."""
+    t = Exchange("an allocation goes after its deletion was requested")
+    t.begins()
+    t.challenged()
+    t.granted()
+    t.part("no response comes")
+    t.at(100)
+    t.does("delete")
+    t.draws(refresh(2, 0, named(), BY_SHA1, OLD))
+    for when in (600, 1600, 3600, 7600, 15_600, 31_600):
+        t.at(when)
+        t.draws(refresh(2, 0, named(), BY_SHA1, OLD))
+    t.at(39_600)
+    t.ends()
+    t.has_expired()
+    t.does("close")
+    return t
+
+
 # ---- how the client introduces itself
 
 BY_NEXT = named(OTHER, NEXT)
@@ -931,7 +984,7 @@ def timed_tcp():
 EXCHANGES = (
     udp, tcp, connections, both, the_others, unanswered, hidden, lapsed, strongest, none_in_common, rejected, redirected,
     redirected_unsigned, another_password, replaced, replaced_by_stale_nonce, replaced_at_first, introduced,
-    introduced_to_peers,
+    introduced_to_peers, expired, expired_untold, expired_behind_deletion,
 )
 
 # ---- the file

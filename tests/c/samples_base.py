@@ -316,6 +316,12 @@ class Exchange:
         """The own address, as the server saw it."""
         self.step("mapped", {}, {"peer": address})
 
+    def has_expired(self, *addresses):
+        """The allocations that went because their time was over, and were not told yet."""
+        for it in addresses:
+            self.step("expired", {}, {"transport": self.peers, "peer": it})
+        self.does("expired", "TURN_NOTHING")
+
     def tells_no_more(self):
         self.does("event", "TURN_NOTHING")
 
@@ -438,6 +444,7 @@ class Exchange:
         self.feeds_cut(success(REFRESH, k, lifetime(0), by=by, user=user), *cuts)
         self.ends()
         self.tells_no_more()
+        self.has_expired()
         self.draws_nothing()
 
     # ---- the file

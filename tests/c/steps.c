@@ -10,7 +10,7 @@
 const char *const call_names[CALLS] = {
     [CALL_OPEN] = "open", [CALL_CLOSE] = "close", [CALL_DELETE] = "delete", [CALL_FEED] = "feed", [CALL_PULL] = "pull",
     [CALL_READ] = "read", [CALL_DRAW] = "draw", [CALL_SEND] = "send", [CALL_POLL] = "poll", [CALL_EVENT] = "event",
-    [CALL_PERMIT] = "permit", [CALL_BIND] = "bind", [CALL_CONNECT] = "connect", [CALL_SOCKET] = "socket",
+    [CALL_EXPIRED] = "expired", [CALL_PERMIT] = "permit", [CALL_BIND] = "bind", [CALL_CONNECT] = "connect", [CALL_SOCKET] = "socket",
     [CALL_CLOSED] = "closed", [CALL_CREDENTIALS] = "credentials", [CALL_SOFTWARE] = "software",
     [CALL_FINGERPRINT] = "fingerprint", [CALL_CAUSE] = "cause", [CALL_REASON] = "reason", [CALL_DOMAIN] = "domain",
     [CALL_MAPPED] = "mapped", [CALL_RELAYED] = "relayed", [CALL_PERMISSIONS] = "permissions",
@@ -89,6 +89,8 @@ int32_t step_call(struct walker *w, const struct step *s)
         return turn_client_poll(c, s->now, &w->wait);
     case CALL_EVENT:
         return turn_client_event(c, &w->event);
+    case CALL_EXPIRED:
+        return turn_client_expired(c, &w->expired);
     case CALL_PERMIT:
         return turn_client_permit(c, s->transport, &s->to, s->now);
     case CALL_BIND:
@@ -207,6 +209,9 @@ static void tell_done(const struct walker *w, const struct step *s, struct told 
         told->number = w->event.kind;
         told->transport = w->event.transport;
         told->peer = w->event.address;
+    } else if (s->call == CALL_EXPIRED) {
+        told->transport = w->expired.transport;
+        told->peer = w->expired.address;
     }
 }
 

@@ -30,6 +30,7 @@ static const uint32_t statuses[CALLS] = {
     [CALL_POLL] = BIT(TURN_OK) | BIT(TURN_OPEN_SOCKET) | BIT(TURN_CLOSE_SOCKET) | BIT(TURN_CLOSED)
         | BIT(TURN_NO_CLIENT) | BIT(TURN_NO_MEMORY),
     [CALL_EVENT] = BIT(TURN_OK) | BIT(TURN_NOTHING) | BIT(TURN_NO_CLIENT),
+    [CALL_EXPIRED] = BIT(TURN_OK) | BIT(TURN_NOTHING) | BIT(TURN_NO_CLIENT),
     [CALL_PERMIT] = ASKED | BIT(TURN_BAD_SETTING),
     [CALL_BIND] = ASKED | BIT(TURN_BAD_SETTING) | BIT(TURN_EXPIRED_CHANNEL) | BIT(TURN_NO_CHANNEL),
     [CALL_CONNECT] = ASKED | BIT(TURN_NO_PERMISSION),
@@ -212,6 +213,10 @@ static int32_t call_telling(turn_client *c, const struct step *s, struct walker 
         turn_wait *wait = GIVE(turn_wait);
         answer = turn_client_poll(c, s->now, wait);
         w->wait = *wait;
+    } else if (s->call == CALL_EXPIRED) {
+        turn_relayed *expired = GIVE(turn_relayed);
+        answer = turn_client_expired(c, expired);
+        w->expired = *expired;
     } else {
         turn_event *event = GIVE(turn_event);
         answer = turn_client_event(c, event);
@@ -264,7 +269,7 @@ static int32_t call_in_rooms(struct fuzzed *f, const struct step *s, size_t room
     room_give(ROOM_BYTES, 0);
     room_give(ROOM_OUT, 0);
     room_give(ROOM_TOLD, 0);
-    if (s->call == CALL_POLL || s->call == CALL_EVENT)
+    if (s->call >= CALL_POLL && s->call <= CALL_EXPIRED)
         answer = call_telling(f->client, s, &f->walker);
     else if (s->call >= CALL_FEED && s->call <= CALL_SEND)
         answer = call_moving(f->client, s, from, to, &f->walker, room);
@@ -351,6 +356,14 @@ static void check_event(const struct fuzzed *f)
     check(e->kind != TURN_PERMISSION_CREATED || e->address.port == 0, "a permission has no port");
 }
 
+/* Only a client that believes short lifetimes tells of an allocation that has expired. */
+static void check_expired(const struct fuzzed *f)
+{
+    const turn_relayed *r = &f->walker.expired;
+    check(is_family(&r->address) && is_transport(r->transport), "an allocation that expired has an address");
+    check(!f->settings.compatible && !f->settings.ignore_short_lifetimes, "the settings say that expiry is told");
+}
+
 static void check_cause(const turn_cause *c)
 {
     const bool is_rejected = c->kind == TURN_REJECTED;
@@ -387,6 +400,8 @@ static void check_done(struct fuzzed *f, const struct step *s, size_t room, int3
         check_wait(f, s, answer);
     if (s->call == CALL_EVENT && answer == TURN_OK)
         check_event(f);
+    if (s->call == CALL_EXPIRED && answer == TURN_OK)
+        check_expired(f);
     if ((s->call == CALL_DRAW || s->call == CALL_SEND) && answer == TURN_OK) {
         check_transmit(&f->walker.transmit);
         size = f->walker.transmit.size;

@@ -153,7 +153,8 @@ static bool is_harmless(const struct step *s, int32_t answer)
     const bool is_foreign = memcmp(&s->from, &fuzzed.settings.server, sizeof s->from) != 0;
     if (s->call >= CALL_RELAYED || is_note(s->call) || (answer < 0 && answer != TURN_NO_MEMORY))
         return true;
-    return (s->call == CALL_READ && answer == TURN_NOTHING) || (s->call == CALL_EVENT && answer == TURN_NOTHING)
+    const bool is_taking = s->call == CALL_READ || s->call == CALL_EVENT || s->call == CALL_EXPIRED;
+    return (is_taking && answer == TURN_NOTHING)
         || (s->call == CALL_FEED && answer == TURN_IGNORED && is_foreign);
 }
 
@@ -355,7 +356,7 @@ static void open_socket(void)
 static void take_turn(void)
 {
     struct step draw = {.call = CALL_DRAW, .now = now}, poll = {.call = CALL_POLL, .now = now},
-                event = {.call = CALL_EVENT, .now = now};
+                event = {.call = CALL_EVENT, .now = now}, expired = {.call = CALL_EXPIRED, .now = now};
     for (int i = 0; i < 32 && disturb(&draw, TURN_MESSAGE_MAX) == TURN_OK; i++) {
     }
     for (int i = 0; i < 8; i++) {
@@ -364,6 +365,8 @@ static void take_turn(void)
             break;
     }
     for (int i = 0; i < 32 && disturb(&event, 0) == TURN_OK; i++) {
+    }
+    for (int i = 0; i < 3 && disturb(&expired, 0) == TURN_OK; i++) {
     }
 }
 

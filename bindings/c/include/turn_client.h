@@ -526,6 +526,18 @@ int32_t turn_client_poll(turn_client *client, uint64_t now, turn_wait *wait);
  *   TURN_NO_CLIENT        the handle is not open */
 int32_t turn_client_event(turn_client *client, turn_event *event);
 
+/* Takes the oldest allocation that turn_client_poll removed because its time was over (RFC 8656, section 6), unless
+ * the settings' `ignore_short_lifetimes` is 1 or `compatible` is: then nothing is stored of it. What goes after
+ * turn_client_delete was called is not reported; what expired before is. No event reports an allocation's end: call
+ * this one after turn_client_poll, until it returns TURN_NOTHING.
+ *
+ *   TURN_OK               *expired has it
+ *   TURN_NOTHING          none has expired that was not reported yet
+ *
+ *   Refused:
+ *   TURN_NO_CLIENT        the handle is not open */
+int32_t turn_client_expired(turn_client *client, turn_relayed *expired);
+
 /* Reports why the event happened that turn_client_event wrote last, until it writes another.
  *
  *   TURN_OK               *cause has it; its kind is TURN_CAUSE_NONE if the event reports no failure

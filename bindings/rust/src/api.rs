@@ -477,6 +477,15 @@ impl AsRef<[u8]> for TurnPeerData<'_> {
     }
 }
 
+/// An allocation whose time was over, so that it isn't held any more (RFC 8656, section 6).
+#[derive(Clone, Copy, Debug, PartialEq, Eq)]
+pub struct AllocationExpired {
+    /// The transport between the server and its peers.
+    pub transport: TransportType,
+    /// The relayed address.
+    pub relayed: SocketAddr,
+}
+
 /// What happened. A transport is the one between the server and its peers.
 #[derive(Clone, Copy, Debug, PartialEq, Eq)]
 pub enum TurnEvent {

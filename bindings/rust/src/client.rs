@@ -9,8 +9,8 @@ use std::time::Duration;
 
 use crate::address::{read, read_transport, told, told_ip, told_moment, told_transport};
 use crate::api::{
-    Channel, Connection, Transmit, TransportType, TurnCause, TurnConfig, TurnCredentials, TurnEvent, TurnPeerData,
-    TurnPollRet, TurnRecvRet,
+    AllocationExpired, Channel, Connection, Transmit, TransportType, TurnCause, TurnConfig, TurnCredentials, TurnEvent,
+    TurnPeerData, TurnPollRet, TurnRecvRet,
 };
 use crate::error::{
     AllocateError, BindChannelError, CreatePermissionError, CredentialsError, DeleteError, PollError,
@@ -505,6 +505,19 @@ pub trait TurnClientApi: HasHandle {
         } else {
             None
         }
+    }
+
+    /// Takes the allocation that has waited longest of those that [`poll`](Self::poll) removed because their time was
+    /// over (RFC 8656, section 6), where short lifetimes are believed ([`TurnConfig::set_short_lifetimes`]). Ask it after
+    /// `poll`, until it is `None`: no event tells the end of an allocation. What goes after `delete` isn't told.
+    fn poll_expired(&mut self) -> Option<AllocationExpired> {
+        let mut expired = sys::Relayed::default();
+        // SAFETY: both pointers are of values that live as long as the call.
+        let status = unsafe { sys::turn_client_expired(self.handle_mut().at(), &mut expired) };
+        (status == sys::OK).then(|| AllocationExpired {
+            transport: read_transport(expired.transport),
+            relayed: read(&expired.address),
+        })
     }
 
     /// Takes the event that has waited longest, as [`poll_event`](Self::poll_event) does, with its cause: `None` for

@@ -117,8 +117,8 @@ mod error;
 mod sys;
 
 pub use api::{
-    AddressFamily, Channel, Connection, Feature, IntegrityAlgorithm, Socket5Tuple, Transmit, TransportType, TurnCause,
-    TurnConfig, TurnCredentials, TurnEvent, TurnPeerData, TurnPollRet, TurnRecvRet,
+    AddressFamily, AllocationExpired, Channel, Connection, Feature, IntegrityAlgorithm, Socket5Tuple, Transmit,
+    TransportType, TurnCause, TurnConfig, TurnCredentials, TurnEvent, TurnPeerData, TurnPollRet, TurnRecvRet,
 };
 pub use client::{TurnClientApi, TurnClientTcp, TurnClientUdp};
 pub use error::{

@@ -245,6 +245,7 @@ extern "C" {
 
     pub fn turn_client_poll(client: *mut Client, now: u64, wait: *mut Wait) -> i32;
     pub fn turn_client_event(client: *mut Client, event: *mut Event) -> i32;
+    pub fn turn_client_expired(client: *mut Client, expired: *mut Relayed) -> i32;
     pub fn turn_client_cause(client: *mut Client, cause: *mut Cause) -> i32;
     pub fn turn_client_reason(client: *mut Client, out: *mut u8, out_len: usize) -> i32;
     pub fn turn_client_domain(client: *mut Client, out: *mut u8, out_len: usize) -> i32;

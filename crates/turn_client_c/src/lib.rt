@@ -17,7 +17,7 @@ ghost use Rattle.turn_client_c_calls.specs.Speaking.{WhyNoSoftware, WhyNotSet, s
 ghost use Rattle.turn_client_c_calls.specs.TurnClientProtoCore.Speaking.{with_fingerprint, with_next_credentials, with_software};
 ghost use Rattle.turn_client_c_calls.specs.Sockets.{IsClosedReported, own_tuple};
 ghost use Rattle.turn_client_c_calls.specs.Traffic.{IsTransmittedReported, IsFed, IsPulledReported, IsReadReported, IsSendReported, message_room, send_extra};
-ghost use Rattle.turn_client_c_calls.specs.Waits.{IsEventReported, IsPollReported};
+ghost use Rattle.turn_client_c_calls.specs.Waits.{IsEventReported, IsExpiredReported, IsPollReported};
 ghost use Rattle.turn_client_c_calls.specs.TurnClientProtoCore.Binding.{IsBindAnswered};
 ghost use Rattle.turn_client_c_calls.specs.TurnClientProtoRecv.Connecting.{IsConnectAnswered};
 ghost use Rattle.turn_client_c_calls.specs.TurnClientProtoCore.Deleting.{IsDeleteAnswered};
@@ -197,6 +197,20 @@ pub extern "C" fn turn_client_event(
         (IsEventReported result event.old event.new) }
 {
     waiting::turn_client_event(alloc, client, event)
+}
+
+/// Writes the oldest allocation that was removed because its time was over and that was not written
+/// yet (RFC 8656, section 6).
+#[unsafe(no_mangle)]
+pub extern "C" fn turn_client_expired(
+    alloc: Global,
+    client: &mut TurnHandle,
+    expired: &mut TurnRelayed,
+) -> i32
+    ensures { OnClient client.old.boxed_client.value client.new.boxed_client.value result
+        (IsExpiredReported result expired.old expired.new) }
+{
+    waiting::turn_client_expired(alloc, client, expired)
 }
 
 /// Writes why the event that `turn_client_event` wrote last happened, and the server that a

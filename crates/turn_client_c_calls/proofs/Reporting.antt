@@ -11,8 +11,11 @@ use Rattle.turn_client_proto_api.specs.Payloads.{PeerPayload}
 use Rattle.turn_client_proto_api.specs.declared.answer.TurnPollRet.{TurnPollRet}
 use Rattle.turn_client_proto_api.specs.declared.answer.TurnRecvRet.{TurnRecvRet}
 use Rattle.turn_client_proto_api.specs.declared.error.SendError.{SendError}
+use Rattle.turn_client_proto_api.specs.Expired.{first_of}
 use Rattle.turn_client_proto_api.specs.declared.event.TurnEvent.{TurnEvent}
+use Rattle.turn_client_proto_api.specs.declared.expired.AllocationExpired.{AllocationExpired}
 use Rattle.turn_client_proto.specs.Clients.{noted_of, stored_of}
+use Rattle.turn_client_proto.specs.Notes.{after_report, expired_after, held_of}
 use Rattle.turn_client_proto.specs.Recv.Notes.{after_event}
 use Rattle.turn_client_proto.specs.Timers.Drawing.{HasToSend, IsTransmitted}
 use Rattle.turn_client_proto_api.specs.Sent.{Sent, sent_of}
@@ -41,20 +44,23 @@ use Rattle.turn_client_c_calls.specs.Sockets.{own_tuple}
 use Rattle.turn_client_c_calls.specs.Traffic as traffic
 use Rattle.turn_client_c_calls.specs.Traffic.{Fed, IsTransmittedReported, IsFed, IsCarried, IsPulledReported, Pulled, Refused, brought}
 use Rattle.turn_client_c_calls.specs.Waits as waits
-use Rattle.turn_client_c_calls.specs.Waits.{IsEventReported, IsPollReported}
+use Rattle.turn_client_c_calls.specs.Waits.{IsEventReported, IsExpiredReported, IsPollReported}
 use Rattle.turn_client_c_types.specs.declared.event.TurnClientEvent.{TurnClientEvent}
 use Rattle.turn_client_c_types.specs.declared.reported.TurnPayload.{TurnPayload}
 use Rattle.turn_client_c_types.specs.declared.reported.TurnTransmit.{TurnTransmit}
 use Rattle.turn_client_c_types.specs.declared.reported.TurnWait.{TurnWait}
+use Rattle.turn_client_c_calls.specs.declared.getters.TurnRelayed.{TurnRelayed}
 use Rattle.turn_client_c_calls.specs.declared.whole.HandleState.{HandleState}
 
 -- ---- time and events
 
 pub poll_reported : (answer : TurnPollRet) (now : ℕ) (status : ℤ) (before reported : TurnWait) (old new : HandleState)
-    → Leaves (λ old new. IsPolled old now answer new) (stored_of old.client) (stored_of new.client) → new.joined ≡ old.joined
+    → Leaves (λ old new. IsPolled old now answer new) (stored_of old.client) (stored_of new.client)
+    → (noted_of new.client).expired ≡ expired_after (held_of (stored_of old.client).core (noted_of old.client)) (stored_of new.client).core (noted_of old.client).expired
+    → new.joined ≡ old.joined
     → status ≡ waits.poll_status answer → reported ≡ waits.poll_reported before answer → IsPollReported now status before reported old new
-poll_reported answer now status before reported old new polled joined one two =
-    record { answer = answer; polled = (polled, joined); status_is = one; reported_is = two }
+poll_reported answer now status before reported old new polled expired joined one two =
+    record { answer = answer; polled = (polled, joined); expired = expired; status_is = one; reported_is = two }
 
 pub event_reported : (answer : Option TurnEvent) (status : ℤ) (before reported : TurnClientEvent) (old new : HandleState)
     → (stored_of old.client).core.events ≡ option_to_list answer ++ (stored_of new.client).core.events
@@ -64,6 +70,13 @@ pub event_reported : (answer : Option TurnEvent) (status : ℤ) (before reported
     → status ≡ waits.event_status answer → reported ≡ waits.event_reported before answer → IsEventReported status before reported old new
 event_reported answer status before reported old new first none others noted joined one two =
     record { answer = answer; first = first; none = none; others = (others, joined); noted = noted; status_is = one; reported_is = two }
+
+pub expired_reported : (answer : Option AllocationExpired) (status : ℤ) (before reported : TurnRelayed) (old new : HandleState)
+    → answer ≡ first_of (noted_of old.client).expired → noted_of new.client ≡ after_report (noted_of old.client)
+    → stored_of new.client ≡ stored_of old.client → new.joined ≡ old.joined
+    → status ≡ waits.expired_status answer → reported ≡ waits.expired_reported before answer → IsExpiredReported status before reported old new
+expired_reported answer status before reported old new oldest left client joined one two =
+    record { status_is = one ∙ ap waits.expired_status oldest; reported_is = two ∙ ap (waits.expired_reported before) oldest; left = left; client = (client, joined) }
 
 -- ---- sockets
 

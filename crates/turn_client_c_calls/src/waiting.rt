@@ -1,12 +1,14 @@
 //! The calls by which time passes, and events are taken.
 
 ghost use Rattle.turn_client_c_calls.specs.Calls.{OnClient};
-ghost use Rattle.turn_client_c_calls.specs.Waits.{IsEventReported, IsPollReported};
+ghost use Rattle.turn_client_c_calls.specs.Waits.{IsEventReported, IsExpiredReported, IsPollReported};
 
+use crate::getters::TurnRelayed;
 use crate::handle::TurnHandle;
 use crate::status;
 use std::alloc::Global;
 use stun_types_base::instant::Instant;
+use turn_client_c_types::address::number_of;
 use turn_client_c_types::event::TurnClientEvent;
 use turn_client_c_types::reported::TurnWait;
 use turn_client_proto::api::TurnClientApi;
@@ -68,6 +70,28 @@ pub fn turn_client_event(alloc: Global, client: &mut TurnHandle, event: &mut Tur
     match answer {
         Some(happened) => {
             event.report(happened);
+            status::OK
+        }
+        None => status::NOTHING,
+    }
+}
+
+/// Writes the oldest allocation that was removed because its time was over and that was not written
+/// yet (RFC 8656, section 6).
+#[tactic(auto, using(crate::proofs::Reporting::expired_reported))]
+pub fn turn_client_expired(alloc: Global, client: &mut TurnHandle, expired: &mut TurnRelayed) -> i32
+    ensures { OnClient client.old.boxed_client.value client.new.boxed_client.value result
+        (IsExpiredReported result expired.old expired.new) }
+{
+    let Some(mut whole) = client.take(alloc) else {
+        return status::NO_CLIENT;
+    };
+    let answer = whole.client.poll_expired();
+    client.put(whole);
+    match answer {
+        Some(gone) => {
+            expired.transport = number_of(gone.transport);
+            expired.address.report(&gone.relayed);
             status::OK
         }
         None => status::NOTHING,

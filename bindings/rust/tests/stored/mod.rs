@@ -110,6 +110,7 @@ pub struct Exchange {
     pub first_wait: u64,
     pub most_wait: u64,
     pub last_wait: u64,
+    pub ignore_short_lifetimes: u32,
     pub parts: &'static [Part],
 }
 
@@ -126,6 +127,7 @@ const EXCHANGE: Exchange = Exchange {
     first_wait: 0,
     most_wait: 0,
     last_wait: 0,
+    ignore_short_lifetimes: 0,
     parts: &[],
 };
 

@@ -106,6 +106,7 @@ fn config(exchange: &Exchange) -> TurnConfig {
             [exchange.first_wait, exchange.most_wait, exchange.last_wait].map(Duration::from_millis);
         config.set_request_retransmits(first, most, exchange.sends, last);
     }
+    config.set_short_lifetimes(exchange.ignore_short_lifetimes == 0);
     config
 }
 
@@ -487,6 +488,12 @@ impl Walker {
             }
             "poll" => tell_poll(self.client().poll(now).unwrap()),
             "event" => self.client().poll_event().map_or(answer("TURN_NOTHING"), tell_event),
+            "expired" => self.client().poll_expired().map_or(answer("TURN_NOTHING"), |it| Told {
+                answer: "TURN_OK",
+                transport: shown(it.transport),
+                peer: kept(it.relayed),
+                ..TOLD
+            }),
             "cause" | "reason" | "domain" | "mapped" => self.note(step),
             "credentials" | "software" | "fingerprint" => self.introduce(step),
             _ => self.ask(step, now),
