@@ -8,7 +8,7 @@ ghost use Rattle.std.specs.Net.Socket.{socket_ip};
 ghost use Rattle.std.specs.Prelude.{None, false, length, nat_lt, ◌+◌, ◌≡◌, ◌≢◌};
 ghost use Rattle.turn_client_c_calls.specs.Answers.{bind_answer, connect_answer, delete_answer, memory_answer, permission_answer, socket_answer};
 ghost use Rattle.turn_client_c_calls.specs.Calls.{Named, OnClient, OnCore, OnStored, Reports, Unless};
-ghost use Rattle.turn_client_c_calls.specs.Causes.{Reads, cause_noted, cause_status, domain_status, domain_written, mapped_reported, mapped_status, reason_status, reason_written};
+ghost use Rattle.turn_client_c_calls.specs.Causes.{Reads, cause_noted, cause_status, domain_status, domain_written, mapped_reported, mapped_status, reason_status, reason_written, reservation_reported, reservation_status};
 ghost use Rattle.turn_client_c_calls.specs.Codes.{bad_family, bad_length, bad_setting, ok, small_buffer};
 ghost use Rattle.turn_client_c_calls.specs.Lengths.{is_bad_length};
 ghost use Rattle.turn_client_c_calls.specs.Opened.{HoldsOpened, WhyNot};
@@ -262,6 +262,19 @@ pub extern "C" fn turn_client_mapped(
         client.new.boxed_client.value result mapped.old mapped.new }
 {
     causes::turn_client_mapped(alloc, client, mapped)
+}
+
+/// Writes the token of the port that the server reserved (RFC 8656, section 18.10).
+#[unsafe(no_mangle)]
+pub extern "C" fn turn_client_reservation(
+    alloc: Global,
+    client: &mut TurnHandle,
+    token: &mut u64,
+) -> i32
+    ensures { Reads reservation_status reservation_reported client.old.boxed_client.value
+        client.new.boxed_client.value result token.old token.new }
+{
+    causes::turn_client_reservation(alloc, client, token)
 }
 
 /// Requests the end of all allocations (RFC 8656, section 8.1).

@@ -63,3 +63,18 @@ mapped_status noted = mapped_status_of noted.mapped
 
 abbrev pub mapped_reported : Notes → TurnAddress → TurnAddress
 mapped_reported noted = mapped_over noted.mapped
+
+-- The token of the port that the server reserved (RFC 8656, section 18.10).
+abbrev pub reservation_status_of : Option ℕ → ℤ
+reservation_status_of None = code.nothing
+reservation_status_of (Some token) = code.ok
+
+abbrev pub reservation_over : Option ℕ → ℕ → ℕ
+reservation_over None before = before
+reservation_over (Some token) before = token
+
+abbrev pub reservation_status : Notes → ℤ
+reservation_status noted = reservation_status_of noted.reservation
+
+abbrev pub reservation_reported : Notes → ℕ → ℕ
+reservation_reported noted = reservation_over noted.reservation

@@ -3,7 +3,7 @@
 ghost use Rattle.std.specs.Prelude.{◌≡◌, length};
 ghost use Rattle.std.specs.Option.{option_copied};
 ghost use Rattle.turn_client_c_calls.specs.Calls.{Unless};
-ghost use Rattle.turn_client_c_calls.specs.Causes.{Reads, cause_noted, cause_status, domain_status, domain_written, mapped_reported, mapped_status, reason_status, reason_written, text_status, text_written};
+ghost use Rattle.turn_client_c_calls.specs.Causes.{Reads, cause_noted, cause_status, domain_status, domain_written, mapped_reported, mapped_status, reason_status, reason_written, reservation_reported, reservation_status, text_status, text_written};
 ghost use Rattle.turn_client_c_calls.specs.Codes.{bad_length};
 ghost use Rattle.turn_client_c_calls.specs.Lengths.{is_bad_length};
 
@@ -100,6 +100,25 @@ pub fn turn_client_mapped(alloc: Global, client: &mut TurnHandle, mapped: &mut T
     let status = match whole.client.mapped_address() {
         Some(address) => {
             mapped.report(&address);
+            status::OK
+        }
+        None => status::NOTHING,
+    };
+    client.put(whole);
+    status
+}
+
+/// Writes the token of the port that the server reserved (RFC 8656, section 18.10).
+pub fn turn_client_reservation(alloc: Global, client: &mut TurnHandle, token: &mut u64) -> i32
+    ensures { Reads reservation_status reservation_reported client.old.boxed_client.value
+        client.new.boxed_client.value result token.old token.new }
+{
+    let Some(whole) = client.take(alloc) else {
+        return status::NO_CLIENT;
+    };
+    let status = match whole.client.reservation_token() {
+        Some(reserved) => {
+            *token = reserved;
             status::OK
         }
         None => status::NOTHING,
