@@ -58,7 +58,8 @@
  * bindings/c/turn_client.c does all this.
  *
  * WHAT MAY SURPRISE:
- *   - New requests are sent at least 50 ms apart (`pace`). So a request may be ready to draw only at the time that poll returns.
+ *   - New requests are sent at least 50 ms apart (`pace`). So a request may be ready to draw only at the time that poll
+ *     returns.
  *   - While an event is queued, or a response to the server that draw gives, poll returns TURN_OK, to wait until now,
  *     and does nothing else. It does so for a client that has ended, too. If turns at one time do nothing, wait some
  *     milliseconds.
@@ -163,9 +164,9 @@ enum { TURN_TCP = 6, TURN_UDP = 17 };                       /* transports, by th
 enum { TURN_IPV4 = 1, TURN_IPV6 = 2 };                                   /* bits of families */
 enum { TURN_SHA1 = 1, TURN_SHA256 = 2, TURN_SHA512 = 4 };                /* bits of integrity */
 enum { TURN_ANONYMOUS_AUTO = 0, TURN_ANONYMOUS_REQUIRED = 1, TURN_ANONYMOUS_DISABLED = 2 };
-/* Ports of a relayed address: any; an even one (EVEN-PORT); an even one, and the next one reserved (EVEN-PORT with the bit
- * R, which servers refuse beside two families); the one that was reserved (RESERVATION-TOKEN: the families are not sent
- * then, as the server has chosen the address already) */
+/* Ports of a relayed address: any; an even one (EVEN-PORT); an even one, and the next one reserved (EVEN-PORT with the
+ * bit R, which servers refuse beside two families); the one that was reserved (RESERVATION-TOKEN: the families are not
+ * sent then, as the server has chosen the address already) */
 enum { TURN_PORT_ANY = 0, TURN_PORT_EVEN = 1, TURN_PORT_EVEN_AND_NEXT = 2, TURN_PORT_RESERVED = 3 };
 
 /* An address and a port. An IPv6 address has no flow information and no scope. */
@@ -177,8 +178,8 @@ typedef struct turn_address {
 
 /* The settings of a client, which begin as TURN_SETTINGS_INIT. With all numbers zero except size and addresses: over
  * UDP, one IPv4 address over UDP, HMAC-SHA1 and HMAC-SHA256, the name is hidden if the server supports it, requests
- * wait as RFC 8489 says, the client is hardened, a REFRESH may shorten an allocation, half an hour and any port are asked
- * for, and two messages are at least 50 ms apart. */
+ * wait as RFC 8489 says, the client is hardened, a REFRESH may shorten an allocation, half an hour and any port are
+ * asked for, and two messages are at least 50 ms apart. */
 typedef struct turn_settings {
     size_t size;             /* sizeof(turn_settings), as the program was compiled: another size is refused */
     turn_address local;      /* the client's own address. It need not be the system's, but turn_client_feed has to name
