@@ -75,7 +75,8 @@
  *   - A server may reject one family of two. Then the client goes on with the other.
  *   - If a server grants less than 600 s at a renewal, the allocation ends by that, and is renewed in time. If
  *     compatible or ignore_short_lifetimes is 1, it still ends when it would have ended without the renewal.
- *   - No event reports that an allocation has expired, or what turn_client_delete ends: look at turn_client_relayed.
+ *   - No event reports that an allocation has expired, or what turn_client_delete ends: look at turn_client_relayed, or
+ *     call turn_client_expired.
  *   - A client that has ended or failed returns TURN_CLOSED from poll once no event is queued, and TURN_NO_ALLOCATION
  *     from the calls that request something. Close the sockets that are still open: poll no longer names them. One that
  *     failed holds nothing, and draw returns TURN_NOTHING. One that ended still lists what it held, and draw may give
