@@ -125,6 +125,15 @@ def recorded(make: Callable[[], Any]) -> tuple[dict[str, Any], list[Step]]:
     return exchange.settings, steps
 
 
+def asked(settings: dict[str, Any]) -> dict[str, Any]:
+    """What an ALLOCATE asks for besides, and the pace, as a client's settings have it."""
+    pace = settings.get("pace", 50)
+    port = NUMBERS[settings.get("port", "TURN_PORT_ANY")]
+    named = {"reservation_token": settings["reservation"].to_bytes(8, "big")} if "reservation" in settings else {
+        "relayed_port": port}
+    return {"requested_lifetime": settings.get("lifetime", 1800), "pace": 0 if pace == 0xFFFFFFFF else pace, **named}
+
+
 def opened(module: Any, settings: dict[str, Any]) -> Any:
     """A client of a module under the seed of all exchanges."""
     waits = [settings[it] for it in ("sends", "first_wait", "most_wait", "last_wait") if it in settings]
@@ -133,7 +142,7 @@ def opened(module: Any, settings: dict[str, Any]) -> Any:
         base.NAME.decode(), base.SECRET.decode(), transport_of(settings["peers"]),
         settings.get("families", NUMBERS["TURN_IPV4"]), settings.get("integrity", NUMBERS["TURN_SHA1"]),
         NUMBERS[anonymous], module.RequestRetransmits(*waits) if waits else None,
-        short_lifetimes=not settings.get("ignore_short_lifetimes"))
+        short_lifetimes=not settings.get("ignore_short_lifetimes"), **asked(settings))
     return module.TurnClient(read(settings["local"]), read(settings["server"]), config,
                              transport_of(settings["transport"]), seed=base.SEED)
 
@@ -270,6 +279,10 @@ class Walker:
     def mapped(self, step: Step) -> Any:
         address = self.client.mapped_address()
         return ("TURN_NOTHING", {}) if address is None else ("TURN_OK", {"peer": shown(address)})
+
+    def reservation(self, step: Step) -> Any:
+        token = self.client.reservation_token()
+        return ("TURN_NOTHING", {}) if token is None else ("TURN_OK", {"until": int.from_bytes(token, "big")})
 
     # ---- what is asked for, and what was done
 
@@ -423,7 +436,7 @@ class Causes(unittest.TestCase):
     def test_closed(self) -> None:
         client, _ = allocated()
         client.close()
-        calls: list[Callable[[], object]] = [client.cause, client.poll_event_with_cause, client.mapped_address,
+        calls: list[Callable[[], object]] = [client.cause, client.poll_event_with_cause, client.mapped_address, client.reservation_token,
                                              client.alternate_server, client.alternate_domain, client.poll_expired]
         for call in calls:
             with self.subTest(call), self.assertRaises(turn_client.NoClient):

@@ -47,6 +47,10 @@ MOMENT_MAX = 1 << 62      # nanoseconds
 _MESSAGE_MAX = 65555      # bytes of any message
 _SEND_EXTRA = 64          # bytes beside the payload in the buffer of a send
 _SEED_SIZE = 32
+# of a reservation (RFC 8656, section 18.10)
+_TOKEN_SIZE = 8
+# of turn_settings: no time between two messages, and the port that is reserved
+_NO_PACE, _PORT_RESERVED = 0xFFFFFFFF, 3
 _IPV4, _IPV4_SIZE = 4, 4  # the family, and octets of its addresses
 _ROOM = 8                 # elements for which a getter has room at first
 
@@ -208,6 +212,15 @@ class Integrity(enum.IntFlag):
     SHA512 = 4
 
 
+class RelayedPort(enum.IntEnum):
+    """The port that is asked for the relayed address (RFC 8656, section 7.1): any; an even one, by EVEN-PORT; an even
+    one, and the next one reserved for another client, which servers refuse beside two families."""
+
+    ANY = 0
+    EVEN = 1
+    EVEN_AND_NEXT = 2
+
+
 class Anonymous(enum.IntEnum):
     """Whether the user's name is hidden (RFC 8489, section 9.2): where the server can, always, never."""
 
@@ -240,7 +253,12 @@ class TurnConfig:
 
     With short_lifetimes, a lifetime under 600 seconds in the response to a REFRESH is believed (RFC 8656, section 8.3),
     so that it shortens the allocation, unless the client isn't hardened. Without, such a response changes nothing, and
-    the allocation may outlast the server's. What the response to the ALLOCATE says is always believed."""
+    the allocation may outlast the server's. What the response to the ALLOCATE says is always believed.
+
+    requested_lifetime is asked for by each ALLOCATE and each REFRESH that renews, in seconds; 0 would delete, and is
+    refused. The server decides. Two messages that the client sends are at least `pace` milliseconds apart; 0 is no time.
+    relayed_port is asked for the relayed address; with a reservation_token of another client
+    (TurnClient.reservation_token) it is the port that the server reserved under it (RFC 8656, section 7.1)."""
 
     username: str
     password: str = field(repr=False)
@@ -252,6 +270,10 @@ class TurnConfig:
     hardened: bool = True
     max_connection_attempts: int = 0
     short_lifetimes: bool = True
+    requested_lifetime: int = 1800
+    pace: int = 50
+    relayed_port: RelayedPort = RelayedPort.ANY
+    reservation_token: bytes | None = field(default=None, repr=False)
 
 
 # ---- answers
@@ -490,6 +512,8 @@ class _Settings(ctypes.Structure):
         ("anonymous", ctypes.c_uint32), ("sends", ctypes.c_uint32), ("first_wait", ctypes.c_uint32),
         ("most_wait", ctypes.c_uint32), ("last_wait", ctypes.c_uint32), ("compatible", ctypes.c_uint32),
         ("max_connection_attempts", ctypes.c_size_t), ("ignore_short_lifetimes", ctypes.c_uint32),
+        ("lifetime", ctypes.c_uint32), ("pace", ctypes.c_uint32), ("port", ctypes.c_uint32),
+        ("reservation", ctypes.c_uint64),
     ]
 
 
@@ -606,6 +630,7 @@ _CALLS: dict[str, tuple[Any, Sequence[Any]]] = {
     "reason": (_STATUS, (_BYTES, _SIZE)),
     "domain": (_STATUS, (_BYTES, _SIZE)),
     "mapped": (_STATUS, (_AT,)),
+    "reservation": (_STATUS, (ctypes.POINTER(ctypes.c_uint64),)),
     "permit": (_STATUS, (_NUMBER, _AT, _MOMENT)),
     "bind": (_STATUS, (_NUMBER, _AT, _MOMENT, ctypes.POINTER(_MOMENT))),
     "connect": (_STATUS, (_AT, _MOMENT)),
@@ -690,6 +715,20 @@ def _bytes(data: Buffer) -> bytes:
     return data if isinstance(data, bytes) else memoryview(data).tobytes()
 
 
+def _asked(config: TurnConfig) -> dict[str, int]:
+    """The fields of turn_settings for what an ALLOCATE asks for besides, and for the pace."""
+    if config.requested_lifetime == 0:
+        raise ValueError("a lifetime of 0 deletes the allocation")
+    if not 0 <= config.pace < _NO_PACE:
+        raise ValueError(f"{config.pace} milliseconds between two messages")
+    asked = {"lifetime": _word(config.requested_lifetime), "pace": config.pace or _NO_PACE}
+    if config.reservation_token is None:
+        return asked | {"port": _word(config.relayed_port)}
+    if len(config.reservation_token) != _TOKEN_SIZE:
+        raise ValueError(f"a token of {len(config.reservation_token)} bytes: {_TOKEN_SIZE} are wanted")
+    return asked | {"port": _PORT_RESERVED, "reservation": int.from_bytes(config.reservation_token, "big")}
+
+
 def _to_c(address: Address) -> _Address:
     ip, port = address
     parsed = ipaddress.ip_address(ip)
@@ -764,7 +803,7 @@ class TurnClient:
             sends=_word(waits.sends), first_wait=_word(waits.first_wait), most_wait=_word(waits.most_wait),
             last_wait=_word(waits.last_wait), compatible=int(not config.hardened),
             max_connection_attempts=_size(config.max_connection_attempts),
-            ignore_short_lifetimes=int(not config.short_lifetimes))
+            ignore_short_lifetimes=int(not config.short_lifetimes), **_asked(config))
         name, password = (it.encode("utf-8", "surrogatepass") for it in (config.username, config.password))
         self._status("open", settings, name, len(name), password, len(password), _Seed.from_buffer_copy(seed))
 
@@ -936,6 +975,14 @@ class TurnClient:
         allocated (RFC 8656, section 7.3). None before that, or if the response had no such address."""
         mapped = _Address()
         return None if self._status("mapped", mapped) == _NOTHING else _of_c(mapped)
+
+    def reservation_token(self) -> bytes | None:
+        """Returns the token of the port that the server reserved beside the relayed one, eight bytes: the
+        RESERVATION-TOKEN of the signed response that allocated (RFC 8656, section 18.10). None before that, or if the
+        response had none. A server gives one for RelayedPort.EVEN_AND_NEXT, and holds the port for at least 30 seconds;
+        another client asks for it by TurnConfig.reservation_token."""
+        token = ctypes.c_uint64()
+        return None if self._status("reservation", token) == _NOTHING else token.value.to_bytes(_TOKEN_SIZE, "big")
 
     def alternate_server(self) -> Address | None:
         """Returns the server that a response 300 named which ended the client (RFC 8489, section 10); None if there was

@@ -260,6 +260,8 @@ static void refuse_numbers(const turn_settings *good)
         {offsetof(turn_settings, compatible), 2}, {offsetof(turn_settings, compatible), UINT32_MAX},
         {offsetof(turn_settings, ignore_short_lifetimes), 2},
         {offsetof(turn_settings, ignore_short_lifetimes), UINT32_MAX},
+        {offsetof(turn_settings, port), 4},
+        {offsetof(turn_settings, port), UINT32_MAX},
     };
     for (size_t i = 0; i < sizeof wrong / sizeof *wrong; i++) {
         turn_settings settings = *good;

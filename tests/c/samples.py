@@ -15,11 +15,12 @@ sys.dont_write_bytecode = True
 from samples_base import (  # noqa: E402
     A, ADDITIONAL_FAMILY, ALLOCATE, ALL_ALGORITHMS, B, BEHIND_PEER, BY_SHA1, BY_SHA256, BY_SHA512, CHANNEL_BIND,
     CHOSEN, CONNECT, CONNECTION_ATTEMPT, CONNECTION_BIND, CREATE_PERMISSION, ELSEWHERE, ERROR, Exchange, FAMILY,
-    FEATURED, FOURTH, HERE, HIDDEN, LONGEST, MS, NAME, NEXT, NOBODY, OLD, ONE, OTHER, OWN, REFRESH, RELAYED, RELAYED_6, REPORT,
-    SECOND, SECRET, SEED, SERVER, SIX, SOFTWARE, STRANGER, STRONGEST, SUCCESS, TCP, TEXTS, TWO, TWO_ALGORITHMS, UDP,
+    FEATURED, FOURTH, HERE, HIDDEN, LONGEST, MS, NAME, NEXT, NOBODY, OLD, ONE, OTHER, OWN, REFRESH, RELAYED,
+    RELAYED_6, RELAYED_KIND, REPORT, SECOND, SECRET, SEED, SERVER, SIX, SOFTWARE, STRANGER, STRONGEST, SUCCESS, TCP,
+    TEXTS, TWO, TWO_ALGORITHMS, UDP,
     V6, allocate, attempt, attempted, bind, c_fields, challenge, code, connect, data, elsewhere, fingerprinted, first,
     frame, grant, host, identified, indication, join, lifetime, message, named, number, padded, permit, refresh,
-    rejection, success,
+    rejection, success, xored,
 )
 
 
@@ -901,6 +902,68 @@ def introduced_to_peers():
     return t
 
 
+# ---- what is asked for otherwise
+
+# what a server tells of a reserved port, and the number that it is (RFC 8656, section 18.10)
+RESERVED, TOKEN = 0x0022, bytes.fromhex("ff00010203040506")
+EVEN = 0x0018
+
+
+def asked_otherwise():
+    """An hour, an even port with the next one reserved (RFC 8656, section 18.7), and no time between messages."""
+    t = Exchange("an hour and a pair of ports", lifetime=3600, pace=0xFFFFFFFF, port="TURN_PORT_EVEN_AND_NEXT")
+    t.begins()
+    t.does("reservation", "TURN_NOTHING")
+    t.draws(first(UDP, (EVEN, b"\x80"), seconds=3600))
+    t.feeds(challenge())
+    t.draws(allocate(UDP, (EVEN, b"\x80"), seconds=3600))
+    told = [(RELAYED_KIND, xored(RELAYED, number(1))), lifetime(3600), (RESERVED, TOKEN)]
+    t.feeds(success(ALLOCATE, 1, *told))
+    t.tells("TURN_ALLOCATION_CREATED", RELAYED)
+    t.is_reserved(int.from_bytes(TOKEN, "big"))
+    t.part("a minute before its end an hour is asked for again, and other requests are drawn at that moment")
+    t.at(3_540_000)
+    t.draws(refresh(2, 3600))
+    t.feeds(success(REFRESH, 2, lifetime(3600)))
+    t.reaches("permit", ONE)
+    t.reaches("permit", TWO)
+    t.draws(permit(3, ONE))
+    t.draws(permit(4, TWO))
+    t.does("close")
+    return t
+
+
+def reserved():
+    """The port that was reserved: no family is named beside it (RFC 8656, section 7.1)."""
+    token = int.from_bytes(TOKEN, "big")
+    t = Exchange("a reserved port", families=2, port="TURN_PORT_RESERVED", reservation=token)
+    t.begins()
+    t.draws(first(UDP, (RESERVED, TOKEN)))
+    t.feeds(challenge())
+    t.at(50)
+    t.draws(allocate(UDP, (RESERVED, TOKEN)))
+    t.feeds(success(ALLOCATE, 1, (RELAYED_KIND, xored(RELAYED_6, number(1))), lifetime(1800)))
+    t.tells("TURN_ALLOCATION_CREATED", RELAYED_6)
+    t.does("reservation", "TURN_NOTHING")
+    t.does("close")
+    return t
+
+
+def even():
+    """An even port, and 90 ms between two messages; the server has none."""
+    t = Exchange("an even port", port="TURN_PORT_EVEN", pace=90, lifetime=60)
+    t.begins()
+    t.draws(first(UDP, (EVEN, b"\0"), seconds=60))
+    t.feeds(challenge())
+    t.at(89)
+    t.draws_nothing()
+    t.at(90)
+    t.draws(allocate(UDP, (EVEN, b"\0"), seconds=60))
+    t.feeds(rejection(ALLOCATE, 1, 508, b"Insufficient Capacity"))
+    fails(t, "TURN_REJECTED", 508, True, b"Insufficient Capacity")
+    return t
+
+
 # ---- what is timed
 
 LONG = bytes(range(240)) * 5
@@ -982,9 +1045,10 @@ def timed_tcp():
 
 
 EXCHANGES = (
-    udp, tcp, connections, both, the_others, unanswered, hidden, lapsed, strongest, none_in_common, rejected, redirected,
+    udp, tcp, connections, both, the_others, unanswered, hidden, lapsed, strongest, none_in_common, rejected,
+    redirected,
     redirected_unsigned, another_password, replaced, replaced_by_stale_nonce, replaced_at_first, introduced,
-    introduced_to_peers, expired, expired_untold, expired_behind_deletion,
+    introduced_to_peers, expired, expired_untold, expired_behind_deletion, asked_otherwise, reserved, even,
 )
 
 # ---- the file

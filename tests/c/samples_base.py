@@ -103,12 +103,12 @@ def host(peer):
     return peer.rsplit(":", 1)[0] + ":0"
 
 
-def first(transport=UDP, *more, k=0):
-    return message(ALLOCATE, number(k), [lifetime(1800), transport, (DONT_FRAGMENT, b""), *more])
+def first(transport=UDP, *more, k=0, seconds=1800):
+    return message(ALLOCATE, number(k), [lifetime(seconds), transport, (DONT_FRAGMENT, b""), *more])
 
 
-def allocate(transport=UDP, *more, told=named(), by=BY_SHA1, k=1, user=OLD):
-    return message(ALLOCATE, number(k), [transport, lifetime(1800), *more, *told], by, user)
+def allocate(transport=UDP, *more, told=named(), by=BY_SHA1, k=1, user=OLD, seconds=1800):
+    return message(ALLOCATE, number(k), [transport, lifetime(seconds), *more, *told], by, user)
 
 
 def permit(k, peer, told=named(), by=BY_SHA1, user=OLD):
@@ -241,7 +241,7 @@ def c_value(key, value):
         return f'"{value}"'
     if isinstance(value, bool):
         return str(value).lower()
-    return str(value)
+    return f"UINT64_C({value})" if isinstance(value, int) and value >= 2**63 else str(value)
 
 
 def c_fields(fields):
@@ -315,6 +315,10 @@ class Exchange:
     def is_mapped(self, address):
         """The own address, as the server saw it."""
         self.step("mapped", {}, {"peer": address})
+
+    def is_reserved(self, token):
+        """The token of the port that the server reserved: a number of 64 bits."""
+        self.step("reservation", {}, {"until": token})
 
     def has_expired(self, *addresses):
         """The allocations that went because their time was over, and were not told yet."""

@@ -10,10 +10,12 @@
 const char *const call_names[CALLS] = {
     [CALL_OPEN] = "open", [CALL_CLOSE] = "close", [CALL_DELETE] = "delete", [CALL_FEED] = "feed", [CALL_PULL] = "pull",
     [CALL_READ] = "read", [CALL_DRAW] = "draw", [CALL_SEND] = "send", [CALL_POLL] = "poll", [CALL_EVENT] = "event",
-    [CALL_EXPIRED] = "expired", [CALL_PERMIT] = "permit", [CALL_BIND] = "bind", [CALL_CONNECT] = "connect", [CALL_SOCKET] = "socket",
-    [CALL_CLOSED] = "closed", [CALL_CREDENTIALS] = "credentials", [CALL_SOFTWARE] = "software",
+    [CALL_EXPIRED] = "expired", [CALL_PERMIT] = "permit", [CALL_BIND] = "bind", [CALL_CONNECT] = "connect",
+    [CALL_SOCKET] = "socket", [CALL_CLOSED] = "closed", [CALL_CREDENTIALS] = "credentials",
+    [CALL_SOFTWARE] = "software",
     [CALL_FINGERPRINT] = "fingerprint", [CALL_CAUSE] = "cause", [CALL_REASON] = "reason", [CALL_DOMAIN] = "domain",
-    [CALL_MAPPED] = "mapped", [CALL_RELAYED] = "relayed", [CALL_PERMISSIONS] = "permissions",
+    [CALL_MAPPED] = "mapped", [CALL_RESERVATION] = "reservation", [CALL_RELAYED] = "relayed",
+    [CALL_PERMISSIONS] = "permissions",
     [CALL_IS_PERMITTED] = "is_permitted", [CALL_CHANNELS] = "channels", [CALL_CONNECTIONS] = "connections",
 };
 
@@ -109,6 +111,8 @@ int32_t step_call(struct walker *w, const struct step *s)
         return turn_client_domain(c, w->out, s->want.size - s->less);
     case CALL_MAPPED:
         return turn_client_mapped(c, &w->mapped);
+    case CALL_RESERVATION:
+        return turn_client_reservation(c, &w->reservation);
     default:
         return s->call >= CALL_RELAYED ? step_get(w, s) : step_introduce(c, s);
     }
@@ -202,6 +206,8 @@ static void tell_done(const struct walker *w, const struct step *s, struct told 
         tell_cause(&w->cause, told);
     } else if (s->call == CALL_MAPPED) {
         told->peer = w->mapped;
+    } else if (s->call == CALL_RESERVATION) {
+        told->until = w->reservation;
     } else if (s->call == CALL_READ || s->call == CALL_REASON || s->call == CALL_DOMAIN) {
         told->bytes = w->out;
         told->size = s->want.size;

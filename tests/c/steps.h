@@ -11,9 +11,9 @@
 /* the functions of turn_client.h */
 enum call {
     CALL_OPEN, CALL_CLOSE, CALL_DELETE, CALL_FEED, CALL_PULL, CALL_READ, CALL_DRAW, CALL_SEND, CALL_POLL, CALL_EVENT,
-    CALL_EXPIRED, CALL_PERMIT, CALL_BIND, CALL_CONNECT, CALL_SOCKET, CALL_CLOSED, CALL_CREDENTIALS, CALL_SOFTWARE, CALL_FINGERPRINT,
-    CALL_CAUSE, CALL_REASON, CALL_DOMAIN, CALL_MAPPED, CALL_RELAYED, CALL_PERMISSIONS, CALL_IS_PERMITTED, CALL_CHANNELS,
-    CALL_CONNECTIONS,
+    CALL_EXPIRED, CALL_PERMIT, CALL_BIND, CALL_CONNECT, CALL_SOCKET, CALL_CLOSED, CALL_CREDENTIALS, CALL_SOFTWARE,
+    CALL_FINGERPRINT, CALL_CAUSE, CALL_REASON, CALL_DOMAIN, CALL_MAPPED, CALL_RESERVATION, CALL_RELAYED,
+    CALL_PERMISSIONS, CALL_IS_PERMITTED, CALL_CHANNELS, CALL_CONNECTIONS,
     CALLS
 };
 
@@ -40,7 +40,7 @@ struct told {
     size_t start;             /* where it stands there */
     bool is_joined, is_bound, is_signed;
     uint8_t icmp_type, icmp_code;
-    uint64_t until;
+    uint64_t until;           /* or the token of a reserved port */
 };
 
 /* A call, what it is given, and what is wanted of it. */
@@ -90,7 +90,7 @@ struct walker {
     turn_cause cause;
     turn_address mapped;
     turn_relayed expired;
-    uint64_t until;
+    uint64_t until, reservation;
     turn_relayed relayed[HELD_MAX];
     turn_address permissions[HELD_MAX];
     turn_channel channels[HELD_MAX];
