@@ -436,8 +436,8 @@ class Causes(unittest.TestCase):
     def test_closed(self) -> None:
         client, _ = allocated()
         client.close()
-        calls: list[Callable[[], object]] = [client.cause, client.poll_event_with_cause, client.mapped_address, client.reservation_token,
-                                             client.alternate_server, client.alternate_domain, client.poll_expired]
+        calls: list[Callable[[], object]] = [client.cause, client.poll_event_with_cause, client.mapped_address,
+                                             client.reservation_token, client.alternate_server, client.alternate_domain, client.poll_expired]
         for call in calls:
             with self.subTest(call), self.assertRaises(turn_client.NoClient):
                 call()

@@ -256,7 +256,7 @@ class TurnConfig:
     the allocation may outlast the server's. What the response to the ALLOCATE says is always believed.
 
     requested_lifetime is asked for by each ALLOCATE and each REFRESH that renews, in seconds; 0 would delete, and is
-    refused. The server decides. Two messages that the client sends are at least `pace` milliseconds apart; 0 is no time.
+    refused. The server decides. Two messages that the client sends are at least `pace` milliseconds apart; 0: no time.
     relayed_port is asked for the relayed address; with a reservation_token of another client
     (TurnClient.reservation_token) it is the port that the server reserved under it (RFC 8656, section 7.1)."""
 

@@ -12,11 +12,10 @@ const char *const call_names[CALLS] = {
     [CALL_READ] = "read", [CALL_DRAW] = "draw", [CALL_SEND] = "send", [CALL_POLL] = "poll", [CALL_EVENT] = "event",
     [CALL_EXPIRED] = "expired", [CALL_PERMIT] = "permit", [CALL_BIND] = "bind", [CALL_CONNECT] = "connect",
     [CALL_SOCKET] = "socket", [CALL_CLOSED] = "closed", [CALL_CREDENTIALS] = "credentials",
-    [CALL_SOFTWARE] = "software",
-    [CALL_FINGERPRINT] = "fingerprint", [CALL_CAUSE] = "cause", [CALL_REASON] = "reason", [CALL_DOMAIN] = "domain",
-    [CALL_MAPPED] = "mapped", [CALL_RESERVATION] = "reservation", [CALL_RELAYED] = "relayed",
-    [CALL_PERMISSIONS] = "permissions",
-    [CALL_IS_PERMITTED] = "is_permitted", [CALL_CHANNELS] = "channels", [CALL_CONNECTIONS] = "connections",
+    [CALL_SOFTWARE] = "software", [CALL_FINGERPRINT] = "fingerprint", [CALL_CAUSE] = "cause", [CALL_REASON] = "reason",
+    [CALL_DOMAIN] = "domain", [CALL_MAPPED] = "mapped", [CALL_RESERVATION] = "reservation",
+    [CALL_RELAYED] = "relayed", [CALL_PERMISSIONS] = "permissions", [CALL_IS_PERMITTED] = "is_permitted",
+    [CALL_CHANNELS] = "channels", [CALL_CONNECTIONS] = "connections",
 };
 
 int32_t open_with(turn_client *client, const turn_settings *settings, struct bytes user, struct bytes password)
