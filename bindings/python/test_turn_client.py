@@ -437,7 +437,8 @@ class Causes(unittest.TestCase):
         client, _ = allocated()
         client.close()
         calls: list[Callable[[], object]] = [client.cause, client.poll_event_with_cause, client.mapped_address,
-                                             client.reservation_token, client.alternate_server, client.alternate_domain, client.poll_expired]
+                                             client.reservation_token, client.alternate_server, client.alternate_domain,
+                                             client.poll_expired]
         for call in calls:
             with self.subTest(call), self.assertRaises(turn_client.NoClient):
                 call()

@@ -1,6 +1,6 @@
 -- How a message from the server reaches a client that holds nothing yet: in a datagram, or in chunks of the
 -- stream (RFC 8489, sections 6.2.1 and 6.2.2; RFC 8656, section 12.5).
-use Rattle.std.specs.Prelude.{◌≡◌, ◌≢◌, ◌++◌, ℕ, Bool, false, List, [], None}
+use Rattle.std.specs.Prelude.{◌≡◌, ◌≢◌, ◌++◌, ℕ, Bool, false, List, [], None, Some}
 use Rattle.turn_client_proto_api.specs.StunTypesWire.Grammar.{refusal}
 use Rattle.stun_types_base.specs.declared.transmit.Transmit.{Transmit}
 use Rattle.turn_client_proto_api.specs.TurnTypesFrame.Streams.{alive}
@@ -12,7 +12,6 @@ use Rattle.turn_client_proto_core.specs.Ending.{HasFailed}
 use Rattle.turn_client_proto_core.specs.Receiving.{IsProcessed}
 use Rattle.turn_client_proto_recv.specs.Datagrams.{IsHandledAs}
 use Rattle.turn_client_proto_recv.specs.ClientState.{ClientState, Protocol}
-use Rattle.turn_client_proto_handshake_laws.specs.Stages.{IsOf}
 use Rattle.turn_client_proto_handshake_laws.specs.Sent.{Beginning}
 
 -- The client's transport, its own address and the server's are those of its start; it has not failed.

@@ -1,6 +1,6 @@
 -- What a client that receives nothing transmits: its first request, at the slots of its schedule (RFC 8489,
 -- section 6.2.1).
-use Rattle.std.specs.Prelude.{◌≤◌, ℕ, length, nat_le, List, [], ◌∷◌, filter, map, Some, None, option_to_list}
+use Rattle.std.specs.Prelude.{◌≡◌, ◌≤◌, ℕ, length, nat_le, List, [], ◌∷◌, filter, map, Some, None, option_to_list}
 use Rattle.std.specs.List.{flat_map}
 use Rattle.std.specs.declared.net.socket_addr.SocketAddr.{SocketAddr}
 use Rattle.rand_chacha.specs.ChaCha.{of_seed}
