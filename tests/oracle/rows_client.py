@@ -29,6 +29,10 @@ FAMILIES = {"v4": "IPV4", "v6": "IPV6"}
 ALGORITHMS = {"sha1": "Sha1", "sha256": "Sha256", "sha512": "Sha512"}
 
 
+# ports that are asked for, as they are printed
+PORTS = {"any": "Any", "even": "Even", "pair": "EvenAndNextReserved"}
+
+
 def changed(names, known, how, name):
     """A list behind a change: `=` leaves one name, and `+` puts one behind that is not there."""
     if how == "=":
@@ -43,7 +47,8 @@ class Settings:
         self.account = name or "-", password or "-"
         self.transport, self.families, self.algorithms = "UDP", ("IPV4",), ("Sha1",)
         self.anonymity, self.is_hardened, self.attempts, self.waits = "Auto", False, None, None
-        self.believes_short = False
+        self.believes_short, self.refused = False, []
+        self.lifetime, self.port, self.pace = 1800, "Any", 50 * MS
         self.words = []
         for it in changes:
             self.words += ["waits", *it] if isinstance(it, tuple) else it.split(" ")
@@ -59,6 +64,10 @@ class Settings:
         if it in ("short", "long"):
             self.believes_short = it == "short"
             return
+        kind, *given = it.split(" ")
+        if kind in ("lifetime", "port", "pace"):
+            self.ask(kind, *given)
+            return
         if it.startswith("attempts ") or it == "unlimited":
             self.attempts = None if it == "unlimited" else it.split(" ")[1]
             return
@@ -73,9 +82,22 @@ class Settings:
         else:
             self.anonymity = name.capitalize()
 
+    def ask(self, kind, first, *token):
+        if kind == "port":
+            self.port = f"Reserved({token[0]})" if token else PORTS[first]
+        elif kind == "pace":
+            self.pace = nanos("max" if first == "max" else int(first))
+        elif first == "0":
+            # a REFRESH for that long deletes (RFC 8656, section 8.1)
+            self.refused.append("a lifetime of 0 deletes the allocation")
+        else:
+            self.lifetime = int(first)
+
     def told(self):
         last = ["hardened"] * self.is_hardened + ["short"] * self.believes_short
         last += [] if self.attempts is None else ["attempts", self.attempts]
+        last += ["lifetime", self.lifetime] * (self.lifetime != 1800) + ["port", self.port] * (self.port != "Any")
+        last += ["pace", self.pace] * (self.pace != 50 * MS)
         return [*self.account, self.transport, *self.families, *self.algorithms, self.anonymity, *last]
 
     def schedule(self):
@@ -99,7 +121,7 @@ def settings(*changes, name="user", password="pass"):
     made = Settings(name, password, changes)
     KEPT.append(made)
     equal = [at for at, it in enumerate(KEPT) if (it.told(), it.waits) == (made.told(), made.waits)]
-    answer = [*made.told(), "equals", *equal, "is equalled by", *equal]
+    answer = [*made.refused, *made.told(), "equals", *equal, "is equalled by", *equal]
     row("settings", *made.account, *made.words)(*answer)
     return equal
 
@@ -456,6 +478,26 @@ def short_lived():
         row("settings", "user", "pass", *word.split(" "))("bad line")
 
 
+def asked_otherwise():
+    part("settings that ask for another lifetime or port, or leave other time between messages")
+    for change in ("lifetime 1", "lifetime 4294967295", "port even", "port pair", "port reserved 0",
+                   f"port reserved {2**64 - 1}", "pace 0", "pace 49", "pace 51", "pace max"):
+        assert settings(change) == [len(KEPT) - 1]
+    part("what is as in new settings makes no difference, and what was set last counts")
+    for change in ("lifetime 1800", "port any", "pace 50"):
+        assert settings(change)[:-1] == settings()[:-2]
+    assert settings("port even", "port any", "lifetime 9", "lifetime 1800", "pace 9", "pace 50")[:-1] == settings()[:-2]
+    for others in (*([it] for it in OTHERS), OTHERS):
+        first, last = settings("port pair", "pace 9", *others), settings(*others, "pace 9", "port pair")
+        assert last[:-1] == first and not {*last} & {*settings(*others)}
+    part("a lifetime of 0 is refused, and the other stays")
+    assert settings("lifetime 7", "lifetime 0")[:-1] == settings("lifetime 7")[:-2]
+    part("words that mean no such change")
+    for word in ("lifetime", "lifetime -1", f"lifetime {2**32}", "port", "port odd", "port reserved",
+                 f"port reserved {2**64}", "pace", "pace x", "Pace 5"):
+        row("settings", "user", "pass", *word.split(" "))("bad line")
+
+
 def debugs():
     part("what credentials are printed as for who looks for a fault: no password is")
     for name, password, realm in (("user", "pass", "realm"), ("", "", ""), ("a\"b", "secret", "r")):
@@ -471,7 +513,7 @@ def debugs():
 def main():
     for made in (
         no_settings, lists, kinds, agents, errors, payloads, sends, debugs, bad_lines, hardened, limited, short_lived,
-        requests,
+        asked_otherwise, requests,
     ):
         made()
     write(CRATE)

@@ -62,6 +62,19 @@ SIGNED = {
     "permission ::1": (CREATE_PERMISSION, [(PEER, xored("[::1]:0", ID))]),
 }
 FIRST = [lifetime(1800), UDP, (DONT_FRAGMENT, b"")]
+# RFC 8656, sections 7.1, 18.6, 18.7, 18.10 and 18.11: a pair is the bit R, and no family stands beside a token
+EVEN, TOKEN = 0x0018, 0x0022
+PORTS = {"any": [], "even": [(EVEN, b"\0")], "pair": [(EVEN, b"\x80")]}
+FAMILIES = {"v4": [], "v6": [(0x0017, b"\2\0\0\0")], "both": [(0x8000, b"\2\0\0\0")]}
+
+
+def asks_for(seconds, port, families):
+    """The attributes of the first ALLOCATE, and of a signed one, before what authenticates it."""
+    if port.startswith("reserved "):
+        addresses = [(TOKEN, struct.pack(">Q", int(port.split(" ")[1])))]
+    else:
+        addresses = [*PORTS[port], *FAMILIES[families]]
+    return [lifetime(seconds), UDP, (DONT_FRAGMENT, b""), *addresses], [UDP, lifetime(seconds), *addresses]
 
 
 def words(challenge, software, marks, algorithm, what):
@@ -79,6 +92,28 @@ def asked(challenge, software, marks, what):
         text = message(ALLOCATE, ID, [*FIRST, *described])
     algorithm = challenge.algorithm if challenge else "sha1"
     row(*words(challenge, software, marks, algorithm, what))((ended(text) if marks else text).hex())
+
+
+def allocates():
+    part("ALLOCATEs for another lifetime, port and family")
+    token = 0xFF00010203040506
+    for seconds in (0, 600, 2**32 - 1):
+        for port in ("any", "even", "pair", f"reserved {token}", "reserved 0"):
+            for families in FAMILIES:
+                first, signed = asks_for(seconds, port, families)
+                what = f"{seconds} {port} {families}"
+                for software, marks in ((b"", False), (b"test vector", True)):
+                    described = [(SOFTWARE, software)] if software else []
+                    text = message(ALLOCATE, ID, [*first, *described])
+                    row(*words(None, software, marks, "sha1", f"first-for {what}"))(
+                        (ended(text) if marks else text).hex())
+                    text = message(ALLOCATE, ID, [*signed, *described, *PLAIN.adds], PLAIN.by)
+                    row(*words(PLAIN, software, marks, "sha1", f"allocate-for {what}"))(
+                        (ended(text) if marks else text).hex())
+    part("words that mean no such ALLOCATE")
+    for what in ("first-for", "first-for 1", "first-for 1 any", "first-for 1 odd v4", "first-for x any v4",
+                 "allocate-for 1 any v5", "first-for 1 reserved v4", f"first-for {2**32} any v4"):
+        row(*words(None, b"", True, "sha1", what))("bad line")
 
 
 def requests():
@@ -103,3 +138,4 @@ def requests():
         row(*words(None, b"", True, algorithm, what))("bad line")
     row("request", "00", "-", "true", 1, "sha1", "first")("bad line")
     row("request", "-", "-", "yes", 1, "sha1", "first")("bad line")
+    allocates()

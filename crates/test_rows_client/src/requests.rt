@@ -11,6 +11,7 @@ use stun_types_wire::algorithm::IntegrityAlgorithm;
 use stun_types_wire::transaction::TransactionId;
 use turn_client_proto_api::config::TurnConfig;
 use turn_client_proto_api::families::RequestedFamilies;
+use turn_client_proto_api::options::{AllocateOptions, RelayedPort};
 use turn_client_proto_messages::request::TurnRequest;
 use turn_client_proto_messages::signer::Signer;
 use turn_types_attributes::credentials::TurnCredentials;
@@ -23,8 +24,9 @@ use turn_types_attributes::credentials::TurnCredentials;
 /// - FINGERPRINT: whether the request ends with it.
 /// - NUMBER: the transaction ID.
 /// - ALGORITHM: what the client supports.
-/// - WHAT: `first` and `allocate` over UDP for one IPv4 address, `refresh` and a lifetime in
-///   seconds, or `permission` and an IP address.
+/// - WHAT: `first` and `allocate` over UDP for one IPv4 address, `first-for` and `allocate-for` with
+///   LIFETIME PORT FAMILIES, `refresh` and a lifetime in seconds, or `permission` and an IP address.
+///   FAMILIES: `v4`, `v6` or `both`.
 pub(crate) fn request(line: &mut Line<'_>) {
     let (challenge, software) = (line.bytes(), line.bytes());
     let fingerprint = line.value(false);
@@ -102,8 +104,16 @@ fn validate(line: &mut Line<'_>, signer: &mut Signer, bytes: &[u8]) {
 fn what(line: &mut Line<'_>) -> TurnRequest {
     let families = RequestedFamilies::only(AddressFamily::IPV4);
     match line.word() {
-        "first" => TurnRequest::FirstAllocate(TransportType::Udp, families),
-        "allocate" => TurnRequest::Allocate(TransportType::Udp, families),
+        "first" => TurnRequest::FirstAllocate(TransportType::Udp, families, AllocateOptions::new()),
+        "allocate" => TurnRequest::Allocate(TransportType::Udp, families, AllocateOptions::new()),
+        "first-for" => {
+            let (options, families) = (options(line), families_of(line));
+            TurnRequest::FirstAllocate(TransportType::Udp, families, options)
+        }
+        "allocate-for" => {
+            let (options, families) = (options(line), families_of(line));
+            TurnRequest::Allocate(TransportType::Udp, families, options)
+        }
         "refresh" => TurnRequest::Refresh(line.value(0u32)),
         "permission" => TurnRequest::CreatePermission(line.value(IpAddr::V4(
             Ipv4Addr::UNSPECIFIED,
@@ -111,6 +121,40 @@ fn what(line: &mut Line<'_>) -> TurnRequest {
         _ => {
             line.is_bad = true;
             TurnRequest::Refresh(0)
+        }
+    }
+}
+
+/// Parses LIFETIME PORT as what an ALLOCATE asks for besides.
+fn options(line: &mut Line<'_>) -> AllocateOptions {
+    let lifetime = line.value(0u32);
+    let port = port(line);
+    AllocateOptions { lifetime, port }
+}
+
+/// Parses `any`, `even`, `pair`, or `reserved` and the number of a token.
+pub(crate) fn port(line: &mut Line<'_>) -> RelayedPort {
+    match line.word() {
+        "any" => RelayedPort::Any,
+        "even" => RelayedPort::Even,
+        "pair" => RelayedPort::EvenAndNextReserved,
+        "reserved" => RelayedPort::Reserved(line.value(0u64)),
+        _ => {
+            line.is_bad = true;
+            RelayedPort::Any
+        }
+    }
+}
+
+/// Parses `v4`, `v6` or `both`.
+fn families_of(line: &mut Line<'_>) -> RequestedFamilies {
+    match line.word() {
+        "v4" => RequestedFamilies::only(AddressFamily::IPV4),
+        "v6" => RequestedFamilies::only(AddressFamily::IPV6),
+        "both" => RequestedFamilies::only(AddressFamily::IPV4).with(AddressFamily::IPV6),
+        _ => {
+            line.is_bad = true;
+            RequestedFamilies::only(AddressFamily::IPV4)
         }
     }
 }

@@ -1,12 +1,15 @@
 //! Settings: the changes to them, and which settings are equal. Also how credentials are printed.
 
 use crate::line::Line;
+use crate::requests::port;
+use std::time::Duration;
 use stun_proto_auth::feature::Feature;
 use stun_types_base::family::AddressFamily;
 use stun_types_base::transport::TransportType;
 use stun_types_integrity::credentials::{LongTermCredentials, ShortTermCredentials};
 use stun_types_wire::algorithm::IntegrityAlgorithm;
 use turn_client_proto_api::config::TurnConfig;
+use turn_client_proto_api::options::AllocateOptions;
 use turn_types_attributes::credentials::TurnCredentials;
 
 /// `settings NAME PASSWORD CHANGE..`: makes the settings of an account, applies the changes in
@@ -56,8 +59,18 @@ fn change(line: &mut Line<'_>, config: &mut TurnConfig) {
         "unlimited" => config.set_max_connection_attempts(None),
         "short" => config.set_short_lifetimes(true),
         "long" => config.set_short_lifetimes(false),
+        "lifetime" => ask_lifetime(line, config),
+        "port" => config.set_relayed_port(port(line)),
+        "pace" => config.set_pace(line.duration()),
         "waits" => wait(line, config),
         word => sign(line, config, word),
+    }
+}
+
+/// Sets the lifetime that is asked for, or prints why that can't be.
+fn ask_lifetime(line: &mut Line<'_>, config: &mut TurnConfig) {
+    if let Err(error) = config.set_requested_lifetime(line.value(0u32)) {
+        line.say(&error);
     }
 }
 
@@ -85,8 +98,9 @@ fn sign(line: &mut Line<'_>, config: &mut TurnConfig, word: &str) {
     }
 }
 
-/// Prints settings, `hardened` if they are, `short` if a REFRESH may shorten an allocation, and
-/// `attempts` with the limit if they have one.
+/// Prints settings, `hardened` if they are, `short` if a REFRESH may shorten an allocation,
+/// `attempts` with the limit if they have one, and what differs of what an ALLOCATE asks for and of
+/// the pace.
 fn show(line: &mut Line<'_>, config: &TurnConfig) {
     line.say_text(config.credentials().username());
     line.say_text(config.credentials().password());
@@ -108,6 +122,23 @@ fn show(line: &mut Line<'_>, config: &TurnConfig) {
     if let Some(limit) = config.max_connection_attempts() {
         line.say(&"attempts");
         line.say(&limit);
+    }
+    show_options(line, config);
+}
+
+/// Prints `lifetime`, `port` and `pace` (in nanoseconds), each if it isn't that of new settings.
+fn show_options(line: &mut Line<'_>, config: &TurnConfig) {
+    let (options, usual) = (config.allocate_options(), AllocateOptions::new());
+    if options.lifetime != usual.lifetime {
+        line.say(&"lifetime");
+        line.say(&options.lifetime);
+    }
+    if options.port != usual.port {
+        let _ = write!(line.answer, " port {:?}", options.port);
+    }
+    if config.pace() != Duration::from_millis(50) {
+        line.say(&"pace");
+        line.say(&config.pace().as_nanos());
     }
 }
 
