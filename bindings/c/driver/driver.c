@@ -164,7 +164,8 @@ static void fail_of_line(const struct line *line, turn_driver_failure *failure)
                            : line->state == LINE_SHAKES_HANDS ? TURN_DRIVER_NO_TLS
                                                               : TURN_DRIVER_NO_SERVER;
     const int32_t error = is_late ? ETIMEDOUT : line->error;
-    fail_with(failure, status, "no %s to %s: %s", status == TURN_DRIVER_NO_TLS ? "TLS" : "connection",
+    fail_with(failure, status, "no %s to %s: %s",
+              status == TURN_DRIVER_NO_TLS ? "TLS" : "connection",
               turn_address_text(&line->server, server),
               error != 0 ? strerror(error) : line->why);
     failure->system = error;
@@ -316,7 +317,8 @@ turn_driver *turn_driver_open(const char *server, const char *user, const char *
     }
     const bool is_taken = check_client(driver, &opening, failure);
     const bool is_found = is_taken && look_up(driver, &opening, failure);
-    opening.until = deadline_of(options->open_ms == 0 ? TURN_DRIVER_OPEN_MS : (int)options->open_ms);
+    const uint32_t open_ms = options->open_ms == 0 ? TURN_DRIVER_OPEN_MS : options->open_ms;
+    opening.until = deadline_of((int)open_ms);
     if (is_found && reach(driver, &opening, failure)) {
         memset(failure, 0, sizeof *failure);
         driver->options.software = NULL; /* the caller's text is not needed any more */

@@ -75,8 +75,7 @@ static const char *text_of(uint32_t kind)
         [TURN_REJECTED] = "rejected",
         [TURN_UNANSWERED] = "no response came in time",
         [TURN_INTEGRITY] = "the response was not signed, or not by the password",
-        [TURN_NO_ALGORITHM] = "the server has no algorithm that the client supports, or cannot hide "
-                              "the name",
+        [TURN_NO_ALGORITHM] = "the server has no algorithm in common, or cannot hide the name",
         [TURN_OTHER_FAMILY] = "the server gave addresses of other families only",
         [TURN_CAUSE_MEMORY] = "the memory for the cause ran out",
         [TURN_DELETED] = "the driver is closing",

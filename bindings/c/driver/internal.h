@@ -80,7 +80,7 @@ struct line {
     void *session;
     turn_address own, server;
     short wants;                         /* the event that the TLS session waits for */
-    int32_t error;                       /* an errno, if it failed or the system reported something */
+    int32_t error;                       /* an errno, if it failed or the system reported one */
     int32_t status;                      /* of the failure: NO_SERVER or NO_TLS */
     char why[256];                       /* what the TLS library says */
     struct buffer unsent;                /* of a stream: what waits */
@@ -132,7 +132,7 @@ struct turn_driver {
     uint64_t dropped;
     turn_driver_failure last, fatal;     /* of the last call; why it is over */
     turn_driver_failure lost;            /* why the last allocation failed or ended */
-    char domain[TURN_URI_HOST_MAX + 1];  /* of the server that a response 300 named; empty if none */
+    char domain[TURN_URI_HOST_MAX + 1];  /* of the server that a response 300 named, or empty */
     turn_driver_failure notices[TURN_DRIVER_NOTICES_MAX];
     size_t notice_first, notice_count;
     turn_address awaited;                /* whose permission a call waits for; family 0 if none */
@@ -140,7 +140,7 @@ struct turn_driver {
     turn_address peer;                   /* of the connection; family 0 if none was requested */
     uint32_t data_id;                    /* by which the client knows its socket */
     uint64_t data_until;                 /* when its socket is to be open */
-    bool is_requested, is_reported;      /* the connection of the client; its socket to the client */
+    bool is_requested, is_reported;      /* the connection; its socket */
     bool is_connected, has_ended;        /* bytes go both ways; they did */
     bool has_refusal;
     turn_driver_failure refusal;         /* why what a call waits for failed */

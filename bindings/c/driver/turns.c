@@ -260,10 +260,11 @@ size_t turn_driver_pollfds(const turn_driver *driver, struct pollfd *out, size_t
 {
     struct pollfd fds[TURN_DRIVER_FDS_MAX];
     size_t count = 0;
-    const short data = line_events(&driver->data)
-                       & (short)(driver->is_reported && !has_room_for_stream(driver) ? ~POLLIN : ~0);
+    short data = line_events(&driver->data);
     if (driver->is_over)
         return 0;
+    if (driver->is_reported && !has_room_for_stream(driver))
+        data = (short)(data & ~POLLIN);
     fds[count++] = (struct pollfd){.fd = driver->line.fd, .events = line_events(&driver->line)};
     if (data != 0)
         fds[count++] = (struct pollfd){.fd = driver->data.fd, .events = data};

@@ -11,8 +11,8 @@
  *     turn_driver_openssl_free(tls);
  *
  * The server's certificate has to be issued by a trusted authority, and for the host of the URI, a
- * name or an IP address. Otherwise the handshake fails. TLS 1.2 and 1.3 are offered. The driver uses
- * TLS for the control connection, and for the data connection of RFC 6062.
+ * name or an IP address. Otherwise the handshake fails. TLS 1.2 and 1.3 are offered. The control
+ * connection and the data connection of RFC 6062 are over TLS.
  *
  * One turn_driver_tls may serve drivers in several threads at once.
  *
