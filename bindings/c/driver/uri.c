@@ -184,8 +184,8 @@ const char *turn_uri_status_text(int32_t status)
         "the port is no number of 1 to 65535",
         "what follows the host is not ?transport= with a value",
         "the transport is neither udp nor tcp"};
-    const int32_t index = -status;
-    if (status > 0 || index >= (int32_t)(sizeof texts / sizeof *texts))
+    const int32_t least = TURN_URI_UNSUPPORTED_TRANSPORT;
+    if (status > TURN_URI_OK || status < least)
         return "it is no status of turn_uri_parse";
-    return texts[index];
+    return texts[-status];
 }
