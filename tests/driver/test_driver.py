@@ -2,10 +2,11 @@
 
     python3 -m unittest discover tests/driver
 
-The driver is built of its sources, under sanitizers, and its courses are in cases.c; uris.c has rows of URIs. The
-server is bindings/python/fake_server.py. The library is that of dist/; TURN_CLIENT_LIB names another folder. It wants
-cc (CC names another compiler); TLS is tried where `openssl` makes a certificate and OpenSSL's headers are there.
-tests/live tries the driver against coturn.
+The driver is built of its sources, under sanitizers, and its courses are in cases.c; uris.c has
+rows of URIs. The server is bindings/python/fake_server.py. The library is that of dist/;
+TURN_CLIENT_LIB names another folder. It wants cc (CC names another compiler); TLS is tried where
+`openssl` makes a certificate and OpenSSL's headers are there. tests/live tries the driver against
+coturn.
 """
 
 import asyncio
@@ -22,8 +23,9 @@ from pathlib import Path
 
 TOP = Path(__file__).resolve().parents[2]
 sys.dont_write_bytecode = True
-sys.path.insert(0, str(TOP / "bindings" / "python"))
+sys.path[:0] = [str(TOP / "bindings" / "python"), str(TOP / "tools")]
 
+import released  # noqa: E402
 from fake_server import FakeServer, base  # noqa: E402
 
 BINDING = TOP / "bindings" / "c"
@@ -32,8 +34,9 @@ CC = os.environ.get("CC", "cc")
 STRICT = ("-std=c11", "-Wall", "-Wextra", "-Wpedantic", "-Werror")
 SANITIZERS = ("-g", "-O1", "-fsanitize=address,undefined", "-fno-sanitize-recover=all")
 PATIENCE = 90  # seconds that a course may take
-HAS_OPENSSL = not subprocess.run([CC, "-x", "c", "-fsyntax-only", "-"], input="#include <openssl/ssl.h>\n", text=True,
-                                 capture_output=True, check=False).returncode
+HAS_OPENSSL = not subprocess.run(
+    [CC, "-x", "c", "-fsyntax-only", "-"], input="#include <openssl/ssl.h>\n", text=True,
+    capture_output=True, check=False).returncode
 ROOM = tempfile.TemporaryDirectory(prefix="driver-")
 PEER = "198.51.100.1:9000"
 logging.getLogger("asyncio").setLevel(logging.CRITICAL)  # not that a handshake failed
@@ -47,10 +50,12 @@ def archive():
 
 def build(name, *options):
     """Builds a program of this folder with the driver's sources."""
-    sources = [it for it in sorted((BINDING / "driver").glob("*.c")) if HAS_OPENSSL or it.stem != "openssl"]
+    sources = [it for it in sorted((BINDING / "driver").glob("*.c"))
+               if HAS_OPENSSL or it.stem != "openssl"]
     more = ("-DWITH_OPENSSL", "-lssl", "-lcrypto") if HAS_OPENSSL else ()
     made = Path(ROOM.name, name)
-    words = [CC, *STRICT, *SANITIZERS, *options, f"-I{BINDING}/include", Path(__file__).with_name(f"{name}.c"), *sources,
+    program = Path(__file__).with_name(f"{name}.c")
+    words = [CC, *STRICT, *SANITIZERS, *options, f"-I{BINDING}/include", program, *sources,
              archive(), *more, "-o", made]
     subprocess.run([str(it) for it in words], check=True)
     return made
@@ -132,8 +137,10 @@ class Opening(Course):
 class Datagrams(Course):
     async def back_and_forth(self, is_stream):
         await self.course("datagrams", is_stream)
-        self.assertEqual(self.server.payloads, [(PEER, b"one", False), (PEER, b"other", True), (PEER, b"", True)])
-        self.assertEqual([self.server.count(it) for it in (base.CREATE_PERMISSION, base.CHANNEL_BIND)], [1, 1])
+        self.assertEqual(self.server.payloads, [
+            (PEER, b"one", False), (PEER, b"other", True), (PEER, b"", True)])
+        self.assertEqual(self.server.count(base.CREATE_PERMISSION), 1)
+        self.assertEqual(self.server.count(base.CHANNEL_BIND), 1)
         self.assertEqual(self.server.lifetimes, [0])  # the address is given back
 
     async def test_over_udp(self):
@@ -233,15 +240,17 @@ class Connections(Course):
         await self.course("rejected_connection", is_stream=True)
 
 
-@unittest.skipUnless(HAS_OPENSSL and shutil.which("openssl"), "OpenSSL's headers or its program aren't installed")
+@unittest.skipUnless(HAS_OPENSSL and shutil.which("openssl"),
+                     "OpenSSL's headers or its program aren't installed")
 class Tls(Course):
     async def tls_course(self, name, host="127.0.0.1"):
         room = tempfile.TemporaryDirectory(prefix="driver-tls-")
         self.addCleanup(room.cleanup)
         certificate, key = Path(room.name, "certificate.pem"), Path(room.name, "key.pem")
         subprocess.run(
-            ["openssl", "req", "-x509", "-newkey", "ec", "-pkeyopt", "ec_paramgen_curve:P-256", "-nodes", "-days", "2",
-             "-subj", "/CN=test", "-addext", "subjectAltName=IP:127.0.0.1", "-keyout", key, "-out", certificate],
+            ["openssl", "req", "-x509", "-newkey", "ec", "-pkeyopt", "ec_paramgen_curve:P-256",
+             "-nodes", "-days", "2", "-subj", "/CN=test", "-addext", "subjectAltName=IP:127.0.0.1",
+             "-keyout", key, "-out", certificate],
             check=True, capture_output=True)
         context = ssl.SSLContext(ssl.PROTOCOL_TLS_SERVER)
         context.load_cert_chain(certificate, key)
@@ -278,6 +287,11 @@ class Sources(unittest.TestCase):
         listed = re.findall(r"^ *archive turn_driver(?:_openssl)? (.*)$", script, re.M)
         self.assertEqual(sorted(" ".join(listed).split()),
                          sorted(it.stem for it in (BINDING / "driver").glob("*.c")))
+
+    def test_a_release_counts_each_file(self):
+        counted = [it for it in released.COPIES["libturn_driver.a"] if "/driver/" in it]
+        there = [str(it.relative_to(TOP)) for it in (BINDING / "driver").iterdir()]
+        self.assertEqual(sorted(counted), sorted(it for it in there if "openssl" not in it))
 
 
 if __name__ == "__main__":

@@ -2,8 +2,9 @@
 
     python3 -m unittest discover tests/driver
 
-It installs into a temporary folder. Programs are built by gcc and clang, by pkg-config and CMake, over the shared
-library and the archive, with all warnings as errors, and run. What isn't installed on this machine is skipped.
+It installs into a temporary folder. Programs are built by gcc and clang, by pkg-config and CMake,
+over the shared library and the archive, with all warnings as errors, and run. What isn't installed
+on this machine is skipped.
 """
 
 import os
@@ -21,7 +22,7 @@ from test_driver import BINDING, HAS_OPENSSL, LIBRARY, STRICT, TOP  # noqa: E402
 
 VERSION = (TOP / "VERSION").read_text().strip()
 COMPILERS = [it for it in ("gcc", "clang") if shutil.which(it)]
-# the clone's own program, which is told of no server and so says what it was opened with
+# it wants a server where there is none, and prints why it has no driver
 PROGRAM = r"""
 #include <stdio.h>
 #include <turn_driver.h>
@@ -30,7 +31,7 @@ int main(void)
     turn_driver_failure failure;
     if (turn_client_version() != TURN_CLIENT_VERSION_NUMBER)
         return 2;
-    if (turn_driver_open("turn:127.0.0.1:9?transport=tcp", "alice", "secret", NULL, &failure) != NULL)
+    if (turn_driver_open("turn:127.0.0.1:9?transport=tcp", "a", "b", NULL, &failure) != NULL)
         return 3;
     puts(failure.text);
     return 0;
@@ -51,8 +52,8 @@ PATIENCE = 120
 
 def run(*words, **more):
     env = {**os.environ, **more.pop("env", {})}
-    ran = subprocess.run([str(it) for it in words], capture_output=True, text=True, check=False, env=env,
-                         timeout=PATIENCE, **more)
+    ran = subprocess.run([str(it) for it in words], capture_output=True, text=True, check=False,
+                         env=env, timeout=PATIENCE, **more)
     if ran.returncode:
         raise AssertionError(f"{words}: status {ran.returncode}\n{ran.stdout}{ran.stderr}")
     return ran.stdout
@@ -61,31 +62,25 @@ def run(*words, **more):
 def refusal(*words, **more):
     """What a command says that is to fail."""
     env = {**os.environ, **more.pop("env", {})}
-    ran = subprocess.run([str(it) for it in words], capture_output=True, text=True, check=False, env=env)
+    ran = subprocess.run([str(it) for it in words], capture_output=True, text=True, check=False,
+                         env=env)
     if not ran.returncode:
         raise AssertionError(f"{words} is not refused")
     return ran.stderr
+
+
+def declared(header):
+    """The names of the functions that a header declares."""
+    text = (BINDING / "include" / header).read_text()
+    return sorted(re.findall(r"^\w[\w ]*?[ *](turn_\w+)\(", text, re.M))
 
 
 def files(folder):
     return sorted(str(it.relative_to(folder)) for it in Path(folder).rglob("*") if not it.is_dir())
 
 
-@unittest.skipUnless((LIBRARY / "libturn_driver.a").is_file(), "the library is not the released one")
-class Installed(unittest.TestCase):
-    """What is installed from dist/ without a compiler."""
-
-    @classmethod
-    def setUpClass(cls):
-        room = tempfile.TemporaryDirectory(prefix="install-")
-        cls.addClassCleanup(room.cleanup)
-        cls.room = Path(room.name)
-        cls.prefix = cls.room / "prefix"
-        # a PATH without a compiler
-        (tools := cls.room / "bin").mkdir()
-        for name in ("sh", "cat", "sed", "mktemp", "rm", "mkdir", "cp", "chmod", "ln", "dirname"):
-            (tools / name).symlink_to(shutil.which(name))
-        run(BINDING / "install", "--prefix", cls.prefix, env={"PATH": str(tools)})
+class Installation:
+    """What holds of each installation. `room` and `prefix` are set by the class that has it."""
 
     def flags(self, *more, prefix=None):
         env = {"PKG_CONFIG_PATH": f"{prefix or self.prefix}/lib/pkgconfig"}
@@ -97,28 +92,16 @@ class Installed(unittest.TestCase):
         run(compiler, *STRICT, "-O2", source, *flags, "-o", made)
         return made
 
-    def test_the_files(self):
-        self.assertEqual(files(self.prefix), sorted([
-            "include/turn_client.h", "include/turn_driver.h", "lib/cmake/turn_client/turn_client-config-version.cmake",
-            "lib/cmake/turn_client/turn_client-config.cmake", "lib/libturn_client.a", "lib/libturn_client.so",
-            f"lib/libturn_client.so.{VERSION.split('.')[0]}", f"lib/libturn_client.so.{VERSION}",
-            "lib/libturn_driver.a", "lib/pkgconfig/turn_client.pc", "lib/pkgconfig/turn_driver.pc",
-            "share/doc/turn_client/LICENSE-APACHE", "share/doc/turn_client/LICENSE-MIT",
-            "share/man/man3/turn_client.3", "share/man/man3/turn_driver.3"]))
-
     def test_the_shared_library(self):
         library = self.prefix / "lib" / "libturn_client.so"
         self.assertIn(f"[libturn_client.so.{VERSION.split('.')[0]}]", run("readelf", "-d", library))
         names = run("nm", "-D", "--defined-only", library).split()[2::3]
-        declared = re.findall(r"^\w[\w ]*?\**(turn_client_\w+)\(", (BINDING / "include/turn_client.h").read_text(), re.M)
-        self.assertEqual(sorted(names), sorted(declared))
+        self.assertEqual(sorted(names), declared("turn_client.h"))
 
     def test_the_archive_of_the_driver_has_its_names_only(self):
-        for archive, header in (("libturn_driver.a", "turn_driver.h"),):
-            names = run("nm", "-g", "--defined-only", self.prefix / "lib" / archive).split()
-            text = (BINDING / "include" / header).read_text()
-            declared = re.findall(r"^\w[\w ]*?[ *](turn_\w+)\(", text, re.M)
-            self.assertEqual(sorted(it for it in names if it.startswith("turn_") and "." not in it), sorted(declared))
+        names = run("nm", "-g", "--defined-only", self.prefix / "lib" / "libturn_driver.a").split()
+        self.assertEqual(sorted(it for it in names if re.fullmatch(r"turn_\w+", it)),
+                         declared("turn_driver.h"))
 
     @unittest.skipUnless(shutil.which("pkg-config"), "pkg-config isn't installed")
     def test_by_pkg_config(self):
@@ -135,7 +118,7 @@ class Installed(unittest.TestCase):
                 self.assertNotIn("libturn_client", run("readelf", "-d", made))
                 self.assertEqual(run(made), PRINTED)
 
-    @unittest.skipUnless(shutil.which("cmake") and shutil.which("make"), "CMake or make isn't installed")
+    @unittest.skipUnless(shutil.which("cmake") and shutil.which("make"), "no CMake or no make")
     def test_by_cmake(self):
         for is_static in ("ON", "OFF"):
             with self.subTest(static=is_static), tempfile.TemporaryDirectory() as room:
@@ -143,22 +126,14 @@ class Installed(unittest.TestCase):
 
     def by_cmake(self, room, prefix, is_static, target="turn_client::turn_driver", components=""):
         Path(room, "main.c").write_text(PROGRAM)
-        text = CMAKE.format(is_static=is_static, version="0.1", target=target, components=components)
+        text = CMAKE.format(is_static=is_static, version="0.1", target=target,
+                            components=components)
         Path(room, "CMakeLists.txt").write_text(text)
         run("cmake", "-S", room, "-B", f"{room}/b", f"-DCMAKE_PREFIX_PATH={prefix}")
         run("cmake", "--build", f"{room}/b")
         self.assertEqual(run(f"{room}/b/mine"), PRINTED)
         is_linked = "libturn_client.so.0" in run("readelf", "-d", f"{room}/b/mine")
         self.assertEqual(is_linked, is_static == "OFF")
-
-    @unittest.skipUnless(shutil.which("cmake"), "CMake isn't installed")
-    def test_cmake_refuses_what_is_not_there(self):
-        for version, components in (("0.2", ""), ("1.0", ""), ("0.1", "COMPONENTS openssl")):
-            with self.subTest(version=version, components=components), tempfile.TemporaryDirectory() as room:
-                text = CMAKE.format(is_static="ON", version=version, target="x", components=components)
-                Path(room, "CMakeLists.txt").write_text(text)
-                said = refusal("cmake", "-S", room, "-B", f"{room}/b", f"-DCMAKE_PREFIX_PATH={self.prefix}")
-                self.assertIn("turn_client", said)
 
     def test_the_headers_in_c_and_cpp(self):
         for header in HEADERS:
@@ -168,12 +143,51 @@ class Installed(unittest.TestCase):
             for compiler in filter(shutil.which, ("g++", "clang++")):
                 run(compiler, "-std=c++11", *STRICT[1:], "-fsyntax-only", "-x", "c++", path)
 
+
+@unittest.skipUnless((LIBRARY / "libturn_driver.a").is_file(), "it isn't the released library")
+class Copied(Installation, unittest.TestCase):
+    """What is installed from dist/ without a compiler."""
+
+    @classmethod
+    def setUpClass(cls):
+        room = tempfile.TemporaryDirectory(prefix="install-")
+        cls.addClassCleanup(room.cleanup)
+        cls.room = Path(room.name)
+        cls.prefix = cls.room / "prefix"
+        # a PATH without a compiler
+        (tools := cls.room / "bin").mkdir()
+        for name in ("sh", "cat", "sed", "mktemp", "rm", "mkdir", "cp", "chmod", "ln", "dirname"):
+            (tools / name).symlink_to(shutil.which(name))
+        run(BINDING / "install", "--prefix", cls.prefix, env={"PATH": str(tools)})
+
+    def test_the_files(self):
+        self.assertEqual(files(self.prefix), sorted([
+            "include/turn_client.h", "include/turn_driver.h",
+            "lib/cmake/turn_client/turn_client-config-version.cmake",
+            "lib/cmake/turn_client/turn_client-config.cmake",
+            "lib/libturn_client.a", "lib/libturn_client.so",
+            f"lib/libturn_client.so.{VERSION.split('.')[0]}", f"lib/libturn_client.so.{VERSION}",
+            "lib/libturn_driver.a", "lib/pkgconfig/turn_client.pc", "lib/pkgconfig/turn_driver.pc",
+            "share/doc/turn_client/LICENSE-APACHE", "share/doc/turn_client/LICENSE-MIT",
+            "share/man/man3/turn_client.3", "share/man/man3/turn_driver.3"]))
+
+    @unittest.skipUnless(shutil.which("cmake"), "CMake isn't installed")
+    def test_cmake_refuses_what_is_not_there(self):
+        for wanted in (("0.2", ""), ("1.0", ""), ("0.1", "COMPONENTS openssl")):
+            with self.subTest(wanted=wanted), tempfile.TemporaryDirectory() as room:
+                text = CMAKE.format(is_static="ON", version=wanted[0], target="x",
+                                    components=wanted[1])
+                Path(room, "CMakeLists.txt").write_text(text)
+                where = f"-DCMAKE_PREFIX_PATH={self.prefix}"
+                said = refusal("cmake", "-S", room, "-B", f"{room}/b", where)
+                self.assertIn("turn_client", said)
+
     def test_destdir_and_uninstall(self):
         with tempfile.TemporaryDirectory() as room:
             env = {"DESTDIR": room}
             run(BINDING / "install", "--prefix=/opt/turn", "--libdir=lib64", env=env)
             written = (Path(room) / "opt/turn/lib64/pkgconfig/turn_client.pc").read_text()
-            self.assertTrue(written.startswith("prefix=/opt/turn\nlibdir=${prefix}/lib64\n"), written)
+            self.assertIn("prefix=/opt/turn\nlibdir=${prefix}/lib64\n", written)
             self.assertIn("/opt/turn/lib64/libturn_client.so.0", {f"/{it}" for it in files(room)})
             run(BINDING / "install", "--prefix=/opt/turn", "--libdir=lib64", "--uninstall", env=env)
             self.assertEqual(files(room), [])
@@ -182,20 +196,23 @@ class Installed(unittest.TestCase):
         if not shutil.which("cmake"):
             self.skipTest("CMake isn't installed")
         with tempfile.TemporaryDirectory() as room:
-            run(BINDING / "install", "--prefix=/nowhere", "--libdir=lib/x86_64-linux-gnu", env={"DESTDIR": room})
+            options = "--prefix=/nowhere", "--libdir=lib/x86_64-linux-gnu"
+            run(BINDING / "install", *options, env={"DESTDIR": room})
             moved = shutil.move(f"{room}/nowhere", f"{room}/moved")
             self.by_cmake(tempfile.mkdtemp(dir=room), moved, "ON")
 
     def test_what_is_refused(self):
-        for option in ("--nothing", "--prefix=here", "--libdir=/lib", "--libdir=../lib", "--prefix"):
+        options = "--nothing", "--prefix=here", "--libdir=/lib", "--libdir=../lib", "--prefix"
+        for option in options:
             with self.subTest(option=option):
-                self.assertIn("install: ", refusal(BINDING / "install", option, env={"DESTDIR": "/nowhere"}))
+                said = refusal(BINDING / "install", option, env={"DESTDIR": "/nowhere"})
+                self.assertIn("install: ", said)
 
 
 @unittest.skipUnless((LIBRARY / "libturn_client.a").is_file() and shutil.which("objcopy"),
                      "no proved library, or no binutils")
-class FromSource(Installed):
-    """The same where a compiler makes what is not the archive."""
+class FromSource(Installation, unittest.TestCase):
+    """What is installed with a compiler: all but the archive is made by it."""
 
     @classmethod
     def setUpClass(cls):
@@ -218,21 +235,19 @@ class FromSource(Installed):
         self.assertEqual(run(made, env={"LD_LIBRARY_PATH": str(self.prefix / "lib")}), PRINTED)
         if shutil.which("cmake"):
             with tempfile.TemporaryDirectory() as room:
-                self.by_cmake(room, self.prefix, "ON", "turn_client::turn_driver_openssl", "COMPONENTS openssl")
-
-    @unittest.skip("of what is there it refuses nothing")
-    def test_cmake_refuses_what_is_not_there(self):
-        pass
+                self.by_cmake(room, self.prefix, "ON", "turn_client::turn_driver_openssl",
+                              "COMPONENTS openssl")
 
     def test_tools_that_are_not_gnus_are_named(self):
         with tempfile.TemporaryDirectory() as room:
             Path(room, "ld").write_text("#!/bin/sh\necho 'Apple ld'\n")
             Path(room, "ld").chmod(0o755)
-            said = refusal(BINDING / "build_driver", f"{room}/out", env={"PATH": f"{room}:{os.environ['PATH']}"})
+            path = f"{room}:{os.environ['PATH']}"
+            said = refusal(BINDING / "build_driver", f"{room}/out", env={"PATH": path})
             self.assertIn("NOT-GNU-BINUTILS", said)
             self.assertIn(f"{room}/ld", said)
 
-    @unittest.skipUnless(shutil.which("musl-gcc"), "musl-gcc isn't installed: apt-get install musl-tools")
+    @unittest.skipUnless(shutil.which("musl-gcc"), "no musl-gcc: apt-get install musl-tools")
     def test_musl(self):
         with tempfile.TemporaryDirectory() as prefix:
             run(BINDING / "install", "--prefix", prefix, "--source", env={"CC": "musl-gcc"})
@@ -242,7 +257,7 @@ class FromSource(Installed):
             made = self.build("musl-gcc", "-static", *self.flags("turn_driver", prefix=prefix))
             self.assertEqual(run(made), PRINTED)
 
-    @unittest.skipUnless(shutil.which("musl-gcc"), "musl-gcc isn't installed: apt-get install musl-tools")
+    @unittest.skipUnless(shutil.which("musl-gcc"), "no musl-gcc: apt-get install musl-tools")
     def test_the_released_archives_serve_musl(self):
         archives = [LIBRARY / f"lib{it}.a" for it in ("turn_driver", "turn_client")]
         if all(it.is_file() for it in archives):
@@ -254,16 +269,17 @@ class Pages(unittest.TestCase):
     @unittest.skipUnless(shutil.which("mandoc"), "mandoc isn't installed")
     def test_man_pages(self):
         for page in sorted((BINDING / "man").iterdir()):
-            said = subprocess.run(["mandoc", "-T", "lint", page], capture_output=True, text=True, check=False).stdout
-            wrong = [it for it in said.splitlines() if "referenced manual not found" not in it]
+            ran = subprocess.run(["mandoc", "-T", "lint", page], capture_output=True, text=True,
+                                 check=False)
+            wrong = [it for it in ran.stdout.splitlines()
+                     if "referenced manual not found" not in it]
             self.assertEqual(wrong, [], page)
 
     def test_man_pages_name_each_call(self):
         for name in ("turn_driver", "turn_driver_openssl"):
-            text = (BINDING / "include" / f"{name}.h").read_text()
-            declared = re.findall(r"^\w[\w ]*?[ *](turn_\w+)\(", text, re.M)
             page = (BINDING / "man" / "turn_driver.3").read_text()
-            self.assertEqual([it for it in declared if not re.search(rf"\.F[no] {it}\b", page)], [])
+            self.assertEqual([it for it in declared(f"{name}.h")
+                              if not re.search(rf"\.F[no] {it}\b", page)], [])
 
     @unittest.skipUnless(shutil.which("shellcheck"), "shellcheck isn't installed")
     def test_scripts(self):
@@ -272,7 +288,8 @@ class Pages(unittest.TestCase):
     def test_the_options_of_turn_client_are_in_its_page(self):
         listed = set(re.findall(r'"  (--[a-z-]+)', (BINDING / "options.c").read_text()))
         page = (BINDING / "man" / "turn-client.1").read_text()
-        self.assertEqual(listed, {f"--{it}" for it in re.findall(r"^\.It Fl Fl ([a-z-]+)", page, re.M)})
+        in_page = re.findall(r"^\.It Fl Fl ([a-z-]+)", page, re.M)
+        self.assertEqual(listed, {f"--{it}" for it in in_page})
 
 
 if __name__ == "__main__":
