@@ -149,6 +149,11 @@ class Datagrams(Course):
     async def test_over_tcp(self):
         await self.back_and_forth(is_stream=True)
 
+    async def test_by_a_name_of_which_one_address_listens(self):
+        for is_stream in (False, True):
+            _, port = await self.server.start(is_stream)
+            await self.run_course("permits", f"turn:localhost:{port}" + "?transport=tcp" * is_stream)
+
     async def test_over_tcp_in_chunks_of_three_bytes(self):
         self.server.chunk = 3
         await self.back_and_forth(is_stream=True)

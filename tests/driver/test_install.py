@@ -266,6 +266,22 @@ class FromSource(Installation, unittest.TestCase):
 
 
 class Pages(unittest.TestCase):
+    def test_the_readme_shows_the_program(self):
+        shown = re.search(r"^```c\n(.*?)^```$", (BINDING / "README.md").read_text(), re.M | re.S)[1]
+        self.assertIn(shown, (BINDING / "hello.c").read_text())
+
+    @unittest.skipUnless((LIBRARY / "turn_driver.pc").is_file() and shutil.which("pkg-config"),
+                         "it isn't the released library, or pkg-config isn't installed")
+    def test_programs_are_built_as_the_readme_says(self):
+        with tempfile.TemporaryDirectory() as room:
+            flags = run("pkg-config", "--cflags", "--libs", "turn_driver",
+                        env={"PKG_CONFIG_PATH": str(LIBRARY)}).split()
+            made = Path(room, "hello")
+            for compiler in COMPILERS:
+                run(compiler, *STRICT, BINDING / "hello.c", *flags, "-o", made)
+                said = refusal(made, "turn:127.0.0.1:9?transport=tcp")
+                self.assertEqual(said, PRINTED)
+
     @unittest.skipUnless(shutil.which("mandoc"), "mandoc isn't installed")
     def test_man_pages(self):
         for page in sorted((BINDING / "man").iterdir()):

@@ -18,6 +18,7 @@ struct opening {
     uint64_t until;
     turn_address hosts[HOSTS_MAX], tried[FOLLOW_MAX + 1];
     size_t host_count, tried_count;
+    bool has_others; /* whether another address is left of the server's name */
 };
 
 /* ---- what it is opened with */
@@ -194,6 +195,13 @@ static bool connect_line(turn_driver *driver, const struct opening *opening,
     return false;
 }
 
+/* Whether the system reports that nobody listens at a port of UDP, and another address of the
+ * server's name is left. For the last one the client goes on: anybody may send an ICMP report. */
+static bool is_refused(const turn_driver *driver, const struct opening *opening)
+{
+    return !driver->line.is_stream && driver->line.error == ECONNREFUSED && opening->has_others;
+}
+
 /* Waits for the address. */
 static bool await_address(turn_driver *driver, const struct opening *opening)
 {
@@ -203,6 +211,13 @@ static bool await_address(turn_driver *driver, const struct opening *opening)
         go_on(driver, false);
         if (driver->is_over || (driver->is_ready && turn_driver_relayed(driver, NULL, 0) > 0))
             return !driver->is_over;
+        if (is_refused(driver, opening)) {
+            driver->line.state = LINE_FAILED;
+            driver->line.status = TURN_DRIVER_NO_SERVER;
+            fail_of_line(&driver->line, &late);
+            ends(driver, &late);
+            return false;
+        }
         if (!wait_for_more(driver, opening->until))
             break;
     }
@@ -246,10 +261,12 @@ static bool reach(turn_driver *driver, struct opening *opening, turn_driver_fail
     bool is_open = false;
     for (size_t i = 0; i < opening->host_count && !is_open; i++) {
         opening->tried_count = 0;
+        opening->has_others = i + 1 < opening->host_count;
         is_open = try_server(driver, opening, &opening->hosts[i], failure);
         if (failure->status == TURN_DRIVER_NO_ADDRESS || clock_now() >= opening->until)
             break;
     }
+    opening->has_others = false;
     for (uint32_t left = driver->options.follow; !is_open && left > 0; left--) {
         const turn_address elsewhere = failure->cause.alternate;
         if (failure->status != TURN_DRIVER_NO_ADDRESS || !is_new(opening, &elsewhere))

@@ -79,7 +79,7 @@ struct line {
     const turn_driver_tls *tls;          /* NULL without TLS */
     void *session;
     turn_address own, server;
-    short wants;                         /* the event that the TLS session waits for */
+    short wants_to_read, wants_to_write; /* the events for which reads and writes of TLS wait */
     int32_t error;                       /* an errno, if it failed or the system reported one */
     int32_t status;                      /* of the failure: NO_SERVER or NO_TLS */
     char why[256];                       /* what the TLS library says */

@@ -46,13 +46,14 @@ static void is_connected(struct line *line)
     if (line->tls == NULL)
         return;
     line->state = LINE_SHAKES_HANDS;
-    line->wants = POLLOUT;
+    line->wants_to_write = POLLOUT;
 }
 
 void line_start(struct line *line, const turn_address *server, const turn_address *local,
                 bool is_stream, const turn_driver_tls *tls, const char *host)
 {
-    *line = (struct line){.fd = -1, .is_stream = is_stream, .tls = tls, .server = *server};
+    *line = (struct line){.fd = -1, .is_stream = is_stream, .tls = tls, .server = *server,
+                           .wants_to_read = POLLIN, .wants_to_write = POLLOUT};
     const int kind = is_stream ? SOCK_STREAM : SOCK_DGRAM;
     line->fd = socket(server->family == 4 ? AF_INET : AF_INET6,
                       kind | SOCK_NONBLOCK | SOCK_CLOEXEC, 0);
@@ -90,13 +91,19 @@ static void go_on_connecting(struct line *line)
         is_connected(line);
 }
 
+/* The event that a TLS session waits for. */
+static short event_of(int32_t status)
+{
+    return status == TURN_TLS_WANTS_READ ? POLLIN : POLLOUT;
+}
+
 static void go_on_shaking_hands(struct line *line)
 {
     const int32_t status = line->tls->handshake(line->session);
     if (status == TURN_TLS_OK)
         line->state = LINE_OPEN;
     else if (status == TURN_TLS_WANTS_READ || status == TURN_TLS_WANTS_WRITE)
-        line->wants = status == TURN_TLS_WANTS_READ ? POLLIN : POLLOUT;
+        line->wants_to_write = event_of(status);
     else
         tls_fails(line);
 }
@@ -107,7 +114,7 @@ static size_t write_some(struct line *line, const uint8_t *bytes, size_t size)
     size_t len = 0;
     if (line->tls != NULL) {
         const int32_t status = line->tls->write(line->session, bytes, size, &len);
-        line->wants = status == TURN_TLS_WANTS_READ ? POLLIN : POLLOUT;
+        line->wants_to_write = event_of(status);
         if (status == TURN_TLS_FAILED || status == TURN_TLS_END)
             tls_fails(line);
         return status == TURN_TLS_OK ? len : 0;
@@ -161,7 +168,7 @@ bool line_send(struct line *line, const uint8_t *bytes, size_t size)
     do
         sent = send(line->fd, bytes, size, MSG_NOSIGNAL);
     while (sent < 0 && errno == EINTR);
-    if (sent < 0)
+    if (sent < 0 && errno != EAGAIN)
         line->error = errno;
     return sent >= 0;
 }
@@ -178,7 +185,7 @@ static ssize_t read_tls(struct line *line, uint8_t *bytes, size_t size)
     else if (status == TURN_TLS_FAILED)
         tls_fails(line);
     else
-        line->wants = status == TURN_TLS_WANTS_READ ? POLLIN : POLLOUT;
+        line->wants_to_read = event_of(status);
     return -1;
 }
 
@@ -206,12 +213,12 @@ short line_events(const struct line *line)
     if (line->state == LINE_CONNECTS)
         return POLLOUT;
     if (line->state == LINE_SHAKES_HANDS)
-        return line->wants;
+        return line->wants_to_write;
     if (line->state != LINE_OPEN || line->has_ended)
         return 0;
-    if (buffer_size(&line->unsent) == 0)
-        return POLLIN;
-    return line->tls != NULL && line->wants == POLLIN ? POLLIN : POLLIN | POLLOUT;
+    const short writes = line->tls == NULL ? POLLOUT : line->wants_to_write;
+    const short reads = line->tls == NULL ? POLLIN : line->wants_to_read;
+    return buffer_size(&line->unsent) == 0 ? reads : (short)(reads | writes);
 }
 
 void line_shutdown(struct line *line)
