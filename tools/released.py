@@ -21,7 +21,7 @@ LIBRARY_CRATE = "turn_client_c"
 # or is compiled of
 LIBRARIES = {
     "libturn_client.a": ("bindings/c/build", "bindings/c/wiping.c"),
-    "libturn_client.so": ("bindings/c/build", "bindings/c/wiping.c", "bindings/python/build"),
+    "libturn_client.so": ("bindings/c/build", "bindings/c/wiping.c", "bindings/python/build", "VERSION"),
 }
 COPIES = {
     "turn_client.h": ("bindings/c/include/turn_client.h",),

@@ -133,7 +133,7 @@ def of_python(archive, folder):
     copy = os.path.join(folder, "python")
     shutil.copytree(source, copy, dirs_exist_ok=True, ignore=shutil.ignore_patterns(".*", "__pycache__"))
     library = os.path.join(archive, "libturn_client.a")
-    if not _build([os.path.join(copy, "build"), library], copy, os.path.join(folder, "build-python.log")):
+    if not _build([os.path.join(source, "build"), library, copy], source, os.path.join(folder, "build-python.log")):
         return [Absent(f"bindings/python/{name}", "it isn't built: see build-python.log") for name in names]
     transports = ("udp", "tcp"), ("udp", "tcp", "tls")
     return [_made(f"bindings/python/{name}", [sys.executable, os.path.join(copy, name)], by, driver="tls" in by)
