@@ -76,6 +76,96 @@ static bool came(const char *text)
            && memcmp(bytes, text, len) == 0 && is_peer(&from);
 }
 
+/* ---- memory: malloc and calloc of the driver and the client come here (-Wl,--wrap) */
+
+static long refuse_at = -1, allocations; /* which one fails; how many there were */
+
+void *__real_malloc(size_t size);
+void *__real_calloc(size_t count, size_t size);
+void *__wrap_malloc(size_t size);
+void *__wrap_calloc(size_t count, size_t size);
+
+void *__wrap_malloc(size_t size)
+{
+    return allocations++ == refuse_at ? NULL : __real_malloc(size);
+}
+
+void *__wrap_calloc(size_t count, size_t size)
+{
+    return allocations++ == refuse_at ? NULL : __real_calloc(count, size);
+}
+
+/* Whether an allocation failed since the driver was opened. */
+static bool is_any_refused(void)
+{
+    return refuse_at >= 0 && allocations > refuse_at;
+}
+
+/* Whether a call did what it does, or an allocation failed for it. */
+static bool is_ample_or_refused(int32_t status)
+{
+    return status == TURN_DRIVER_OK || (status == TURN_DRIVER_NO_MEMORY && is_any_refused());
+}
+
+/* Opens a driver, takes a course with it and closes it, with each allocation refused in turn. */
+static void refuse_each(void (*course)(void))
+{
+    for (refuse_at = 0;; refuse_at++) {
+        allocations = 0;
+        driver = turn_driver_open(uri, "alice", "secret", &options, &failure);
+        if (driver == NULL)
+            SHOULD(failure.status == TURN_DRIVER_NO_MEMORY);
+        else
+            course();
+        turn_driver_close(driver);
+        driver = NULL;
+        if (allocations <= refuse_at)
+            break;
+    }
+    SHOULD(refuse_at > 20);
+    refuse_at = -1;
+}
+
+/* A datagram goes to the peer and comes back. A send that was refused may be made again. */
+static void take_course_of_datagrams(void)
+{
+    const turn_driver_failure *last = turn_driver_last_failure(driver);
+    int32_t status = turn_driver_send_to(driver, &peer, "one", 3);
+    SHOULD(is_ample_or_refused(status));
+    if (status == TURN_DRIVER_NO_MEMORY && turn_driver_run(driver) == TURN_DRIVER_OK)
+        SHOULD(turn_driver_send_to(driver, &peer, "one", 3) == TURN_DRIVER_OK);
+    status = receive(is_any_refused() ? 300 : PATIENCE_MS); /* it may be dropped then */
+    SHOULD(is_ample_or_refused(status) || (status == TURN_DRIVER_TIMEOUT && is_any_refused()));
+    SHOULD(last->status == TURN_DRIVER_OK || last->status == TURN_DRIVER_NO_MEMORY);
+}
+
+static void refused_memory(void)
+{
+    refuse_each(take_course_of_datagrams);
+}
+
+/* Bytes go over a connection and come back. */
+static void take_course_of_connection(void)
+{
+    size_t done;
+    int32_t status = turn_driver_connect(driver, &peer, PATIENCE_MS);
+    /* a connection whose socket had no memory is refused */
+    SHOULD(is_ample_or_refused(status)
+           || (status == TURN_DRIVER_PEER_REFUSED && is_any_refused()));
+    if (status != TURN_DRIVER_OK)
+        return;
+    status = turn_driver_write(driver, "one", 3, &done, PATIENCE_MS);
+    SHOULD(is_ample_or_refused(status));
+    if (status == TURN_DRIVER_OK)
+        SHOULD(is_ample_or_refused(turn_driver_read(driver, bytes, 3, &done, PATIENCE_MS)));
+}
+
+static void refused_memory_of_connection(void)
+{
+    options.peers = TURN_TCP;
+    refuse_each(take_course_of_connection);
+}
+
 /* ---- opening */
 
 static void refused(void)
@@ -538,7 +628,8 @@ static const struct {
     {"small_buffer", small_buffer}, {"received", received}, {"unreachable", unreachable},
     {"own_loop", own_loop}, {"idle", idle}, {"lost", lost}, {"silent_end", silent_end},
     {"aborted", aborted}, {"connection", connection}, {"unread", unread}, {"ended", ended},
-    {"rejected_connection", rejected_connection},
+    {"rejected_connection", rejected_connection}, {"refused_memory", refused_memory},
+    {"refused_memory_of_connection", refused_memory_of_connection},
 #ifdef WITH_OPENSSL
     {"over_tls", over_tls}, {"connection_over_tls", connection_over_tls},
     {"another_host", another_host}, {"untrusted", untrusted}, {"no_authorities", no_authorities},

@@ -63,7 +63,7 @@ def build(name, *options):
 
 def setUpModule():
     build("uris")
-    build("cases")
+    build("cases", "-Wl,--wrap=malloc,--wrap=calloc")
 
 
 def tearDownModule():
@@ -219,6 +219,19 @@ class Ends(Course):
         await self.course("aborted")
         await asyncio.sleep(0.1)
         self.assertEqual(self.server.lifetimes, [])
+
+
+class Memory(Course):
+    """Each allocation of the driver and of the client fails in turn."""
+
+    async def test_datagrams_over_udp(self):
+        await self.course("refused_memory")
+
+    async def test_datagrams_over_tcp(self):
+        await self.course("refused_memory", is_stream=True)
+
+    async def test_a_connection(self):
+        await self.course("refused_memory_of_connection", is_stream=True)
 
 
 class Connections(Course):

@@ -20,16 +20,29 @@ static void refuse_connection(turn_driver *driver, const char *text)
 
 /* ---- its socket */
 
-/* Reports the socket to the client, or that there is none. */
-static void report_data(turn_driver *driver, uint32_t id, const turn_address *peer,
-                        const turn_address *own)
+/* Reports the socket to the client, or that there is none: a status of the client. */
+static int32_t report_data(turn_driver *driver, uint32_t id, const turn_address *peer,
+                           const turn_address *own)
 {
     static const turn_address none;
-    const int32_t status = turn_client_socket(&driver->client, id, peer, own == NULL ? &none : own,
-                                              clock_now());
-    if (own != NULL && status != TURN_OK)
-        line_close(&driver->data);
     driver->due = 0;
+    return turn_client_socket(&driver->client, id, peer, own == NULL ? &none : own, clock_now());
+}
+
+/* The socket is open: the client is told, and told again later if it has no memory for that. */
+static void report_open_data(turn_driver *driver)
+{
+    const int32_t status =
+        report_data(driver, driver->data_id, &driver->peer, &driver->data.own);
+    if (status == TURN_NO_MEMORY) {
+        driver->due = clock_now() + PAUSE;
+        return;
+    }
+    driver->is_reported = true;
+    if (status != TURN_OK) {
+        refuse_connection(driver, "the client does not wait for its socket any more");
+        line_close(&driver->data);
+    }
 }
 
 void open_data(turn_driver *driver, const turn_wait *wait)
@@ -53,14 +66,17 @@ static void go_on_opening(turn_driver *driver)
     struct line *data = &driver->data;
     line_go_on(data);
     if (data->state == LINE_OPEN) {
-        driver->is_reported = true;
-        report_data(driver, driver->data_id, &driver->peer, &data->own);
+        report_open_data(driver);
     } else if (data->state == LINE_FAILED || clock_now() >= driver->data_until) {
         refuse_connection(driver, data->error != 0       ? strerror(data->error)
                                   : data->why[0] != '\0' ? data->why
                                                          : "no socket to the server in time");
         line_close(data);
-        report_data(driver, driver->data_id, &driver->peer, NULL);
+        if (report_data(driver, driver->data_id, &driver->peer, NULL) == TURN_NO_MEMORY) {
+            turn_driver_failure failure;
+            fail_of_status(&failure, TURN_NO_MEMORY);
+            ends(driver, &failure);
+        }
     }
 }
 

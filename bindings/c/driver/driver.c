@@ -140,7 +140,7 @@ static bool look_up(turn_driver *driver, struct opening *opening, turn_driver_fa
     const int status = getaddrinfo(opening->uri.host, NULL, &hints, &found);
     for (struct addrinfo *it = found; status == 0 && it != NULL && opening->host_count < HOSTS_MAX;
          it = it->ai_next) {
-        struct sockaddr_storage address = {.ss_family = it->ai_family};
+        struct sockaddr_storage address = {.ss_family = (sa_family_t)it->ai_family};
         if ((it->ai_family != AF_INET && it->ai_family != AF_INET6)
             || it->ai_addrlen > sizeof address)
             continue;

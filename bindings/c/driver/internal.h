@@ -9,6 +9,7 @@
 
 #define MILLISECOND UINT64_C(1000000) /* in nanoseconds */
 #define SECOND UINT64_C(1000000000)
+#define PAUSE (10 * MILLISECOND)      /* until what did nothing, or had no memory, is done again */
 #define READ_MAX 65536                /* bytes that one read gives: no datagram is larger */
 #define HOSTS_MAX 8                   /* addresses of a server's name that are tried */
 

@@ -5,8 +5,6 @@
 #include <errno.h>
 #include <string.h>
 
-#define PAUSE (10 * MILLISECOND) /* until the next turn, if the client wants one and does nothing */
-
 /* The line whose own address this is; NULL if it was closed. */
 static struct line *line_of(turn_driver *driver, const turn_address *own)
 {
@@ -241,6 +239,8 @@ uint64_t next_turn(const turn_driver *driver)
     if (driver->is_over || driver->line.has_more || driver->data.has_more)
         return 0;
     const bool is_opening = driver->data.state != LINE_CLOSED && !driver->is_reported;
+    if (is_opening && driver->data.state == LINE_FAILED)
+        return 0;
     return is_opening ? sooner(driver->due, driver->data_until) : driver->due;
 }
 
