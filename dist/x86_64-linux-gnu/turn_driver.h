@@ -194,7 +194,9 @@ enum turn_driver_status {
                                        * why */
     TURN_DRIVER_LOST = -16,           /* the relayed address is gone: the server did not renew it,
                                        * or closed the connection to it */
-    TURN_DRIVER_NO_MEMORY = -17       /* malloc failed, or the system had no random bytes */
+    TURN_DRIVER_NO_MEMORY = -17       /* malloc failed, or the system had no random bytes. If
+                                       * turn_driver_fd then returns -1, the driver is over;
+                                       * otherwise it goes on, and the call may be made again */
 };
 
 #define TURN_DRIVER_TEXT_MAX 1024

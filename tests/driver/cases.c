@@ -134,7 +134,7 @@ static void take_course_of_datagrams(void)
     SHOULD(is_ample_or_refused(status));
     if (status == TURN_DRIVER_NO_MEMORY && turn_driver_run(driver) == TURN_DRIVER_OK)
         SHOULD(turn_driver_send_to(driver, &peer, "one", 3) == TURN_DRIVER_OK);
-    status = receive(is_any_refused() ? 300 : PATIENCE_MS); /* it may be dropped then */
+    status = receive(1000); /* it may be dropped */
     SHOULD(is_ample_or_refused(status) || (status == TURN_DRIVER_TIMEOUT && is_any_refused()));
     SHOULD(last->status == TURN_DRIVER_OK || last->status == TURN_DRIVER_NO_MEMORY);
 }

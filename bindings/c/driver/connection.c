@@ -35,7 +35,7 @@ static void report_open_data(turn_driver *driver)
     const int32_t status =
         report_data(driver, driver->data_id, &driver->peer, &driver->data.own);
     if (status == TURN_NO_MEMORY) {
-        driver->due = clock_now() + PAUSE;
+        driver->data_again = clock_now() + PAUSE;
         return;
     }
     driver->is_reported = true;

@@ -140,7 +140,7 @@ struct turn_driver {
     struct channel_note *channels;
     turn_address peer;                   /* of the connection; family 0 if none was requested */
     uint32_t data_id;                    /* by which the client knows its socket */
-    uint64_t data_until;                 /* when its socket is to be open */
+    uint64_t data_until, data_again;     /* when its socket is to be open; is reported again */
     bool is_requested, is_reported;      /* the connection; its socket */
     bool is_connected, has_ended;        /* bytes go both ways; they did */
     bool has_refusal;

@@ -241,6 +241,8 @@ uint64_t next_turn(const turn_driver *driver)
     const bool is_opening = driver->data.state != LINE_CLOSED && !driver->is_reported;
     if (is_opening && driver->data.state == LINE_FAILED)
         return 0;
+    if (is_opening && driver->data.state == LINE_OPEN) /* which had no memory to be reported */
+        return sooner(driver->due, driver->data_again);
     return is_opening ? sooner(driver->due, driver->data_until) : driver->due;
 }
 
