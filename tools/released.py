@@ -17,16 +17,25 @@ MANIFEST = DIST / "MANIFEST"
 # each released program, and its crate
 PROGRAMS = {"turn-replay": "turn_replay", "stun-inspect": "stun_inspect", "trace-picture": "trace_picture"}
 LIBRARY_CRATE = "turn_client_c"
-# each other released file, and what it is made of beside the crate: scripts that build it, or the file that it copies
+# each other released file, and what it is made of beside the crate: scripts that build it, or files that it copies
+# or is compiled of
 LIBRARIES = {
     "libturn_client.a": ("bindings/c/build", "bindings/c/wiping.c"),
-    "libturn_client.so": ("bindings/c/build", "bindings/c/wiping.c", "bindings/python/build"),
+    "libturn_client.so": ("bindings/c/build", "bindings/c/wiping.c", "bindings/python/build", "VERSION"),
 }
 COPIES = {
     "turn_client.h": ("bindings/c/include/turn_client.h",),
     "turn_client.pc": ("bindings/c/build", "VERSION"),
+    "turn_driver.h": ("bindings/c/include/turn_driver.h",),
+    "turn_driver.pc": ("bindings/c/build_driver", "VERSION"),
+    "libturn_driver.a": (
+        "bindings/c/build_driver", "bindings/c/include/turn_client.h", "bindings/c/include/turn_driver.h",
+        "bindings/c/driver/internal.h", *(f"bindings/c/driver/{it}.c" for it in (
+            "address", "buffers", "clock", "connection", "datagrams", "driver", "failure", "line", "turns", "uri"))),
 }
 FILES = (*LIBRARIES, *COPIES, *PROGRAMS)
+# what is made without what was proved: of C, of files that are copied, and of the released archive
+DERIVED = ("libturn_client.so", "turn_client.h", "turn_driver.h", "turn_driver.pc", "libturn_driver.a")
 
 
 def digest_of(path):

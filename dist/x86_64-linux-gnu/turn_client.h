@@ -96,8 +96,8 @@
 #include <stddef.h>
 #include <stdint.h>
 
-#if !defined(__x86_64__) || !defined(__linux__) || !defined(__GLIBC__)
-#error "libturn_client is made for x86-64 Linux with glibc, and this program is compiled for another platform"
+#if !defined(__x86_64__) || !defined(__linux__) || defined(__ILP32__)
+#error "libturn_client is made for x86-64 Linux, and this program is compiled for another platform"
 #endif
 
 /* The version of this header, and of the library that was released with it: turn_client_version returns the library's

@@ -11,6 +11,8 @@ ROOT = os.path.abspath(os.path.join(os.path.dirname(__file__), "..", ".."))
 LIBRARY = os.path.join(ROOT, "dist", "x86_64-linux-gnu")  # the folder of the released library
 PEERS = {"run": ["--peer"], "stream": ["--connect"], "echo": ["--echo"], "none": []}  # by which it learns its peer
 C_FILES = ("turn_client.c", "options.c", "sockets.c", "tally.c")
+C_DRIVER_FILES = ("example_driver.c", *(f"driver/{it}.c" for it in (
+    "address", "buffers", "clock", "connection", "datagrams", "driver", "failure", "line", "openssl", "turns", "uri")))
 SANITIZERS = ("-g", "-O1", "-fsanitize=address,undefined", "-fno-sanitize-recover=all", "-fno-omit-frame-pointer")
 
 
@@ -94,6 +96,20 @@ def of_c(archive, folder):
     return [_made(name, [made], ("udp", "tcp"))]
 
 
+def of_c_driver(archive, folder):
+    """bindings/c/example_driver.c with the sources of the driver, under sanitizers."""
+    name, made = "bindings/c/example_driver.c", os.path.join(folder, "example_driver")
+    compiler = os.environ.get("CC") or shutil.which("clang") or "cc"
+    library = os.path.join(archive, "libturn_client.a")
+    if not os.path.exists(library):
+        return [Absent(name, f"there is no {library}")]
+    command = [compiler, "-std=c11", *SANITIZERS, "-Wall", "-Wextra", "-Iinclude", *C_DRIVER_FILES, library, "-lssl",
+               "-lcrypto", "-o", made]
+    if not _build(command, os.path.join(ROOT, "bindings", "c"), os.path.join(folder, "build-c-driver.log")):
+        return [Absent(name, "it isn't built, for which it wants libssl-dev: see build-c-driver.log")]
+    return [_made(name, [made], ("udp", "tcp", "tls"), driver=True)]
+
+
 def of_rust(archive, folder):
     """The examples of bindings/rust/, each over one transport."""
     source = os.path.join(ROOT, "bindings", "rust")
@@ -117,7 +133,7 @@ def of_python(archive, folder):
     copy = os.path.join(folder, "python")
     shutil.copytree(source, copy, dirs_exist_ok=True, ignore=shutil.ignore_patterns(".*", "__pycache__"))
     library = os.path.join(archive, "libturn_client.a")
-    if not _build([os.path.join(copy, "build"), library], copy, os.path.join(folder, "build-python.log")):
+    if not _build([os.path.join(source, "build"), library, copy], source, os.path.join(folder, "build-python.log")):
         return [Absent(f"bindings/python/{name}", "it isn't built: see build-python.log") for name in names]
     transports = ("udp", "tcp"), ("udp", "tcp", "tls")
     return [_made(f"bindings/python/{name}", [sys.executable, os.path.join(copy, name)], by, driver="tls" in by)
@@ -125,4 +141,4 @@ def of_python(archive, folder):
 
 
 def all_of_them(archive, folder):
-    return [*of_c(archive, folder), *of_rust(archive, folder), *of_python(archive, folder)]
+    return [*of_c(archive, folder), *of_c_driver(archive, folder), *of_rust(archive, folder), *of_python(archive, folder)]
