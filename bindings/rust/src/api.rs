@@ -247,9 +247,9 @@ impl TurnConfig {
     }
 
     /// All of it, told to C, for a client between two addresses.
-    pub(crate) fn told(&self, transport: TransportType, local: SocketAddr, server: SocketAddr) -> sys::Settings {
-        let mut settings = sys::Settings {
-            size: size_of::<sys::Settings>(),
+    pub(crate) fn told(&self, transport: TransportType, local: SocketAddr, server: SocketAddr) -> sys::turn_settings {
+        let mut settings = sys::turn_settings {
+            size: size_of::<sys::turn_settings>(),
             local: told(local),
             server: told(server),
             transport: told_transport(transport),
@@ -266,7 +266,7 @@ impl TurnConfig {
             compatible: u32::from(!self.is_hardened),
             max_connection_attempts: self.max_connection_attempts,
             ignore_short_lifetimes: u32::from(!self.short_lifetimes),
-            ..sys::Settings::default()
+            ..sys::turn_settings::default()
         };
         if let Some(waits) = self.retransmits {
             settings.sends = waits.retransmits;
@@ -280,24 +280,24 @@ impl TurnConfig {
 
 fn bit_of_family(family: AddressFamily) -> u32 {
     match family {
-        AddressFamily::IPV4 => sys::IPV4,
-        AddressFamily::IPV6 => sys::IPV6,
+        AddressFamily::IPV4 => sys::TURN_IPV4,
+        AddressFamily::IPV6 => sys::TURN_IPV6,
     }
 }
 
 fn bit_of_integrity(integrity: IntegrityAlgorithm) -> u32 {
     match integrity {
-        IntegrityAlgorithm::Sha1 => sys::SHA1,
-        IntegrityAlgorithm::Sha256 => sys::SHA256,
-        IntegrityAlgorithm::Sha512 => sys::SHA512,
+        IntegrityAlgorithm::Sha1 => sys::TURN_SHA1,
+        IntegrityAlgorithm::Sha256 => sys::TURN_SHA256,
+        IntegrityAlgorithm::Sha512 => sys::TURN_SHA512,
     }
 }
 
 fn told_feature(feature: Feature) -> u32 {
     match feature {
-        Feature::Auto => sys::ANONYMOUS_AUTO,
-        Feature::Required => sys::ANONYMOUS_REQUIRED,
-        Feature::Disabled => sys::ANONYMOUS_DISABLED,
+        Feature::Auto => sys::TURN_ANONYMOUS_AUTO,
+        Feature::Required => sys::TURN_ANONYMOUS_REQUIRED,
+        Feature::Disabled => sys::TURN_ANONYMOUS_DISABLED,
     }
 }
 
@@ -329,7 +329,7 @@ impl<T> Transmit<T> {
 
 impl<'a> Transmit<&'a [u8]> {
     /// What C says to send, with its bytes.
-    pub(crate) fn read(data: &'a [u8], sent: &sys::Transmit) -> Self {
+    pub(crate) fn read(data: &'a [u8], sent: &sys::turn_transmit) -> Self {
         Self::new(data, read_transport(sent.transport), read(&sent.from), read(&sent.to))
     }
 }
@@ -373,11 +373,11 @@ pub enum TurnPollRet {
 
 impl TurnPollRet {
     /// What a status tells, where it is one that `poll` answers.
-    pub(crate) fn read(status: i32, wait: &sys::Wait) -> Option<Self> {
+    pub(crate) fn read(status: i32, wait: &sys::turn_wait) -> Option<Self> {
         let (from, to) = (read(&wait.from), read(&wait.to));
         Some(match status {
-            sys::OK => Self::WaitUntil(Duration::from_nanos(wait.until)),
-            sys::OPEN_SOCKET => Self::AllocateTcpSocket {
+            sys::TURN_OK => Self::WaitUntil(Duration::from_nanos(wait.until)),
+            sys::TURN_OPEN_SOCKET => Self::AllocateTcpSocket {
                 id: wait.id,
                 socket: Socket5Tuple {
                     transport: read_transport(wait.transport),
@@ -386,11 +386,11 @@ impl TurnPollRet {
                 },
                 peer_addr: read(&wait.peer),
             },
-            sys::CLOSE_SOCKET => Self::TcpClose {
+            sys::TURN_CLOSE_SOCKET => Self::TcpClose {
                 local_addr: from,
                 remote_addr: to,
             },
-            sys::CLOSED => Self::Closed,
+            sys::TURN_CLOSED => Self::Closed,
             _ => return None,
         })
     }
@@ -422,7 +422,7 @@ pub enum TurnRecvRet<'a> {
 
 impl TurnRecvRet<'_> {
     /// A report that C told.
-    pub(crate) fn of_report(told: &sys::Payload) -> Self {
+    pub(crate) fn of_report(told: &sys::turn_payload) -> Self {
         Self::PeerIcmp {
             transport: read_transport(told.transport),
             peer: read(&told.peer),
@@ -446,7 +446,7 @@ pub struct TurnPeerData<'a> {
 
 impl<'a> TurnPeerData<'a> {
     /// Data of the peer that C told.
-    pub(crate) fn read(data: Cow<'a, [u8]>, told: &sys::Payload) -> Self {
+    pub(crate) fn read(data: Cow<'a, [u8]>, told: &sys::turn_payload) -> Self {
         let (transport, peer) = (read_transport(told.transport), read(&told.peer));
         Self { data, transport, peer }
     }
@@ -500,20 +500,20 @@ pub enum TurnEvent {
 
 impl TurnEvent {
     /// An event that C told, where it is one of those above.
-    pub(crate) fn read(event: &sys::Event) -> Option<Self> {
+    pub(crate) fn read(event: &sys::turn_event) -> Option<Self> {
         let (transport, address) = (read_transport(event.transport), read(&event.address));
         Some(match event.kind {
-            sys::ALLOCATION_CREATED => Self::AllocationCreated(transport, address),
-            sys::ALLOCATION_FAILED => Self::AllocationCreateFailed(match address {
+            sys::TURN_ALLOCATION_CREATED => Self::AllocationCreated(transport, address),
+            sys::TURN_ALLOCATION_FAILED => Self::AllocationCreateFailed(match address {
                 SocketAddr::V4(_) => AddressFamily::IPV4,
                 SocketAddr::V6(_) => AddressFamily::IPV6,
             }),
-            sys::PERMISSION_CREATED => Self::PermissionCreated(transport, address.ip()),
-            sys::PERMISSION_FAILED => Self::PermissionCreateFailed(transport, address.ip()),
-            sys::CHANNEL_CREATED => Self::ChannelCreated(transport, address),
-            sys::CHANNEL_FAILED => Self::ChannelCreateFailed(transport, address),
-            sys::TCP_CONNECTED => Self::TcpConnected(address),
-            sys::TCP_FAILED => Self::TcpConnectFailed(address),
+            sys::TURN_PERMISSION_CREATED => Self::PermissionCreated(transport, address.ip()),
+            sys::TURN_PERMISSION_FAILED => Self::PermissionCreateFailed(transport, address.ip()),
+            sys::TURN_CHANNEL_CREATED => Self::ChannelCreated(transport, address),
+            sys::TURN_CHANNEL_FAILED => Self::ChannelCreateFailed(transport, address),
+            sys::TURN_TCP_CONNECTED => Self::TcpConnected(address),
+            sys::TURN_TCP_FAILED => Self::TcpConnectFailed(address),
             _ => return None,
         })
     }
@@ -558,23 +558,23 @@ pub enum TurnCause {
 
 impl TurnCause {
     /// The cause that C reports, with its reason phrase; `None` if it reports none, or none of those above.
-    pub(crate) fn read(cause: &sys::Cause, reason: impl FnOnce() -> String) -> Option<Self> {
+    pub(crate) fn read(cause: &sys::turn_cause, reason: impl FnOnce() -> String) -> Option<Self> {
         Some(match cause.kind {
-            sys::REJECTED => Self::Rejected {
+            sys::TURN_REJECTED => Self::Rejected {
                 code: u16::try_from(cause.code).unwrap_or_default(),
                 reason: reason(),
                 is_signed: cause.is_signed,
             },
-            sys::UNANSWERED => Self::Unanswered,
-            sys::INTEGRITY => Self::Integrity,
-            sys::NO_ALGORITHM => Self::NoCommonAlgorithm,
-            sys::OTHER_FAMILY => Self::OtherFamily,
-            sys::CAUSE_MEMORY => Self::OutOfMemory,
-            sys::DELETED => Self::Deleted,
-            sys::EXPIRED => Self::Expired,
-            sys::SOCKET_CLOSED => Self::SocketClosed,
-            sys::UNUSABLE => Self::Unusable,
-            sys::CAUSE_NONE => return None,
+            sys::TURN_UNANSWERED => Self::Unanswered,
+            sys::TURN_INTEGRITY => Self::Integrity,
+            sys::TURN_NO_ALGORITHM => Self::NoCommonAlgorithm,
+            sys::TURN_OTHER_FAMILY => Self::OtherFamily,
+            sys::TURN_CAUSE_MEMORY => Self::OutOfMemory,
+            sys::TURN_DELETED => Self::Deleted,
+            sys::TURN_EXPIRED => Self::Expired,
+            sys::TURN_SOCKET_CLOSED => Self::SocketClosed,
+            sys::TURN_UNUSABLE => Self::Unusable,
+            sys::TURN_CAUSE_NONE => return None,
             // of a newer archive
             _ => return None,
         })
@@ -661,15 +661,15 @@ mod tests {
     #[test]
     fn what_a_newer_archive_might_tell_is_no_event_and_no_wait() {
         const UNKNOWN: u32 = 9;
-        let event = sys::Event {
+        let event = sys::turn_event {
             kind: UNKNOWN,
-            ..sys::Event::default()
+            ..sys::turn_event::default()
         };
         assert_eq!(TurnEvent::read(&event), None);
-        assert_eq!(TurnPollRet::read(8, &sys::Wait::default()), None);
-        let cause = sys::Cause {
+        assert_eq!(TurnPollRet::read(8, &sys::turn_wait::default()), None);
+        let cause = sys::turn_cause {
             kind: 11,
-            ..sys::Cause::default()
+            ..sys::turn_cause::default()
         };
         assert_eq!(TurnCause::read(&cause, String::new), None);
     }
@@ -678,11 +678,11 @@ mod tests {
     #[test]
     fn causes_are_those_of_the_header() {
         let read = |kind| {
-            let cause = sys::Cause {
+            let cause = sys::turn_cause {
                 kind,
                 code: 403,
                 is_signed: true,
-                ..sys::Cause::default()
+                ..sys::turn_cause::default()
             };
             TurnCause::read(&cause, || "Forbidden".to_string())
         };
@@ -692,17 +692,17 @@ mod tests {
             is_signed: true,
         };
         let wanted = [
-            (sys::CAUSE_NONE, None),
-            (sys::REJECTED, Some(rejected)),
-            (sys::UNANSWERED, Some(TurnCause::Unanswered)),
-            (sys::INTEGRITY, Some(TurnCause::Integrity)),
-            (sys::NO_ALGORITHM, Some(TurnCause::NoCommonAlgorithm)),
-            (sys::OTHER_FAMILY, Some(TurnCause::OtherFamily)),
-            (sys::CAUSE_MEMORY, Some(TurnCause::OutOfMemory)),
-            (sys::DELETED, Some(TurnCause::Deleted)),
-            (sys::EXPIRED, Some(TurnCause::Expired)),
-            (sys::SOCKET_CLOSED, Some(TurnCause::SocketClosed)),
-            (sys::UNUSABLE, Some(TurnCause::Unusable)),
+            (sys::TURN_CAUSE_NONE, None),
+            (sys::TURN_REJECTED, Some(rejected)),
+            (sys::TURN_UNANSWERED, Some(TurnCause::Unanswered)),
+            (sys::TURN_INTEGRITY, Some(TurnCause::Integrity)),
+            (sys::TURN_NO_ALGORITHM, Some(TurnCause::NoCommonAlgorithm)),
+            (sys::TURN_OTHER_FAMILY, Some(TurnCause::OtherFamily)),
+            (sys::TURN_CAUSE_MEMORY, Some(TurnCause::OutOfMemory)),
+            (sys::TURN_DELETED, Some(TurnCause::Deleted)),
+            (sys::TURN_EXPIRED, Some(TurnCause::Expired)),
+            (sys::TURN_SOCKET_CLOSED, Some(TurnCause::SocketClosed)),
+            (sys::TURN_UNUSABLE, Some(TurnCause::Unusable)),
         ];
         for (kind, cause) in wanted {
             assert_eq!(read(kind), cause);

@@ -19,7 +19,7 @@ use crate::error::{
 use crate::sys;
 
 /// Bytes of a buffer that any message fits in, and any data over UDP that is one byte too long.
-const OUT_MIN: usize = max(sys::MESSAGE_MAX, sys::PAYLOAD_MAX + 1 + sys::SEND_EXTRA);
+const OUT_MIN: usize = max(sys::TURN_MESSAGE_MAX, sys::TURN_PAYLOAD_MAX + 1 + sys::TURN_SEND_EXTRA);
 
 const fn max(one: usize, other: usize) -> usize {
     if one > other {
@@ -32,14 +32,14 @@ const fn max(one: usize, other: usize) -> usize {
 /// An open handle, and what its calls want beside it.
 pub struct Handle {
     /// It stays where it is while the client is moved: C wants it not to be copied.
-    client: Box<UnsafeCell<sys::Client>>,
+    client: Box<UnsafeCell<sys::turn_client>>,
     transport: TransportType,
     local_addr: SocketAddr,
     remote_addr: SocketAddr,
     /// What is to be sent is written here: `OUT_MIN` bytes, or more.
     out: Vec<u8>,
     /// A payload whose joined bytes wait in the client, for there was no memory for them.
-    unread: Option<sys::Payload>,
+    unread: Option<sys::turn_payload>,
 }
 
 // SAFETY: by the header a handle may go to another thread between two calls, and all calls are made through a borrow of
@@ -88,7 +88,7 @@ impl Handle {
             return Err(AllocateError::NoMemory);
         }
         let handle = Self {
-            client: Box::new(UnsafeCell::new(sys::CLIENT_INIT)),
+            client: Box::new(UnsafeCell::new(sys::TURN_CLIENT_INIT)),
             transport,
             local_addr,
             remote_addr,
@@ -97,7 +97,7 @@ impl Handle {
         };
         let settings = config.told(transport, local_addr, remote_addr);
         let (name, password) = (config.credentials().username(), config.credentials().password());
-        let (name_at, password_at, seed) = (name.as_ptr(), password.as_ptr(), sys::Seed { bytes: seed });
+        let (name_at, password_at, seed) = (name.as_ptr(), password.as_ptr(), sys::turn_seed { bytes: seed });
         // SAFETY: the handle isn't open; pointers and lengths are of texts that live as long as the call.
         let status = unsafe {
             sys::turn_client_open(
@@ -115,18 +115,18 @@ impl Handle {
     }
 
     /// Where the handle lies.
-    fn at(&self) -> *mut sys::Client {
+    fn at(&self) -> *mut sys::turn_client {
         self.client.get()
     }
 
     /// The front of what is to be sent, as C told it. None where C told more than there is.
-    fn sent(&self, told: &sys::Transmit) -> Option<Transmit<&[u8]>> {
+    fn sent(&self, told: &sys::turn_transmit) -> Option<Transmit<&[u8]>> {
         let data = self.out.get(..told.size)?;
         Some(Transmit::read(data, told))
     }
 
     /// Data of a peer that C told, by the bytes that came with it.
-    fn peer_data<'a>(&mut self, payload: &sys::Payload, came: &'a [u8]) -> Result<TurnRecvRet<'a>, RecvError> {
+    fn peer_data<'a>(&mut self, payload: &sys::turn_payload, came: &'a [u8]) -> Result<TurnRecvRet<'a>, RecvError> {
         if payload.is_joined {
             return match self.joined(payload) {
                 Err(RecvError::Unread) => Ok(TurnRecvRet::Handled),
@@ -134,12 +134,12 @@ impl Handle {
             };
         }
         let behind = came.get(payload.start..).unwrap_or_default();
-        let data = behind.get(..payload.size).ok_or(RecvError::Other(sys::PAYLOAD))?;
+        let data = behind.get(..payload.size).ok_or(RecvError::Other(sys::TURN_PAYLOAD))?;
         Ok(TurnRecvRet::PeerData(TurnPeerData::read(Cow::Borrowed(data), payload)))
     }
 
     /// Data of a peer whose bytes wait in the client. They wait on where there is no memory for them.
-    fn joined(&mut self, payload: &sys::Payload) -> Result<TurnPeerData<'static>, RecvError> {
+    fn joined(&mut self, payload: &sys::turn_payload) -> Result<TurnPeerData<'static>, RecvError> {
         let mut bytes = Vec::new();
         if !make_room(&mut bytes, payload.size) {
             self.unread = Some(*payload);
@@ -148,7 +148,7 @@ impl Handle {
         if payload.size > 0 {
             // SAFETY: the vector has that many bytes.
             let status = unsafe { sys::turn_client_read(self.at(), bytes.as_mut_ptr(), bytes.len()) };
-            if status != sys::OK {
+            if status != sys::TURN_OK {
                 return Err(RecvError::of(status));
             }
         }
@@ -156,35 +156,35 @@ impl Handle {
     }
 
     /// The next payload that waits in a stream.
-    fn pull(&mut self, now: Duration) -> Result<Option<sys::Payload>, RecvError> {
-        let mut payload = sys::Payload::default();
+    fn pull(&mut self, now: Duration) -> Result<Option<sys::turn_payload>, RecvError> {
+        let mut payload = sys::turn_payload::default();
         // SAFETY: both pointers are of values that live as long as the call.
         match unsafe { sys::turn_client_pull(self.at(), told_moment(now), &mut payload) } {
-            sys::PAYLOAD => Ok(Some(payload)),
-            sys::NOTHING => Ok(None),
+            sys::TURN_PAYLOAD => Ok(Some(payload)),
+            sys::TURN_NOTHING => Ok(None),
             status => Err(RecvError::of(status)),
         }
     }
 
     /// What C reports of the event that was taken last.
-    fn cause(&self) -> sys::Cause {
-        let mut cause = sys::Cause::default();
+    fn cause(&self) -> sys::turn_cause {
+        let mut cause = sys::turn_cause::default();
         // SAFETY: both pointers are of values that live as long as the call. An open handle refuses nothing.
         unsafe { sys::turn_client_cause(self.at(), &mut cause) };
         cause
     }
 
     /// A text of so many bytes that a call copies; `None` if there is no such text, or no memory for it.
-    fn text(&self, size: usize, copy: impl Fn(*mut sys::Client, *mut u8, usize) -> i32) -> Option<String> {
+    fn text(&self, size: usize, copy: impl Fn(*mut sys::turn_client, *mut u8, usize) -> i32) -> Option<String> {
         let mut bytes = Vec::new();
-        if !make_room(&mut bytes, size) || copy(self.at(), bytes.as_mut_ptr(), bytes.len()) != sys::OK {
+        if !make_room(&mut bytes, size) || copy(self.at(), bytes.as_mut_ptr(), bytes.len()) != sys::TURN_OK {
             return None;
         }
         String::from_utf8(bytes).ok()
     }
 
     /// All that a getter shows. It is asked how many there are first: none comes or goes before it is asked again.
-    fn list<T: Clone + Default>(&self, get: impl Fn(*mut sys::Client, *mut T, usize) -> usize) -> Vec<T> {
+    fn list<T: Clone + Default>(&self, get: impl Fn(*mut sys::turn_client, *mut T, usize) -> usize) -> Vec<T> {
         let count = get(self.at(), NonNull::dangling().as_ptr(), 0);
         let mut held = vec![T::default(); count];
         let shown = get(self.at(), held.as_mut_ptr(), held.len());
@@ -203,14 +203,14 @@ fn random_seed() -> Result<[u8; 32], AllocateError> {
             return Ok(seed);
         }
         if drawn >= 0 || std::io::Error::last_os_error().kind() != std::io::ErrorKind::Interrupted {
-            return Err(AllocateError::of(sys::NO_RANDOM));
+            return Err(AllocateError::of(sys::TURN_NO_RANDOM));
         }
     }
 }
 
 /// A status as a call's outcome.
 fn outcome<E>(status: i32, refusal: fn(i32) -> E) -> Result<(), E> {
-    if status == sys::OK {
+    if status == sys::TURN_OK {
         Ok(())
     } else {
         Err(refusal(status))
@@ -253,7 +253,7 @@ pub trait TurnClientApi: HasHandle {
             .handle()
             .list(|at, out, room| unsafe { sys::turn_client_relayed(at, out, room) });
         held.iter()
-            .map(|it: &sys::Relayed| (read_transport(it.transport), read(&it.address)))
+            .map(|it: &sys::turn_relayed| (read_transport(it.transport), read(&it.address)))
             .collect()
     }
 
@@ -279,7 +279,7 @@ pub trait TurnClientApi: HasHandle {
         let held = self
             .handle()
             .list(|at, out, room| unsafe { sys::turn_client_channels(at, out, room) });
-        let channel = |it: &sys::Channel| Channel {
+        let channel = |it: &sys::turn_channel| Channel {
             number: it.number,
             peer_addr: read(&it.peer),
         };
@@ -292,7 +292,7 @@ pub trait TurnClientApi: HasHandle {
         let held = self
             .handle()
             .list(|at, out, room| unsafe { sys::turn_client_connections(at, out, room) });
-        let connection = |it: &sys::Connection| Connection {
+        let connection = |it: &sys::turn_connection| Connection {
             local_addr: read(&it.local),
             peer_addr: read(&it.peer),
             id: it.id,
@@ -332,7 +332,7 @@ pub trait TurnClientApi: HasHandle {
     fn set_fingerprint(&mut self, fingerprint: bool) {
         // SAFETY: the handle is open, and borrowed for this call alone; the call refuses nothing else.
         let status = unsafe { sys::turn_client_fingerprint(self.handle_mut().at(), fingerprint) };
-        debug_assert_eq!(status, sys::OK);
+        debug_assert_eq!(status, sys::TURN_OK);
     }
 
     /// Asks for the end of the allocations, which are over for the client at once: take turns until `poll` answers
@@ -368,7 +368,7 @@ pub trait TurnClientApi: HasHandle {
         let mut until = 0;
         // SAFETY: the pointers are of values that live as long as the call.
         match unsafe { sys::turn_client_bind(at, number, &peer, told_moment(now), &mut until) } {
-            sys::EXPIRED_CHANNEL => Err(BindChannelError::ExpiredChannelExists(Duration::from_nanos(until))),
+            sys::TURN_EXPIRED_CHANNEL => Err(BindChannelError::ExpiredChannelExists(Duration::from_nanos(until))),
             status => outcome(status, BindChannelError::of),
         }
     }
@@ -421,16 +421,16 @@ pub trait TurnClientApi: HasHandle {
         now: Duration,
     ) -> Result<Transmit<&[u8]>, SendError> {
         let data = match transport {
-            TransportType::Udp => data.get(..=sys::PAYLOAD_MAX).unwrap_or(data),
+            TransportType::Udp => data.get(..=sys::TURN_PAYLOAD_MAX).unwrap_or(data),
             TransportType::Tcp => data,
         };
         let handle = self.handle_mut();
-        if !make_room(&mut handle.out, data.len().saturating_add(sys::SEND_EXTRA)) {
+        if !make_room(&mut handle.out, data.len().saturating_add(sys::TURN_SEND_EXTRA)) {
             return Err(SendError::NoMemory);
         }
         let (at, number, peer) = (handle.at(), told_transport(transport), told(to));
         let (out, out_len) = (handle.out.as_mut_ptr(), handle.out.len());
-        let mut sent = sys::Transmit::default();
+        let mut sent = sys::turn_transmit::default();
         // SAFETY: pointers and lengths are of memory that lives as long as the call; the buffer is the client's own, so
         // the data doesn't lie in it.
         let status = unsafe {
@@ -449,17 +449,17 @@ pub trait TurnClientApi: HasHandle {
             return Ok(TurnRecvRet::Ignored(transmit));
         }
         let (from, to, came) = (told(transmit.from), told(transmit.to), transmit.data);
-        let mut payload = sys::Payload::default();
+        let mut payload = sys::turn_payload::default();
         // SAFETY: pointers and the length are of memory that lives as long as the call.
         let status = unsafe {
             let (at, now) = (handle.at(), told_moment(now));
             sys::turn_client_feed(at, &from, &to, came.as_ptr(), came.len(), now, &mut payload)
         };
         match status {
-            sys::OK => Ok(TurnRecvRet::Handled),
-            sys::IGNORED => Ok(TurnRecvRet::Ignored(transmit)),
-            sys::PAYLOAD => handle.peer_data(&payload, came),
-            sys::ICMP => Ok(TurnRecvRet::of_report(&payload)),
+            sys::TURN_OK => Ok(TurnRecvRet::Handled),
+            sys::TURN_IGNORED => Ok(TurnRecvRet::Ignored(transmit)),
+            sys::TURN_PAYLOAD => handle.peer_data(&payload, came),
+            sys::TURN_ICMP => Ok(TurnRecvRet::of_report(&payload)),
             _ => Err(RecvError::of(status)),
         }
     }
@@ -476,7 +476,7 @@ pub trait TurnClientApi: HasHandle {
 
     /// Does what is due, and tells what the program is to do, or until when nothing is.
     fn poll(&mut self, now: Duration) -> Result<TurnPollRet, PollError> {
-        let mut wait = sys::Wait::default();
+        let mut wait = sys::turn_wait::default();
         // SAFETY: both pointers are of values that live as long as the call.
         let status = unsafe { sys::turn_client_poll(self.handle_mut().at(), told_moment(now), &mut wait) };
         TurnPollRet::read(status, &wait).ok_or(PollError::of(status))
@@ -486,21 +486,24 @@ pub trait TurnClientApi: HasHandle {
     fn poll_transmit(&mut self, now: Duration) -> Result<Option<Transmit<&[u8]>>, PollTransmitError> {
         let handle = self.handle_mut();
         let (at, out, out_len) = (handle.at(), handle.out.as_mut_ptr(), handle.out.len());
-        let mut sent = sys::Transmit::default();
+        let mut sent = sys::turn_transmit::default();
         // SAFETY: pointers and the length are of memory that lives as long as the call.
         match unsafe { sys::turn_client_draw(at, told_moment(now), out, out_len, &mut sent) } {
-            sys::OK => handle.sent(&sent).map(Some).ok_or(PollTransmitError::Other(sys::OK)),
-            sys::NOTHING => Ok(None),
+            sys::TURN_OK => handle
+                .sent(&sent)
+                .map(Some)
+                .ok_or(PollTransmitError::Other(sys::TURN_OK)),
+            sys::TURN_NOTHING => Ok(None),
             status => Err(PollTransmitError::of(status)),
         }
     }
 
     /// The event that has waited longest.
     fn poll_event(&mut self) -> Option<TurnEvent> {
-        let mut event = sys::Event::default();
+        let mut event = sys::turn_event::default();
         // SAFETY: both pointers are of values that live as long as the call.
         let status = unsafe { sys::turn_client_event(self.handle_mut().at(), &mut event) };
-        if status == sys::OK {
+        if status == sys::TURN_OK {
             TurnEvent::read(&event)
         } else {
             None
@@ -530,10 +533,10 @@ pub trait TurnClientApi: HasHandle {
     /// Returns the client's own address as the server saw it: the XOR-MAPPED-ADDRESS of the signed response that
     /// allocated (RFC 8656, section 7.3). `None` before that, or if the response had no such address.
     fn mapped_address(&self) -> Option<SocketAddr> {
-        let mut mapped = sys::Address::default();
+        let mut mapped = sys::turn_address::default();
         // SAFETY: both pointers are of values that live as long as the call.
         let status = unsafe { sys::turn_client_mapped(self.handle().at(), &mut mapped) };
-        (status == sys::OK).then(|| read(&mapped))
+        (status == sys::TURN_OK).then(|| read(&mapped))
     }
 
     /// Returns the server that a response 300 named which ended the client (RFC 8489, section 10); `None` if there was

@@ -138,10 +138,10 @@ pub fn version() -> u32 {
 }
 
 /// Bytes of a user's name at most.
-pub const NAME_MAX: usize = sys::NAME_MAX;
+pub const NAME_MAX: usize = sys::TURN_NAME_MAX;
 
 /// Bytes of the text of SOFTWARE at most.
-pub const SOFTWARE_MAX: usize = sys::SOFTWARE_MAX;
+pub const SOFTWARE_MAX: usize = sys::TURN_SOFTWARE_MAX;
 
 /// Bytes of data at most that go to a peer over UDP between it and the server.
-pub const PAYLOAD_MAX: usize = sys::PAYLOAD_MAX;
+pub const PAYLOAD_MAX: usize = sys::TURN_PAYLOAD_MAX;
