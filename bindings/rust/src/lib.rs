@@ -113,18 +113,23 @@
 mod address;
 mod api;
 mod client;
+pub mod driver;
 mod error;
 mod sys;
+mod uri;
 
 pub use api::{
     AddressFamily, Channel, Connection, Feature, IntegrityAlgorithm, Socket5Tuple, Transmit, TransportType, TurnCause,
     TurnConfig, TurnCredentials, TurnEvent, TurnPeerData, TurnPollRet, TurnRecvRet,
 };
 pub use client::{TurnClientApi, TurnClientTcp, TurnClientUdp};
+pub use driver::{ConnectError, SocketError, TurnSocket};
 pub use error::{
     AllocateError, BindChannelError, CreatePermissionError, CredentialsError, DeleteError, PollError,
     PollTransmitError, RecvError, SendError, SoftwareError, TcpAllocateError, TcpClosedError, TcpConnectError,
 };
+
+pub use uri::{TurnUri, UriError, UriScheme, DEFAULT_PORT, DEFAULT_TLS_PORT};
 
 /// Its program is compiled with the tests.
 #[cfg(doctest)]
