@@ -95,9 +95,10 @@ def of_c(archive, folder):
 
 
 def of_rust(archive, folder):
-    """The examples of bindings/rust/, each over one transport."""
+    """The examples of bindings/rust/, each with a loop of its own over one transport, and socket.rs over the driver."""
     source = os.path.join(ROOT, "bindings", "rust")
-    names = {kind: f"bindings/rust/examples/{kind}.rs" for kind in ("udp", "tcp")}
+    transports = {"udp": ("udp",), "tcp": ("tcp",), "socket": ("udp", "tcp")}
+    names = {kind: f"bindings/rust/examples/{kind}.rs" for kind in transports}
     if not os.path.isdir(source) or shutil.which("cargo") is None:
         return [Absent(name, "no folder bindings/rust/, or no cargo") for name in names.values()]
     target = os.path.join(folder, "rust-target")
@@ -105,7 +106,8 @@ def of_rust(archive, folder):
              "cargo", "build", "--offline", "--release", "--examples"]
     if not _build(build, source, os.path.join(folder, "build-rust.log")):
         return [Absent(name, "it isn't built: see build-rust.log") for name in names.values()]
-    return [_made(name, [os.path.join(target, "release", "examples", kind)], (kind,)) for kind, name in names.items()]
+    return [_made(names[kind], [os.path.join(target, "release", "examples", kind)], by, driver=kind == "socket")
+            for kind, by in transports.items()]
 
 
 def of_python(archive, folder):
