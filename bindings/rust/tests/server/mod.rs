@@ -4,6 +4,7 @@
 
 use std::io::{BufRead, BufReader, Write};
 use std::net::SocketAddr;
+use std::path::Path;
 use std::process::{Child, ChildStdin, ChildStdout, Command, Stdio};
 use std::time::{Duration, Instant};
 
@@ -31,13 +32,18 @@ pub struct Server {
 
 impl Server {
     pub fn start(transport: TransportType) -> Self {
-        let script = concat!(env!("CARGO_MANIFEST_DIR"), "/tests/server/serve.py");
+        let package = Path::new(env!("CARGO_MANIFEST_DIR"));
+        let mut found = package
+            .ancestors()
+            .map(|it| it.join("tests/server/serve.py"));
+        let script = found.find(|it| it.is_file()).unwrap();
         let by = match transport {
             TransportType::Udp => "udp",
             TransportType::Tcp => "tcp",
         };
         let mut process = Command::new("python3")
-            .args([script, by])
+            .arg(script)
+            .arg(by)
             .stdin(Stdio::piped())
             .stdout(Stdio::piped())
             .spawn()
@@ -74,7 +80,10 @@ impl Server {
             if answer == wanted {
                 return;
             }
-            assert!(Instant::now() < until, "{command}: {answer}, and not {wanted}");
+            assert!(
+                Instant::now() < until,
+                "{command}: {answer}, and not {wanted}"
+            );
             std::thread::sleep(Duration::from_millis(10));
         }
     }
@@ -82,7 +91,10 @@ impl Server {
     /// How many signed requests of a method came.
     pub fn count(&mut self, method: u16) -> usize {
         let method = method.to_string();
-        self.tell("requests").split(' ').filter(|it| *it == method).count()
+        self.tell("requests")
+            .split(' ')
+            .filter(|it| *it == method)
+            .count()
     }
 
     pub fn uri(&self) -> TurnUri {
