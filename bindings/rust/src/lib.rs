@@ -123,7 +123,7 @@ pub use api::{
     TurnConfig, TurnCredentials, TurnEvent, TurnPeerData, TurnPollRet, TurnRecvRet,
 };
 pub use client::{TurnClientApi, TurnClientTcp, TurnClientUdp};
-pub use driver::{ConnectError, SocketError, TurnSocket};
+pub use driver::{ConnectError, SocketError, TurnSocket, TurnStream};
 pub use error::{
     AllocateError, BindChannelError, CreatePermissionError, CredentialsError, DeleteError, PollError,
     PollTransmitError, RecvError, SendError, SoftwareError, TcpAllocateError, TcpClosedError, TcpConnectError,

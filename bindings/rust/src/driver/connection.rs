@@ -108,8 +108,9 @@ impl ServerConnection for TcpStream {
 
 /// A stream over a TCP connection, as one over TLS: `rustls::StreamOwned`, `native_tls::TlsStream`.
 ///
-/// The stream is locked while it is read. So a thread that sends waits while another one receives, for a second at most:
-/// see [`TurnSocket`](crate::TurnSocket#threads). With one thread that doesn't matter.
+/// The stream is locked while it is read, so **it is for sockets that one thread uses**: another one that sends waits until
+/// a read is over, and may wait long. The `example-rustls` of the repository has a [`ServerConnection`] over TLS that
+/// isn't locked meanwhile.
 ///
 /// A read of the stream has to return an error of the kind `WouldBlock` or `TimedOut` if the TCP connection's read
 /// timeout is over, and to go on when it is called again. Both named above do.

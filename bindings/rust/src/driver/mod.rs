@@ -16,19 +16,23 @@
 //! # Ok::<(), Box<dyn std::error::Error>>(())
 //! ```
 //!
-//! [`ConnectOptions`] has more to choose. [`TurnSession`] is what a driver for another runtime needs.
+//! [`TurnStream`] is a connection over TCP to a peer (RFC 6062), with the calls of [`std::net::TcpStream`].
+//! [`ConnectOptions`] has more to choose for both. [`TurnSession`] is what a driver for another runtime needs.
 //!
-//! Not there: DTLS to the server, look-ups of SRV and NAPTR records (RFC 5928), names of peers, and a lost address that
+//! Not there: connections that peers open, TLS below a [`TurnStream`], DTLS to the server, look-ups of SRV and NAPTR records (RFC 5928), names of peers, and a lost address that
 //! is requested again.
 
 mod connection;
 mod error;
 mod options;
 mod session;
+mod setup;
 mod socket;
+mod stream;
 
 pub use connection::{ServerConnection, StreamConnection};
 pub use error::{ConnectError, SocketError};
 pub use options::ConnectOptions;
 pub use session::{Incoming, Permission, SessionState, TurnSession, INCOMING_BYTES_MAX, INCOMING_MAX};
 pub use socket::{TurnSocket, CLOSE_PATIENCE};
+pub use stream::{TurnStream, FLUSH_PATIENCE};

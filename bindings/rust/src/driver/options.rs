@@ -6,12 +6,14 @@ use std::time::{Duration, Instant};
 
 use super::connection::{open_tcp, open_udp, ServerConnection};
 use super::error::ConnectError;
+use super::setup::Setup;
 use super::socket::TurnSocket;
+use super::stream::TurnStream;
 use crate::api::{TransportType, TurnConfig};
 use crate::uri::TurnUri;
 
 /// How long a TCP connection to a server may take.
-const CONNECT_PATIENCE: Duration = Duration::from_secs(30);
+pub(super) const CONNECT_PATIENCE: Duration = Duration::from_secs(30);
 
 /// How a [`TurnSocket`] is made, as [`std::fs::OpenOptions`] says how a file is opened.
 ///
@@ -90,30 +92,51 @@ impl ConnectOptions {
     /// - `Unreachable`, `Rejected`, `TimedOut`.
     /// - `AllocationTransport`, `Settings`: the settings can't be.
     pub fn connect(&self, uri: &TurnUri, config: TurnConfig) -> Result<TurnSocket, ConnectError> {
-        if !uri.scheme().is_turn() {
-            return Err(ConnectError::NotTurn);
-        }
-        if uri.scheme().is_secure() {
-            return Err(ConnectError::WantsTls);
-        }
-        let servers: Vec<_> = uri.to_socket_addrs().map_err(ConnectError::Unreachable)?.collect();
-        self.connect_to(&servers, uri.transport(), config)
+        let servers = servers(uri)?;
+        self.reach(servers, |servers, until| {
+            let (server, connection) = self.open(servers, uri.transport(), until)?;
+            let made = TurnSocket::allocate(connection, config.clone(), self.channels, until);
+            Ok((server, made))
+        })
     }
 
-    /// Does what [`connect`](Self::connect) does, with a server's addresses in place of a URI.
-    fn connect_to(
+    /// Connects over TCP to the server of a URI, gets a relayed address, and connects it to a peer over TCP (RFC 6062).
+    /// The settings' own transport to peers, and the URI's to the server, have no meaning here. The same server is asked
+    /// for the connection that carries the bytes.
+    ///
+    /// # Errors
+    ///
+    /// - `NotTurn`, `WantsTls`.
+    /// - `Unreachable`, `Rejected`, `TimedOut`.
+    /// - `Peer`: the server gives no permission for the peer, or can't connect to it.
+    /// - `Settings`: the settings can't be.
+    pub fn connect_stream(
         &self,
-        servers: &[SocketAddr],
-        transport: TransportType,
-        config: TurnConfig,
-    ) -> Result<TurnSocket, ConnectError> {
+        uri: &TurnUri,
+        mut config: TurnConfig,
+        peer: SocketAddr,
+    ) -> Result<TurnStream, ConnectError> {
+        let servers = servers(uri)?;
+        config.set_allocation_transport(TransportType::Tcp);
+        self.reach(servers, |servers, until| {
+            let (server, control) = first_opened(servers, until, open_tcp)?;
+            let made = Setup::new(control, config.clone(), peer).and_then(|setup| setup.run(until));
+            Ok((server, made.map(TurnStream::start)))
+        })
+    }
+
+    /// Does something with one of these servers, or with another one that it names.
+    fn reach<T>(
+        &self,
+        mut servers: Vec<SocketAddr>,
+        mut with: impl FnMut(&[SocketAddr], Option<Instant>) -> Result<(SocketAddr, Result<T, ConnectError>), ConnectError>,
+    ) -> Result<T, ConnectError> {
         let until = self.timeout.map(|it| Instant::now() + it);
         let mut asked = Vec::new();
-        let mut servers = servers.to_vec();
         loop {
-            let (server, connection) = self.open(&servers, transport, until)?;
+            let (server, made) = with(&servers, until)?;
             asked.push(server);
-            match TurnSocket::allocate(connection, config.clone(), self.channels, until) {
+            match made {
                 Err(ConnectError::Rejected {
                     alternate_server: Some(elsewhere),
                     ..
@@ -130,23 +153,13 @@ impl ConnectOptions {
         transport: TransportType,
         until: Option<Instant>,
     ) -> Result<(SocketAddr, Box<dyn ServerConnection>), ConnectError> {
-        let mut why = io::Error::new(ErrorKind::NotFound, "the host has no address");
-        for &server in servers {
-            let left = until.map(|it| it.saturating_duration_since(Instant::now()));
-            if left == Some(Duration::ZERO) {
-                return Err(ConnectError::TimedOut);
-            }
-            let patience = left.unwrap_or(CONNECT_PATIENCE).min(CONNECT_PATIENCE);
-            let opened: io::Result<Box<dyn ServerConnection>> = match transport {
-                TransportType::Udp => open_udp(server, self.local_addr).map(|it| Box::new(it) as _),
-                TransportType::Tcp => open_tcp(server, patience).map(|it| Box::new(it) as _),
+        first_opened(servers, until, |server, patience| {
+            let opened: Box<dyn ServerConnection> = match transport {
+                TransportType::Udp => Box::new(open_udp(server, self.local_addr)?),
+                TransportType::Tcp => Box::new(open_tcp(server, patience)?),
             };
-            match opened {
-                Ok(connection) => return Ok((server, connection)),
-                Err(error) => why = error,
-            }
-        }
-        Err(ConnectError::Unreachable(why))
+            Ok(opened)
+        })
     }
 
     /// Gets a relayed address over a connection that the program made: over TLS, or a socket with settings of its own.
@@ -174,4 +187,35 @@ impl ConnectOptions {
         let until = self.timeout.map(|it| Instant::now() + it);
         TurnSocket::allocate(Box::new(connection), config, self.channels, until)
     }
+}
+
+/// The addresses of a URI's server.
+fn servers(uri: &TurnUri) -> Result<Vec<SocketAddr>, ConnectError> {
+    if !uri.scheme().is_turn() {
+        return Err(ConnectError::NotTurn);
+    }
+    if uri.scheme().is_secure() {
+        return Err(ConnectError::WantsTls);
+    }
+    Ok(uri.to_socket_addrs().map_err(ConnectError::Unreachable)?.collect())
+}
+
+/// What can be opened to the first of these servers, with that server.
+fn first_opened<T>(
+    servers: &[SocketAddr],
+    until: Option<Instant>,
+    open: impl Fn(SocketAddr, Duration) -> io::Result<T>,
+) -> Result<(SocketAddr, T), ConnectError> {
+    let mut why = io::Error::new(ErrorKind::NotFound, "the host has no address");
+    for &server in servers {
+        let left = until.map(|it| it.saturating_duration_since(Instant::now()));
+        if left == Some(Duration::ZERO) {
+            return Err(ConnectError::TimedOut);
+        }
+        match open(server, left.unwrap_or(CONNECT_PATIENCE).min(CONNECT_PATIENCE)) {
+            Ok(opened) => return Ok((server, opened)),
+            Err(error) => why = error,
+        }
+    }
+    Err(ConnectError::Unreachable(why))
 }

@@ -11,6 +11,7 @@ use super::connection::ServerConnection;
 use super::error::{ConnectError, SocketError};
 use super::options::ConnectOptions;
 use super::session::{Incoming, Permission, SessionState, TurnSession};
+use super::setup::closed;
 use crate::api::{TransportType, TurnConfig, TurnCredentials};
 use crate::error::CredentialsError;
 use crate::uri::TurnUri;
@@ -454,11 +455,6 @@ impl TurnSocket {
         self.changed.notify_all();
         (inner, failed)
     }
-}
-
-/// The error of a stream that the server closed.
-fn closed() -> io::Error {
-    io::Error::new(io::ErrorKind::UnexpectedEof, "the server closed the connection")
 }
 
 /// A thread that reads. If the read panics the next thread that reads gets a buffer all the same.

@@ -33,9 +33,7 @@ pub struct Server {
 impl Server {
     pub fn start(transport: TransportType) -> Self {
         let package = Path::new(env!("CARGO_MANIFEST_DIR"));
-        let mut found = package
-            .ancestors()
-            .map(|it| it.join("tests/server/serve.py"));
+        let mut found = package.ancestors().map(|it| it.join("tests/server/serve.py"));
         let script = found.find(|it| it.is_file()).unwrap();
         let by = match transport {
             TransportType::Udp => "udp",
@@ -80,10 +78,7 @@ impl Server {
             if answer == wanted {
                 return;
             }
-            assert!(
-                Instant::now() < until,
-                "{command}: {answer}, and not {wanted}"
-            );
+            assert!(Instant::now() < until, "{command}: {answer}, and not {wanted}");
             std::thread::sleep(Duration::from_millis(10));
         }
     }
@@ -91,10 +86,7 @@ impl Server {
     /// How many signed requests of a method came.
     pub fn count(&mut self, method: u16) -> usize {
         let method = method.to_string();
-        self.tell("requests")
-            .split(' ')
-            .filter(|it| *it == method)
-            .count()
+        self.tell("requests").split(' ').filter(|it| *it == method).count()
     }
 
     pub fn uri(&self) -> TurnUri {
