@@ -1,7 +1,8 @@
-//! Sends payloads through a TURN server to a peer that sends them back, over `TurnSocket`. One thread sends, another one
-//! receives.
+//! Sends payloads through a TURN server to a peer that sends them back, over `TurnSocket`. One
+//! thread sends, another one receives.
 //!
-//!     TURN_PASSWORD=secret cargo run --example socket -- --server 127.0.0.1:3478 --user alice --peer 127.0.0.1:9000
+//!     TURN_PASSWORD=secret cargo run --example socket -- --server 127.0.0.1:3478 --user alice \
+//!         --peer 127.0.0.1:9000
 //!
 //! `--help` tells the options and the exit status. What it does is in `common/driven.rs`.
 

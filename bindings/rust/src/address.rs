@@ -73,7 +73,10 @@ mod tests {
     #[test]
     fn an_address_is_told_in_the_order_of_the_network() {
         let v4 = told("1.2.3.4:258".parse().unwrap());
-        assert_eq!((&v4.ip[..5], v4.port, v4.family), (&[1, 2, 3, 4, 0][..], 258, 4));
+        assert_eq!(
+            (&v4.ip[..5], v4.port, v4.family),
+            (&[1, 2, 3, 4, 0][..], 258, 4)
+        );
         let v6 = told("[102:304::ff]:9".parse().unwrap());
         assert_eq!(
             (&v6.ip[..5], v6.ip[15], v6.port, v6.family),

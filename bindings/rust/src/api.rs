@@ -115,9 +115,9 @@ pub struct TurnConfig {
 }
 
 impl TurnConfig {
-    /// An address of IPv4 over UDP is asked for, HMAC-SHA1 and HMAC-SHA256 are supported, of which the server's
-    /// strongest is taken, the name is hidden where the server can, requests are sent again as RFC 8489 says, the
-    /// client is hardened, and a REFRESH may shorten an allocation.
+    /// An address of IPv4 over UDP is asked for, HMAC-SHA1 and HMAC-SHA256 are supported, of which
+    /// the server's strongest is taken, the name is hidden where the server can, requests are sent
+    /// again as RFC 8489 says, the client is hardened, and a REFRESH may shorten an allocation.
     pub fn new(credentials: TurnCredentials) -> Self {
         Self {
             allocation_transport: TransportType::Udp,
@@ -191,9 +191,9 @@ impl TurnConfig {
         self.anonymous_username
     }
 
-    /// Sets whether the client is hardened. Then it ignores responses to no request of its own, refuses a challenge
-    /// that lacks the list of algorithms which its nonce announces, and ignores what doesn't validate while it
-    /// allocates.
+    /// Sets whether the client is hardened. Then it ignores responses to no request of its own,
+    /// refuses a challenge that lacks the list of algorithms which its nonce announces, and ignores
+    /// what doesn't validate while it allocates.
     pub fn set_hardened(&mut self, is_hardened: bool) {
         self.is_hardened = is_hardened;
     }
@@ -203,9 +203,10 @@ impl TurnConfig {
         self.is_hardened
     }
 
-    /// Sets how many connections of an allocation may wait for their socket while the client accepts one more that a
-    /// peer opens (RFC 6062); the next gets error 447. While as many messages wait to be sent, an attempt that would
-    /// get an error is ignored. 0 is 64, or no limit if the client isn't hardened.
+    /// Sets how many connections of an allocation may wait for their socket while the client
+    /// accepts one more that a peer opens (RFC 6062); the next gets error 447. While as many
+    /// messages wait to be sent, an attempt that would get an error is ignored. 0 is 64, or no
+    /// limit if the client isn't hardened.
     pub fn set_max_connection_attempts(&mut self, max_connection_attempts: usize) {
         self.max_connection_attempts = max_connection_attempts;
     }
@@ -215,9 +216,10 @@ impl TurnConfig {
         self.max_connection_attempts
     }
 
-    /// Sets whether a lifetime under 600 seconds in the response to a REFRESH is believed (RFC 8656, section 8.3), so that
-    /// it shortens the allocation. If not, such a response changes nothing, and the allocation may outlast the server's.
-    /// It is not believed anyway if the client isn't hardened. What the response to the ALLOCATE says is always believed.
+    /// Sets whether a lifetime under 600 seconds in the response to a REFRESH is believed (RFC
+    /// 8656, section 8.3), so that it shortens the allocation. If not, such a response changes
+    /// nothing, and the allocation may outlast the server's. It is not believed anyway if the
+    /// client isn't hardened. What the response to the ALLOCATE says is always believed.
     pub fn set_short_lifetimes(&mut self, is_believed: bool) {
         self.short_lifetimes = is_believed;
     }
@@ -227,10 +229,11 @@ impl TurnConfig {
         self.short_lifetimes
     }
 
-    /// Sets how requests are sent again over UDP: the wait behind the first, which each next one doubles, the longest
-    /// wait between two, how often a request is sent in all, and the wait behind the last. Where `retransmits` is
-    /// 0, all of it is as RFC 8489 says. Waits count in milliseconds, rounded up. Over TCP a request is sent once, and
-    /// waits as long as all of these together.
+    /// Sets how requests are sent again over UDP: the wait behind the first, which each next one
+    /// doubles, the longest wait between two, how often a request is sent in all, and the wait
+    /// behind the last. Where `retransmits` is 0, all of it is as RFC 8489 says. Waits count in
+    /// milliseconds, rounded up. Over TCP a request is sent once, and waits as long as all of these
+    /// together.
     pub fn set_request_retransmits(
         &mut self,
         initial: Duration,
@@ -247,7 +250,12 @@ impl TurnConfig {
     }
 
     /// All of it, told to C, for a client between two addresses.
-    pub(crate) fn told(&self, transport: TransportType, local: SocketAddr, server: SocketAddr) -> sys::turn_settings {
+    pub(crate) fn told(
+        &self,
+        transport: TransportType,
+        local: SocketAddr,
+        server: SocketAddr,
+    ) -> sys::turn_settings {
         let mut settings = sys::turn_settings {
             size: size_of::<sys::turn_settings>(),
             local: told(local),
@@ -308,8 +316,8 @@ pub struct Transmit<T> {
     pub data: T,
     /// By which transport they go.
     pub transport: TransportType,
-    /// Where they come from. Of what is to be sent over TCP it tells the connection to the server: the client's own,
-    /// or that of a peer.
+    /// Where they come from. Of what is to be sent over TCP it tells the connection to the server:
+    /// the client's own, or that of a peer.
     pub from: SocketAddr,
     /// Where they go.
     pub to: SocketAddr,
@@ -330,7 +338,12 @@ impl<T> Transmit<T> {
 impl<'a> Transmit<&'a [u8]> {
     /// What C says to send, with its bytes.
     pub(crate) fn read(data: &'a [u8], sent: &sys::turn_transmit) -> Self {
-        Self::new(data, read_transport(sent.transport), read(&sent.from), read(&sent.to))
+        Self::new(
+            data,
+            read_transport(sent.transport),
+            read(&sent.from),
+            read(&sent.to),
+        )
     }
 }
 
@@ -348,10 +361,11 @@ pub struct Socket5Tuple {
 /// What is to be done by the program, or until when nothing is.
 #[derive(Clone, Copy, Debug, PartialEq, Eq)]
 pub enum TurnPollRet {
-    /// Nothing is to be done until that moment, unless something comes or is asked for. Where it isn't later than now,
-    /// another turn is due at once.
+    /// Nothing is to be done until that moment, unless something comes or is asked for. Where it
+    /// isn't later than now, another turn is due at once.
     WaitUntil(Duration),
-    /// A connection to the server is to be opened. Tell of it by `allocated_tcp_socket`, and poll again.
+    /// A connection to the server is to be opened. Tell of it by `allocated_tcp_socket`, and poll
+    /// again.
     AllocateTcpSocket {
         /// The number of the connection.
         id: u32,
@@ -433,8 +447,8 @@ impl TurnRecvRet<'_> {
     }
 }
 
-/// Data of a peer. Where it stands in one piece in the bytes that came it is borrowed of them, for as long as they
-/// live. Over TCP it may have come in pieces: then it is a vector of its size.
+/// Data of a peer. Where it stands in one piece in the bytes that came it is borrowed of them, for
+/// as long as they live. Over TCP it may have come in pieces: then it is a vector of its size.
 #[derive(Clone, Debug, PartialEq, Eq)]
 pub struct TurnPeerData<'a> {
     data: Cow<'a, [u8]>,
@@ -448,7 +462,11 @@ impl<'a> TurnPeerData<'a> {
     /// Data of the peer that C told.
     pub(crate) fn read(data: Cow<'a, [u8]>, told: &sys::turn_payload) -> Self {
         let (transport, peer) = (read_transport(told.transport), read(&told.peer));
-        Self { data, transport, peer }
+        Self {
+            data,
+            transport,
+            peer,
+        }
     }
 
     /// The data.
@@ -527,9 +545,9 @@ pub enum TurnCause {
     Rejected {
         /// The response's error code, 300 to 699.
         code: u16,
-        /// Its reason phrase: the server's words, or those of whoever sent the response. Remove control characters
-        /// before it is printed. It is empty if the response had none. (One that isn't UTF-8 makes the response malformed:
-        /// [`Unusable`](Self::Unusable).)
+        /// Its reason phrase: the server's words, or those of whoever sent the response. Remove
+        /// control characters before it is printed. It is empty if the response had none. (One that
+        /// isn't UTF-8 makes the response malformed: [`Unusable`](Self::Unusable).)
         reason: String,
         /// Whether the response was validated under the password. If not, it may be anybody's.
         is_signed: bool,
@@ -538,15 +556,15 @@ pub enum TurnCause {
     Unanswered,
     /// The response wasn't signed, or not by the password.
     Integrity,
-    /// The server's challenge names no algorithm that the client supports, or lacks what the settings require, as to
-    /// hide the name.
+    /// The server's challenge names no algorithm that the client supports, or lacks what the
+    /// settings require, as to hide the name.
     NoCommonAlgorithm,
     /// The server allocated addresses of other families only.
     OtherFamily,
     /// Memory for the cause ran out, so it wasn't stored.
     OutOfMemory,
-    /// [`TurnClientApi::delete`](crate::TurnClientApi::delete) was called before: whatever fails or ends after it, by
-    /// a response or without one.
+    /// [`TurnClientApi::delete`](crate::TurnClientApi::delete) was called before: whatever fails or
+    /// ends after it, by a response or without one.
     Deleted,
     /// Its time was over.
     Expired,
@@ -557,7 +575,8 @@ pub enum TurnCause {
 }
 
 impl TurnCause {
-    /// The cause that C reports, with its reason phrase; `None` if it reports none, or none of those above.
+    /// The cause that C reports, with its reason phrase; `None` if it reports none, or none of
+    /// those above.
     pub(crate) fn read(cause: &sys::turn_cause, reason: impl FnOnce() -> String) -> Option<Self> {
         Some(match cause.kind {
             sys::TURN_REJECTED => Self::Rejected {
@@ -607,7 +626,8 @@ pub struct Connection {
 mod tests {
     use super::*;
 
-    /// What is set takes the place of what was, and what is added stands beside it, once. The bits are the header's.
+    /// What is set takes the place of what was, and what is added stands beside it, once. The bits
+    /// are the header's.
     #[test]
     fn settings_are_told_as_bits() {
         let (local, server) = (
@@ -620,15 +640,27 @@ mod tests {
             (told.families, told.integrity)
         };
         assert_eq!(bits(&config), (1, 3));
-        let compatible = |config: &TurnConfig| config.told(TransportType::Udp, local, server).compatible;
+        let compatible =
+            |config: &TurnConfig| config.told(TransportType::Udp, local, server).compatible;
         assert_eq!(compatible(&config), 0);
         config.set_hardened(false);
         assert_eq!(compatible(&config), 1);
-        let attempts = |config: &TurnConfig| config.told(TransportType::Udp, local, server).max_connection_attempts;
+        let attempts = |config: &TurnConfig| {
+            config
+                .told(TransportType::Udp, local, server)
+                .max_connection_attempts
+        };
         assert_eq!(attempts(&config), 0);
         config.set_max_connection_attempts(7);
-        assert_eq!((attempts(&config), config.max_connection_attempts()), (7, 7));
-        let ignored = |config: &TurnConfig| config.told(TransportType::Udp, local, server).ignore_short_lifetimes;
+        assert_eq!(
+            (attempts(&config), config.max_connection_attempts()),
+            (7, 7)
+        );
+        let ignored = |config: &TurnConfig| {
+            config
+                .told(TransportType::Udp, local, server)
+                .ignore_short_lifetimes
+        };
         assert_eq!((ignored(&config), config.short_lifetimes()), (0, true));
         config.set_short_lifetimes(false);
         assert_eq!((ignored(&config), config.short_lifetimes()), (1, false));
@@ -647,14 +679,20 @@ mod tests {
         config.set_supported_integrity(IntegrityAlgorithm::Sha512);
         assert_eq!(bits(&config), (3, 4));
         assert_eq!(
-            (config.address_families().len(), config.supported_integrity().len()),
+            (
+                config.address_families().len(),
+                config.supported_integrity().len()
+            ),
             (2, 1)
         );
     }
 
     #[test]
     fn a_password_is_not_printed() {
-        let printed = format!("{:?}", TurnConfig::new(TurnCredentials::new("alice", "secret")));
+        let printed = format!(
+            "{:?}",
+            TurnConfig::new(TurnCredentials::new("alice", "secret"))
+        );
         assert!(printed.contains("alice") && !printed.contains("secret"));
     }
 

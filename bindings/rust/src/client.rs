@@ -9,17 +9,21 @@ use std::time::Duration;
 
 use crate::address::{read, read_transport, told, told_ip, told_moment, told_transport};
 use crate::api::{
-    Channel, Connection, Transmit, TransportType, TurnCause, TurnConfig, TurnCredentials, TurnEvent, TurnPeerData,
-    TurnPollRet, TurnRecvRet,
+    Channel, Connection, Transmit, TransportType, TurnCause, TurnConfig, TurnCredentials,
+    TurnEvent, TurnPeerData, TurnPollRet, TurnRecvRet,
 };
 use crate::error::{
-    AllocateError, BindChannelError, CreatePermissionError, CredentialsError, DeleteError, PollError,
-    PollTransmitError, RecvError, SendError, SoftwareError, TcpAllocateError, TcpClosedError, TcpConnectError,
+    AllocateError, BindChannelError, CreatePermissionError, CredentialsError, DeleteError,
+    PollError, PollTransmitError, RecvError, SendError, SoftwareError, TcpAllocateError,
+    TcpClosedError, TcpConnectError,
 };
 use crate::sys;
 
 /// Bytes of a buffer that any message fits in, and any data over UDP that is one byte too long.
-const OUT_MIN: usize = max(sys::TURN_MESSAGE_MAX, sys::TURN_PAYLOAD_MAX + 1 + sys::TURN_SEND_EXTRA);
+const OUT_MIN: usize = max(
+    sys::TURN_MESSAGE_MAX,
+    sys::TURN_PAYLOAD_MAX + 1 + sys::TURN_SEND_EXTRA,
+);
 
 const fn max(one: usize, other: usize) -> usize {
     if one > other {
@@ -42,8 +46,8 @@ pub struct Handle {
     unread: Option<sys::turn_payload>,
 }
 
-// SAFETY: by the header a handle may go to another thread between two calls, and all calls are made through a borrow of
-// it. It isn't `Sync`: getters borrow it shared, and call C with it.
+// SAFETY: by the header a handle may go to another thread between two calls, and all calls are made
+// through a borrow of it. It isn't `Sync`: getters borrow it shared, and call C with it.
 unsafe impl Send for Handle {}
 
 impl Drop for Handle {
@@ -96,9 +100,17 @@ impl Handle {
             unread: None,
         };
         let settings = config.told(transport, local_addr, remote_addr);
-        let (name, password) = (config.credentials().username(), config.credentials().password());
-        let (name_at, password_at, seed) = (name.as_ptr(), password.as_ptr(), sys::turn_seed { bytes: seed });
-        // SAFETY: the handle isn't open; pointers and lengths are of texts that live as long as the call.
+        let (name, password) = (
+            config.credentials().username(),
+            config.credentials().password(),
+        );
+        let (name_at, password_at, seed) = (
+            name.as_ptr(),
+            password.as_ptr(),
+            sys::turn_seed { bytes: seed },
+        );
+        // SAFETY: the handle isn't open; pointers and lengths are of texts that live as long as the
+        // call.
         let status = unsafe {
             sys::turn_client_open(
                 handle.at(),
@@ -126,7 +138,11 @@ impl Handle {
     }
 
     /// Data of a peer that C told, by the bytes that came with it.
-    fn peer_data<'a>(&mut self, payload: &sys::turn_payload, came: &'a [u8]) -> Result<TurnRecvRet<'a>, RecvError> {
+    fn peer_data<'a>(
+        &mut self,
+        payload: &sys::turn_payload,
+        came: &'a [u8],
+    ) -> Result<TurnRecvRet<'a>, RecvError> {
         if payload.is_joined {
             return match self.joined(payload) {
                 Err(RecvError::Unread) => Ok(TurnRecvRet::Handled),
@@ -134,11 +150,17 @@ impl Handle {
             };
         }
         let behind = came.get(payload.start..).unwrap_or_default();
-        let data = behind.get(..payload.size).ok_or(RecvError::Other(sys::TURN_PAYLOAD))?;
-        Ok(TurnRecvRet::PeerData(TurnPeerData::read(Cow::Borrowed(data), payload)))
+        let data = behind
+            .get(..payload.size)
+            .ok_or(RecvError::Other(sys::TURN_PAYLOAD))?;
+        Ok(TurnRecvRet::PeerData(TurnPeerData::read(
+            Cow::Borrowed(data),
+            payload,
+        )))
     }
 
-    /// Data of a peer whose bytes wait in the client. They wait on where there is no memory for them.
+    /// Data of a peer whose bytes wait in the client. They wait on where there is no memory for
+    /// them.
     fn joined(&mut self, payload: &sys::turn_payload) -> Result<TurnPeerData<'static>, RecvError> {
         let mut bytes = Vec::new();
         if !make_room(&mut bytes, payload.size) {
@@ -147,7 +169,8 @@ impl Handle {
         }
         if payload.size > 0 {
             // SAFETY: the vector has that many bytes.
-            let status = unsafe { sys::turn_client_read(self.at(), bytes.as_mut_ptr(), bytes.len()) };
+            let status =
+                unsafe { sys::turn_client_read(self.at(), bytes.as_mut_ptr(), bytes.len()) };
             if status != sys::TURN_OK {
                 return Err(RecvError::of(status));
             }
@@ -169,22 +192,34 @@ impl Handle {
     /// What C reports of the event that was taken last.
     fn cause(&self) -> sys::turn_cause {
         let mut cause = sys::turn_cause::default();
-        // SAFETY: both pointers are of values that live as long as the call. An open handle refuses nothing.
+        // SAFETY: both pointers are of values that live as long as the call. An open handle refuses
+        // nothing.
         unsafe { sys::turn_client_cause(self.at(), &mut cause) };
         cause
     }
 
-    /// A text of so many bytes that a call copies; `None` if there is no such text, or no memory for it.
-    fn text(&self, size: usize, copy: impl Fn(*mut sys::turn_client, *mut u8, usize) -> i32) -> Option<String> {
+    /// A text of so many bytes that a call copies; `None` if there is no such text, or no memory
+    /// for it.
+    fn text(
+        &self,
+        size: usize,
+        copy: impl Fn(*mut sys::turn_client, *mut u8, usize) -> i32,
+    ) -> Option<String> {
         let mut bytes = Vec::new();
-        if !make_room(&mut bytes, size) || copy(self.at(), bytes.as_mut_ptr(), bytes.len()) != sys::TURN_OK {
+        if !make_room(&mut bytes, size)
+            || copy(self.at(), bytes.as_mut_ptr(), bytes.len()) != sys::TURN_OK
+        {
             return None;
         }
         String::from_utf8(bytes).ok()
     }
 
-    /// All that a getter shows. It is asked how many there are first: none comes or goes before it is asked again.
-    fn list<T: Clone + Default>(&self, get: impl Fn(*mut sys::turn_client, *mut T, usize) -> usize) -> Vec<T> {
+    /// All that a getter shows. It is asked how many there are first: none comes or goes before it
+    /// is asked again.
+    fn list<T: Clone + Default>(
+        &self,
+        get: impl Fn(*mut sys::turn_client, *mut T, usize) -> usize,
+    ) -> Vec<T> {
         let count = get(self.at(), NonNull::dangling().as_ptr(), 0);
         let mut held = vec![T::default(); count];
         let shown = get(self.at(), held.as_mut_ptr(), held.len());
@@ -229,7 +264,8 @@ pub trait HasHandle: fmt::Debug + Send {
 /// The calls of a client, over either transport. The two clients have them, and nothing else can.
 ///
 /// Moments are what the program's clock showed since a start of its own, as `start.elapsed()` of a
-/// [`std::time::Instant`]: none earlier than one that was handed in before, else renewals may come at the wrong time.
+/// [`std::time::Instant`]: none earlier than one that was handed in before, else renewals may come
+/// at the wrong time.
 pub trait TurnClientApi: HasHandle {
     /// The transport to the server.
     fn transport(&self) -> TransportType {
@@ -261,7 +297,8 @@ pub trait TurnClientApi: HasHandle {
     fn permissions(&self, transport: TransportType, relayed: SocketAddr) -> Vec<IpAddr> {
         let (number, relayed) = (told_transport(transport), told(relayed));
         let held = self.handle().list(|at, out, room| {
-            // SAFETY: `list` hands in a handle, and a place with its room; the address lives as long as the call.
+            // SAFETY: `list` hands in a handle, and a place with its room; the address lives as
+            // long as the call.
             unsafe { sys::turn_client_permissions(at, number, &relayed, out, room) }
         });
         held.iter().map(|it| read(it).ip()).collect()
@@ -270,7 +307,13 @@ pub trait TurnClientApi: HasHandle {
     /// Whether a permission for an address stands.
     fn have_permission(&self, transport: TransportType, to: IpAddr) -> bool {
         // SAFETY: both pointers are of values that live as long as the call.
-        unsafe { sys::turn_client_is_permitted(self.handle().at(), told_transport(transport), &told_ip(to)) }
+        unsafe {
+            sys::turn_client_is_permitted(
+                self.handle().at(),
+                told_transport(transport),
+                &told_ip(to),
+            )
+        }
     }
 
     /// The channels.
@@ -301,12 +344,14 @@ pub trait TurnClientApi: HasHandle {
         held.iter().map(connection).collect()
     }
 
-    /// Sets other credentials, which replace the present ones with the next challenge that the client accepts: for
-    /// passwords that expire. Until then it signs and validates as before. Call it before they expire, once the server
-    /// accepts the others: each challenge counts, also that for a stale nonce.
+    /// Sets other credentials, which replace the present ones with the next challenge that the
+    /// client accepts: for passwords that expire. Until then it signs and validates as before. Call
+    /// it before they expire, once the server accepts the others: each challenge counts, also that
+    /// for a stale nonce.
     fn set_credentials(&mut self, credentials: &TurnCredentials) -> Result<(), CredentialsError> {
         let (name, password) = (credentials.username(), credentials.password());
-        // SAFETY: the handle is open; pointers and lengths are of texts that live as long as the call.
+        // SAFETY: the handle is open; pointers and lengths are of texts that live as long as the
+        // call.
         let status = unsafe {
             sys::turn_client_credentials(
                 self.handle_mut().at(),
@@ -319,61 +364,77 @@ pub trait TurnClientApi: HasHandle {
         outcome(status, CredentialsError::of)
     }
 
-    /// Sets the text of SOFTWARE (RFC 8489, section 14.14), which requests carry from now on; an empty text for none, as
-    /// at first. It has at most [`SOFTWARE_MAX`](crate::SOFTWARE_MAX) bytes. Call it before the first `poll_transmit` to
-    /// have it in each.
+    /// Sets the text of SOFTWARE (RFC 8489, section 14.14), which requests carry from now on; an
+    /// empty text for none, as at first. It has at most [`SOFTWARE_MAX`](crate::SOFTWARE_MAX)
+    /// bytes. Call it before the first `poll_transmit` to have it in each.
     fn set_software(&mut self, text: &str) -> Result<(), SoftwareError> {
-        // SAFETY: the handle is open; pointer and length are of a text that lives as long as the call.
-        let status = unsafe { sys::turn_client_software(self.handle_mut().at(), text.as_ptr(), text.len()) };
+        // SAFETY: the handle is open; pointer and length are of a text that lives as long as the
+        // call.
+        let status =
+            unsafe { sys::turn_client_software(self.handle_mut().at(), text.as_ptr(), text.len()) };
         outcome(status, SoftwareError::of)
     }
 
-    /// Sets whether requests end with FINGERPRINT (RFC 8489, section 14.7) from now on. At first they don't.
+    /// Sets whether requests end with FINGERPRINT (RFC 8489, section 14.7) from now on. At first
+    /// they don't.
     fn set_fingerprint(&mut self, fingerprint: bool) {
-        // SAFETY: the handle is open, and borrowed for this call alone; the call refuses nothing else.
+        // SAFETY: the handle is open, and borrowed for this call alone; the call refuses nothing
+        // else.
         let status = unsafe { sys::turn_client_fingerprint(self.handle_mut().at(), fingerprint) };
         debug_assert_eq!(status, sys::TURN_OK);
     }
 
-    /// Asks for the end of the allocations, which are over for the client at once: take turns until `poll` answers
-    /// `Closed`. A client that is dropped tells the server nothing.
+    /// Asks for the end of the allocations, which are over for the client at once: take turns until
+    /// `poll` answers `Closed`. A client that is dropped tells the server nothing.
     fn delete(&mut self, now: Duration) -> Result<(), DeleteError> {
         // SAFETY: the handle is open, and borrowed for this call alone.
         let status = unsafe { sys::turn_client_delete(self.handle_mut().at(), told_moment(now)) };
         outcome(status, DeleteError::of)
     }
 
-    /// Asks for a permission for the address of a peer. It stands for 300 seconds, and the client renews it.
+    /// Asks for a permission for the address of a peer. It stands for 300 seconds, and the client
+    /// renews it.
     fn create_permission(
         &mut self,
         transport: TransportType,
         peer_addr: IpAddr,
         now: Duration,
     ) -> Result<(), CreatePermissionError> {
-        let (at, number, peer) = (self.handle_mut().at(), told_transport(transport), told_ip(peer_addr));
+        let (at, number, peer) = (
+            self.handle_mut().at(),
+            told_transport(transport),
+            told_ip(peer_addr),
+        );
         // SAFETY: both pointers are of values that live as long as the call.
         let status = unsafe { sys::turn_client_permit(at, number, &peer, told_moment(now)) };
         outcome(status, CreatePermissionError::of)
     }
 
-    /// Asks for a channel to a peer, and for the permission where none stands. It stands for 600 seconds, and the
-    /// client renews it.
+    /// Asks for a channel to a peer, and for the permission where none stands. It stands for 600
+    /// seconds, and the client renews it.
     fn bind_channel(
         &mut self,
         transport: TransportType,
         peer_addr: SocketAddr,
         now: Duration,
     ) -> Result<(), BindChannelError> {
-        let (at, number, peer) = (self.handle_mut().at(), told_transport(transport), told(peer_addr));
+        let (at, number, peer) = (
+            self.handle_mut().at(),
+            told_transport(transport),
+            told(peer_addr),
+        );
         let mut until = 0;
         // SAFETY: the pointers are of values that live as long as the call.
         match unsafe { sys::turn_client_bind(at, number, &peer, told_moment(now), &mut until) } {
-            sys::TURN_EXPIRED_CHANNEL => Err(BindChannelError::ExpiredChannelExists(Duration::from_nanos(until))),
+            sys::TURN_EXPIRED_CHANNEL => Err(BindChannelError::ExpiredChannelExists(
+                Duration::from_nanos(until),
+            )),
             status => outcome(status, BindChannelError::of),
         }
     }
 
-    /// Asks for a connection to a peer, over an allocation over TCP. `poll` then asks for its socket.
+    /// Asks for a connection to a peer, over an allocation over TCP. `poll` then asks for its
+    /// socket.
     fn tcp_connect(&mut self, peer_addr: SocketAddr, now: Duration) -> Result<(), TcpConnectError> {
         let (at, peer) = (self.handle_mut().at(), told(peer_addr));
         // SAFETY: both pointers are of values that live as long as the call.
@@ -381,8 +442,8 @@ pub trait TurnClientApi: HasHandle {
         outcome(status, TcpConnectError::of)
     }
 
-    /// Tells the own address of the socket that was opened for a connection, by the number and the peer that `poll`
-    /// told; or `None`, that no socket was opened.
+    /// Tells the own address of the socket that was opened for a connection, by the number and the
+    /// peer that `poll` told; or `None`, that no socket was opened.
     fn allocated_tcp_socket(
         &mut self,
         id: u32,
@@ -410,9 +471,9 @@ pub trait TurnClientApi: HasHandle {
         outcome(status, TcpClosedError::of)
     }
 
-    /// Writes what carries data to a peer: a channel frame, an indication, or over a connection the bytes as they are.
-    /// What is written stands in the client's buffer, which has 64 kB, and over a connection grows with the data. Send
-    /// it at once: it isn't kept behind the next call.
+    /// Writes what carries data to a peer: a channel frame, an indication, or over a connection the
+    /// bytes as they are. What is written stands in the client's buffer, which has 64 kB, and over
+    /// a connection grows with the data. Send it at once: it isn't kept behind the next call.
     fn send_to(
         &mut self,
         transport: TransportType,
@@ -425,25 +486,35 @@ pub trait TurnClientApi: HasHandle {
             TransportType::Tcp => data,
         };
         let handle = self.handle_mut();
-        if !make_room(&mut handle.out, data.len().saturating_add(sys::TURN_SEND_EXTRA)) {
+        if !make_room(
+            &mut handle.out,
+            data.len().saturating_add(sys::TURN_SEND_EXTRA),
+        ) {
             return Err(SendError::NoMemory);
         }
         let (at, number, peer) = (handle.at(), told_transport(transport), told(to));
         let (out, out_len) = (handle.out.as_mut_ptr(), handle.out.len());
         let mut sent = sys::turn_transmit::default();
-        // SAFETY: pointers and lengths are of memory that lives as long as the call; the buffer is the client's own, so
-        // the data doesn't lie in it.
+        // SAFETY: pointers and lengths are of memory that lives as long as the call; the buffer is
+        // the client's own, so the data doesn't lie in it.
         let status = unsafe {
             let (data_at, data_len, now) = (data.as_ptr(), data.len(), told_moment(now));
-            sys::turn_client_send(at, number, &peer, data_at, data_len, now, out, out_len, &mut sent)
+            sys::turn_client_send(
+                at, number, &peer, data_at, data_len, now, out, out_len, &mut sent,
+            )
         };
         outcome(status, SendError::of)?;
         handle.sent(&sent).ok_or(SendError::Other(status))
     }
 
-    /// Hands in what came: a datagram, or what was read of a TCP connection to the server, cut anywhere. Over TCP no
-    /// bytes tell that the server closed it; call `poll_recv` behind this until it answers `None`.
-    fn recv<'a>(&mut self, transmit: Transmit<&'a [u8]>, now: Duration) -> Result<TurnRecvRet<'a>, RecvError> {
+    /// Hands in what came: a datagram, or what was read of a TCP connection to the server, cut
+    /// anywhere. Over TCP no bytes tell that the server closed it; call `poll_recv` behind this
+    /// until it answers `None`.
+    fn recv<'a>(
+        &mut self,
+        transmit: Transmit<&'a [u8]>,
+        now: Duration,
+    ) -> Result<TurnRecvRet<'a>, RecvError> {
         let handle = self.handle_mut();
         if transmit.transport != handle.transport {
             return Ok(TurnRecvRet::Ignored(transmit));
@@ -478,12 +549,16 @@ pub trait TurnClientApi: HasHandle {
     fn poll(&mut self, now: Duration) -> Result<TurnPollRet, PollError> {
         let mut wait = sys::turn_wait::default();
         // SAFETY: both pointers are of values that live as long as the call.
-        let status = unsafe { sys::turn_client_poll(self.handle_mut().at(), told_moment(now), &mut wait) };
+        let status =
+            unsafe { sys::turn_client_poll(self.handle_mut().at(), told_moment(now), &mut wait) };
         TurnPollRet::read(status, &wait).ok_or(PollError::of(status))
     }
 
     /// The next message to send. Its bytes stand in the client's buffer.
-    fn poll_transmit(&mut self, now: Duration) -> Result<Option<Transmit<&[u8]>>, PollTransmitError> {
+    fn poll_transmit(
+        &mut self,
+        now: Duration,
+    ) -> Result<Option<Transmit<&[u8]>>, PollTransmitError> {
         let handle = self.handle_mut();
         let (at, out, out_len) = (handle.at(), handle.out.as_mut_ptr(), handle.out.len());
         let mut sent = sys::turn_transmit::default();
@@ -510,15 +585,15 @@ pub trait TurnClientApi: HasHandle {
         }
     }
 
-    /// Takes the event that has waited longest, as [`poll_event`](Self::poll_event) does, with its cause: `None` for
-    /// one that reports no failure.
+    /// Takes the event that has waited longest, as [`poll_event`](Self::poll_event) does, with its
+    /// cause: `None` for one that reports no failure.
     fn poll_event_with_cause(&mut self) -> Option<(TurnEvent, Option<TurnCause>)> {
         let event = self.poll_event()?;
         Some((event, self.cause()))
     }
 
-    /// Returns why the event happened that was taken last, until another is taken. `None` if it reports no failure, or
-    /// none was taken yet.
+    /// Returns why the event happened that was taken last, until another is taken. `None` if it
+    /// reports no failure, or none was taken yet.
     fn cause(&self) -> Option<TurnCause> {
         let (handle, cause) = (self.handle(), self.handle().cause());
         TurnCause::read(&cause, || {
@@ -530,8 +605,9 @@ pub trait TurnClientApi: HasHandle {
         })
     }
 
-    /// Returns the client's own address as the server saw it: the XOR-MAPPED-ADDRESS of the signed response that
-    /// allocated (RFC 8656, section 7.3). `None` before that, or if the response had no such address.
+    /// Returns the client's own address as the server saw it: the XOR-MAPPED-ADDRESS of the signed
+    /// response that allocated (RFC 8656, section 7.3). `None` before that, or if the response had
+    /// no such address.
     fn mapped_address(&self) -> Option<SocketAddr> {
         let mut mapped = sys::turn_address::default();
         // SAFETY: both pointers are of values that live as long as the call.
@@ -539,16 +615,16 @@ pub trait TurnClientApi: HasHandle {
         (status == sys::TURN_OK).then(|| read(&mapped))
     }
 
-    /// Returns the server that a response 300 named which ended the client (RFC 8489, section 10); `None` if there was
-    /// none. [`cause`](Self::cause) says whether that response was signed: if not, it may be anybody's. The client
-    /// doesn't follow it.
+    /// Returns the server that a response 300 named which ended the client (RFC 8489, section 10);
+    /// `None` if there was none. [`cause`](Self::cause) says whether that response was signed: if
+    /// not, it may be anybody's. The client doesn't follow it.
     fn alternate_server(&self) -> Option<SocketAddr> {
         let alternate = self.handle().cause().alternate;
         (alternate.family != 0).then(|| read(&alternate))
     }
 
-    /// Returns the name of the domain of that server (RFC 8489, section 14.16); `None` if the response had none, or
-    /// memory for it ran out.
+    /// Returns the name of the domain of that server (RFC 8489, section 14.16); `None` if the
+    /// response had none, or memory for it ran out.
     fn alternate_domain(&self) -> Option<String> {
         let handle = self.handle();
         // SAFETY: `text` passes a handle, and a place with its room.
@@ -568,8 +644,8 @@ macro_rules! client {
         }
 
         impl $name {
-            /// Makes a client that asks a server for an address, with a seed of the system's random bytes
-            /// (getrandom). Nothing is sent yet: `poll_transmit` gives the first request.
+            /// Makes a client that asks a server for an address, with a seed of the system's random
+            /// bytes (getrandom). Nothing is sent yet: `poll_transmit` gives the first request.
             pub fn new(
                 local_addr: SocketAddr,
                 remote_addr: SocketAddr,
@@ -580,8 +656,9 @@ macro_rules! client {
 
             /// Does what `new` does, with a seed of the program's own.
             ///
-            /// The 32 bytes come from the system's source of random bytes, and from nowhere else: whoever knows them
-            /// can forge answers, and two clients with the same confuse each other's. Only a seed of zeros is refused.
+            /// The 32 bytes come from the system's source of random bytes, and from nowhere else:
+            /// whoever knows them can forge answers, and two clients with the same confuse each
+            /// other's. Only a seed of zeros is refused.
             pub fn allocate(
                 local_addr: SocketAddr,
                 remote_addr: SocketAddr,
@@ -631,8 +708,8 @@ client! {
 }
 
 client! {
-    /// A client over TCP. What it is handed is a stream, cut anywhere. Its allocation is over UDP, or over TCP where
-    /// the settings say so: then it has connections to peers.
+    /// A client over TCP. What it is handed is a stream, cut anywhere. Its allocation is over UDP,
+    /// or over TCP where the settings say so: then it has connections to peers.
     ///
     /// ```
     /// use std::time::Duration;

@@ -6,8 +6,8 @@ use std::time::Duration;
 
 use crate::sys;
 
-/// Makes an enum of refusals. The text of each is its documentation, and what it prints. One behind `+` holds a value,
-/// which its call fills in.
+/// Makes an enum of refusals. The text of each is its documentation, and what it prints. One behind
+/// `+` holds a value, which its call fills in.
 macro_rules! refusals {
     (
         $(#[$about:meta])*
@@ -173,7 +173,10 @@ mod tests {
     #[test]
     fn a_status_that_a_call_does_not_have_is_told_as_it_is() {
         assert_eq!(DeleteError::of(UNKNOWN), DeleteError::Other(UNKNOWN));
-        assert_eq!(DeleteError::of(sys::TURN_NO_CHANNEL), DeleteError::Other(-12));
+        assert_eq!(
+            DeleteError::of(sys::TURN_NO_CHANNEL),
+            DeleteError::Other(-12)
+        );
         assert!(DeleteError::of(UNKNOWN).to_string().contains("-99"));
     }
 

@@ -10,8 +10,8 @@ use std::time::{Duration, Instant};
 use server::{config, Server, ALLOCATE, CHANNEL_BIND, CREATE_PERMISSION, MAPPED, REFRESH, RELAYED};
 use turn_client::driver::{ConnectOptions, StreamConnection, INCOMING_MAX};
 use turn_client::{
-    AllocateError, ConnectError, SocketError, TransportType, TurnCause, TurnConfig, TurnCredentials, TurnSocket,
-    PAYLOAD_MAX,
+    AllocateError, ConnectError, SocketError, TransportType, TurnCause, TurnConfig,
+    TurnCredentials, TurnSocket, PAYLOAD_MAX,
 };
 
 const BOTH: [TransportType; 2] = [TransportType::Udp, TransportType::Tcp];
@@ -40,7 +40,12 @@ fn received(socket: &TurnSocket) -> Result<(String, SocketAddr), SocketError> {
 }
 
 fn is_rejected(cause: Option<&TurnCause>, wanted: u16, signed: bool) -> bool {
-    matches!(cause, Some(TurnCause::Rejected { code, is_signed, .. }) if (*code, *is_signed) == (wanted, signed))
+    match cause {
+        Some(TurnCause::Rejected {
+            code, is_signed, ..
+        }) => (*code, *is_signed) == (wanted, signed),
+        _ => false,
+    }
 }
 
 // ---- datagrams
@@ -53,7 +58,10 @@ fn datagrams_go_both_ways() {
         assert_eq!(socket.relayed_addr(), RELAYED.parse().unwrap());
         assert_eq!(socket.relayed_addrs(), [RELAYED.parse().unwrap()]);
         assert_eq!(socket.mapped_addr(), Some(MAPPED.parse().unwrap()));
-        assert_eq!((socket.server_addr(), socket.transport()), (server.address, transport));
+        assert_eq!(
+            (socket.server_addr(), socket.transport()),
+            (server.address, transport)
+        );
         assert_ne!(socket.local_addr().port(), 0);
         assert_eq!(socket.send_to(b"one", peer()).unwrap(), 3);
         assert_eq!(received(&socket).unwrap(), ("one".to_string(), peer()));
@@ -70,7 +78,10 @@ fn datagrams_go_both_ways() {
         socket.close().unwrap();
         assert_eq!(server.tell("lifetimes"), "0");
         assert!(matches!(socket.close(), Err(SocketError::Closed)));
-        assert!(matches!(socket.send_to(b"late", peer()), Err(SocketError::Closed)));
+        assert!(matches!(
+            socket.send_to(b"late", peer()),
+            Err(SocketError::Closed)
+        ));
         assert!(matches!(received(&socket), Err(SocketError::Closed)));
     }
 }
@@ -91,7 +102,9 @@ fn any_stream_over_tcp_is_a_connection() {
     let server = Server::start(TransportType::Tcp);
     let stream = TcpStream::connect(server.address).unwrap();
     let connection = StreamConnection::new(stream.try_clone().unwrap(), stream).unwrap();
-    let socket = ConnectOptions::new().connect_over(connection, config()).unwrap();
+    let socket = ConnectOptions::new()
+        .connect_over(connection, config())
+        .unwrap();
     socket.send_to(b"hello", peer()).unwrap();
     assert_eq!(received(&socket).unwrap(), ("hello".to_string(), peer()));
     socket.close().unwrap();
@@ -175,10 +188,15 @@ fn a_rejected_permission_is_told_with_its_cause() {
         let mut server = Server::start(transport);
         let socket = connect(&server);
         server.does(&format!("rejects {CREATE_PERMISSION} 403"));
-        for refused in [socket.permit(peer().ip()), socket.send_to(b"one", peer()).map(|_| ())] {
+        for refused in [
+            socket.permit(peer().ip()),
+            socket.send_to(b"one", peer()).map(|_| ()),
+        ] {
             let error = refused.unwrap_err();
             assert!(is_rejected(error.cause(), 403, true), "{error}");
-            assert!(matches!(error, SocketError::PeerRefused { peer: it, .. } if it == peer().ip()));
+            assert!(
+                matches!(error, SocketError::PeerRefused { peer: it, .. } if it == peer().ip())
+            );
             // the reason phrase of the server has a control character
             assert_eq!(
                 error.to_string(),
@@ -187,7 +205,10 @@ fn a_rejected_permission_is_told_with_its_cause() {
         }
         server.does(&format!("rejects {CREATE_PERMISSION} 0"));
         socket.send_to(b"two", other_peer()).unwrap();
-        assert_eq!(received(&socket).unwrap(), ("two".to_string(), other_peer()));
+        assert_eq!(
+            received(&socket).unwrap(),
+            ("two".to_string(), other_peer())
+        );
     }
 }
 
@@ -222,10 +243,16 @@ fn a_report_about_a_peer_is_told() {
     socket.permit(peer().ip()).unwrap();
     server.does("icmp 198.51.100.1:9000");
     let error = received(&socket).unwrap_err();
-    assert!(
-        matches!(error, SocketError::PeerUnreachable { peer: it, icmp_type: 3, icmp_code: 3, icmp_data: 5 } if it == peer()),
-        "{error:?}"
-    );
+    let SocketError::PeerUnreachable {
+        peer: of,
+        icmp_type,
+        icmp_code,
+        icmp_data,
+    } = error
+    else {
+        panic!("{error:?}");
+    };
+    assert_eq!((of, icmp_type, icmp_code, icmp_data), (peer(), 3, 3, 5));
     server.does("data 198.51.100.1:9000 n 1");
     assert_eq!(received(&socket).unwrap().0, "n0");
 }
@@ -253,7 +280,9 @@ fn two_threads_may_wait_for_one_permission() {
     let mut server = Server::start(TransportType::Udp);
     let socket = connect(&server);
     thread::scope(|scope| {
-        let waiting: Vec<_> = (0..4).map(|_| scope.spawn(|| socket.permit(peer().ip()))).collect();
+        let waiting: Vec<_> = (0..4)
+            .map(|_| scope.spawn(|| socket.permit(peer().ip())))
+            .collect();
         for it in waiting {
             it.join().unwrap().unwrap();
         }
@@ -304,7 +333,10 @@ fn a_closed_connection_to_the_server_is_the_end() {
     let socket = connect(&server);
     server.does("hang up");
     let error = received(&socket).unwrap_err();
-    assert!(matches!(error, SocketError::Lost { cause: None }), "{error:?}");
+    assert!(
+        matches!(error, SocketError::Lost { cause: None }),
+        "{error:?}"
+    );
     assert!(matches!(
         socket.send_to(b"late", peer()),
         Err(SocketError::Lost { cause: None })
@@ -338,7 +370,9 @@ fn a_silent_server_is_given_up_in_time() {
     let mut server = Server::start(TransportType::Udp);
     server.does(&format!("silent {ALLOCATE}"));
     let began = Instant::now();
-    let made = ConnectOptions::new().timeout(SOON).connect(&server.uri(), config());
+    let made = ConnectOptions::new()
+        .timeout(SOON)
+        .connect(&server.uri(), config());
     assert!(matches!(made, Err(ConnectError::TimedOut)), "{made:?}");
     assert!((SOON..PATIENCE).contains(&began.elapsed()));
 }
@@ -350,10 +384,8 @@ fn an_absent_server_is_unreachable() {
     drop(listener);
     let uri = format!("turn:{address}?transport=tcp").parse().unwrap();
     let error = TurnSocket::connect(&uri, config()).unwrap_err();
-    assert!(
-        matches!(&error, ConnectError::Unreachable(why) if why.kind() == ErrorKind::ConnectionRefused),
-        "{error:?}"
-    );
+    assert!(matches!(error, ConnectError::Unreachable(_)), "{error:?}");
+    assert_eq!(io::Error::from(error).kind(), ErrorKind::ConnectionRefused);
 }
 
 #[test]
@@ -366,7 +398,8 @@ fn a_server_that_hangs_up_is_unreachable() {
     closing.join().unwrap();
 }
 
-/// RFC 8489, section 10. The server that is named is asked only if the program says so, and none twice.
+/// RFC 8489, section 10. The server that is named is asked only if the program says so, and none
+/// twice.
 #[test]
 fn another_server_is_asked_only_if_told_so() {
     for transport in BOTH {
@@ -385,7 +418,10 @@ fn another_server_is_asked_only_if_told_so() {
         assert_eq!(*alternate_server, Some(second.address));
         assert_eq!(alternate_domain.as_deref(), Some("localhost"));
         assert_eq!(second.tell("unsigned"), "0");
-        let socket = ConnectOptions::new().follow(1).connect(&first.uri(), config()).unwrap();
+        let socket = ConnectOptions::new()
+            .follow(1)
+            .connect(&first.uri(), config())
+            .unwrap();
         assert_eq!(socket.server_addr(), second.address);
         drop(socket);
         second.does(&format!("elsewhere {}", first.address));
@@ -399,14 +435,24 @@ fn another_server_is_asked_only_if_told_so() {
 
 #[test]
 fn what_is_given_may_be_refused() {
-    let connect = |uri: &str, config| TurnSocket::connect(&uri.parse().unwrap(), config).unwrap_err();
-    assert!(matches!(connect("turns:127.0.0.1", config()), ConnectError::WantsTls));
-    assert!(matches!(connect("stun:127.0.0.1", config()), ConnectError::NotTurn));
+    let connect =
+        |uri: &str, config| TurnSocket::connect(&uri.parse().unwrap(), config).unwrap_err();
+    assert!(matches!(
+        connect("turns:127.0.0.1", config()),
+        ConnectError::WantsTls
+    ));
+    assert!(matches!(
+        connect("stun:127.0.0.1", config()),
+        ConnectError::NotTurn
+    ));
     let mut over_tcp = config();
     over_tcp.set_allocation_transport(TransportType::Tcp);
     let refused = connect("turn:127.0.0.1", over_tcp);
     assert!(matches!(refused, ConnectError::AllocationTransport));
     let long = TurnConfig::new(TurnCredentials::new(&"a".repeat(600), "secret"));
     let refused = connect("turn:127.0.0.1", long);
-    assert!(matches!(refused, ConnectError::Settings(AllocateError::LongName)));
+    assert!(matches!(
+        refused,
+        ConnectError::Settings(AllocateError::LongName)
+    ));
 }

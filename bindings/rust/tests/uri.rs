@@ -1,4 +1,5 @@
-//! URIs: the rows of RFC 7065, appendix A, and of RFC 7064, appendix A, and what their grammar has no room for.
+//! URIs: the rows of RFC 7065, appendix A, and of RFC 7064, appendix A, and what their grammar has
+//! no room for.
 
 use std::net::{SocketAddr, ToSocketAddrs};
 
@@ -8,16 +9,32 @@ fn parsed(text: &str) -> TurnUri {
     text.parse().unwrap_or_else(|why| panic!("{text}: {why}"))
 }
 
-/// Each URI, whether it is secure, its port and its transport, as the appendices have them. The host is example.org.
+/// Each URI, whether it is secure, its port and its transport, as the appendices have them. The
+/// host is example.org.
 #[test]
 fn the_rows_of_the_rfcs() {
     let rows = [
         ("turn:example.org", false, None, None),
         ("turns:example.org", true, None, None),
         ("turn:example.org:8000", false, Some(8000), None),
-        ("turn:example.org?transport=udp", false, None, Some(TransportType::Udp)),
-        ("turn:example.org?transport=tcp", false, None, Some(TransportType::Tcp)),
-        ("turns:example.org?transport=tcp", true, None, Some(TransportType::Tcp)),
+        (
+            "turn:example.org?transport=udp",
+            false,
+            None,
+            Some(TransportType::Udp),
+        ),
+        (
+            "turn:example.org?transport=tcp",
+            false,
+            None,
+            Some(TransportType::Tcp),
+        ),
+        (
+            "turns:example.org?transport=tcp",
+            true,
+            None,
+            Some(TransportType::Tcp),
+        ),
         ("stun:example.org", false, None, None),
         ("stuns:example.org", true, None, None),
         ("stun:example.org:8000", false, Some(8000), None),
@@ -55,11 +72,15 @@ fn what_a_uri_lacks_is_the_default() {
     }
 }
 
-/// RFC 3986, section 3.1: schemes in any case; section 3.2.3: a port may be empty; section 3.2.2: IP literals.
+/// RFC 3986, section 3.1: schemes in any case; section 3.2.3: a port may be empty; section 3.2.2:
+/// IP literals.
 #[test]
 fn hosts_and_ports_of_rfc_3986() {
     assert_eq!(parsed("TURNS:example.org").scheme(), UriScheme::Turns);
-    assert_eq!(parsed("turn:example.org?transport=TCP").transport(), TransportType::Tcp);
+    assert_eq!(
+        parsed("turn:example.org?transport=TCP").transport(),
+        TransportType::Tcp
+    );
     assert_eq!(parsed("turn:example.org:").explicit_port(), None);
     let literal = parsed("turn:[2001:db8::1]:8000?transport=udp");
     assert_eq!((literal.host(), literal.port()), ("2001:db8::1", 8000));
@@ -70,9 +91,16 @@ fn hosts_and_ports_of_rfc_3986() {
 
 #[test]
 fn addresses_are_resolved_with_the_port() {
-    let resolved = |text: &str| -> Vec<SocketAddr> { parsed(text).to_socket_addrs().unwrap().collect() };
-    assert_eq!(resolved("turn:192.0.2.1"), ["192.0.2.1:3478".parse().unwrap()]);
-    assert_eq!(resolved("turns:[2001:db8::1]"), ["[2001:db8::1]:5349".parse().unwrap()]);
+    let resolved =
+        |text: &str| -> Vec<SocketAddr> { parsed(text).to_socket_addrs().unwrap().collect() };
+    assert_eq!(
+        resolved("turn:192.0.2.1"),
+        ["192.0.2.1:3478".parse().unwrap()]
+    );
+    assert_eq!(
+        resolved("turns:[2001:db8::1]"),
+        ["[2001:db8::1]:5349".parse().unwrap()]
+    );
 }
 
 #[test]
@@ -108,7 +136,10 @@ fn each_refusal_has_a_name() {
             "turn:example.org?transport=sctp",
             UriError::Transport("sctp".to_string()),
         ),
-        ("turn:example.org?transport=", UriError::Transport(String::new())),
+        (
+            "turn:example.org?transport=",
+            UriError::Transport(String::new()),
+        ),
         (
             "turn:example.org?transport=udp&x=1",
             UriError::Transport("udp&x=1".to_string()),

@@ -1,13 +1,14 @@
-//! Finds `libturn_client.a`, as the crate's page says, and names its folder: to the crate's own tests as
-//! `TURN_CLIENT_FOLDER`, and to the build scripts of packages above as `DEP_TURN_CLIENT_INCLUDE`, for the header lies
-//! beside the library.
+//! Finds `libturn_client.a`, as the crate's page says, and names its folder: to the crate's own
+//! tests as `TURN_CLIENT_FOLDER`, and to the build scripts of packages above as
+//! `DEP_TURN_CLIENT_INCLUDE`, for the header lies beside the library.
 
 use std::env;
 use std::path::{Path, PathBuf};
 use std::process::{Command, ExitCode};
 
 const NAME: &str = "turn_client";
-/// The library that `bindings/c/try` makes without proofs. It wants the runtime of AddressSanitizer.
+/// The library that `bindings/c/try` makes without proofs. It wants the runtime of
+/// AddressSanitizer.
 const UNPROVED: &str = "turn_client_unproved";
 const VARIABLE: &str = "TURN_CLIENT_LIB";
 /// The folder of the package that has the library, and what that is compiled for, in cargo's words.
@@ -52,12 +53,17 @@ fn installed() -> Option<Library> {
         return None;
     }
     let program = env::var_os("PKG_CONFIG").unwrap_or_else(|| "pkg-config".into());
-    let told = Command::new(program).args(["--static", "--libs", NAME]).output().ok()?;
+    let told = Command::new(program)
+        .args(["--static", "--libs", NAME])
+        .output()
+        .ok()?;
     let flags = String::from_utf8(told.stdout).ok()?;
-    flags.split_whitespace().find_map(|flag| match flag.strip_prefix("-L") {
-        Some(folder) => library_in(Path::new(folder)),
-        None => library_in(Path::new(flag.strip_suffix(&archive(NAME))?)),
-    })
+    flags
+        .split_whitespace()
+        .find_map(|flag| match flag.strip_prefix("-L") {
+            Some(folder) => library_in(Path::new(folder)),
+            None => library_in(Path::new(flag.strip_suffix(&archive(NAME))?)),
+        })
 }
 
 fn library() -> Result<Library, String> {
@@ -74,8 +80,9 @@ fn library() -> Result<Library, String> {
     packaged().or_else(installed).ok_or_else(|| {
         let target = env::var("TARGET").unwrap_or_default();
         format!(
-            "there is no {} for {target}: {VARIABLE} names no folder, {PACKAGED} in this package is for x86-64 Linux \
-             with glibc, and pkg-config knows no {NAME}. In a clone, {PACKAGED} leads to dist/: clone all of it",
+            "there is no {} for {target}: {VARIABLE} names no folder, {PACKAGED} in this package \
+             is for x86-64 Linux with glibc, and pkg-config knows no {NAME}. In a clone, \
+             {PACKAGED} leads to dist/: clone all of it",
             archive(NAME)
         )
     })
@@ -94,7 +101,10 @@ fn main() -> ExitCode {
         }
     };
     let shown = folder.display();
-    println!("cargo:rerun-if-changed={}", folder.join(archive(name)).display());
+    println!(
+        "cargo:rerun-if-changed={}",
+        folder.join(archive(name)).display()
+    );
     println!("cargo:rustc-env=TURN_CLIENT_FOLDER={shown}");
     println!("cargo:include={shown}");
     println!("cargo:rustc-link-search=native={shown}");

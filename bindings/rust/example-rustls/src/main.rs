@@ -1,10 +1,12 @@
 //! Does what `examples/socket.rs` does, over TLS to the server (`turns:`), by rustls.
 //!
-//!     TURN_PASSWORD=secret cargo run -- --server localhost:5349 --user alice --tls ca.pem --peer 127.0.0.1:9000
+//!     TURN_PASSWORD=secret cargo run -- --server localhost:5349 --user alice --tls ca.pem \
+//!         --peer 127.0.0.1:9000
 //!
 //! `--help` tells the options and the exit status.
 //!
-//! It is written for rustls 0.20. From 0.23 on `with_safe_defaults` is left out, and a `ServerName` is made of a `String`.
+//! It is written for rustls 0.20. From 0.23 on `with_safe_defaults` is left out, and a `ServerName`
+//! is made of a `String`.
 
 #[path = "../../examples/common/driven.rs"]
 mod driven;
@@ -40,8 +42,8 @@ fn trusting(file: &str) -> Result<ClientConfig, Box<dyn Error>> {
     Ok(config.with_no_client_auth())
 }
 
-/// A connection over TLS. It isn't locked while a thread waits in the system, so that another one may send: that is what
-/// `StreamConnection` can't do with a stream.
+/// A connection over TLS. It isn't locked while a thread waits in the system, so that another one
+/// may send: that is what `StreamConnection` can't do with a stream.
 #[derive(Debug)]
 struct Secured {
     socket: TcpStream,
@@ -53,11 +55,12 @@ impl Secured {
     fn connect(options: &Options, uri: &TurnUri) -> Result<Self, Box<dyn Error>> {
         let name = ServerName::try_from(options.tls_name.as_deref().unwrap_or(uri.host()))?;
         let mut tls = ClientConnection::new(Arc::new(trusting(&options.trusted)?), name)?;
-        let mut socket = TcpStream::connect(uri.clone()).map_err(ConnectError::Unreachable)?;
+        let mut socket = TcpStream::connect(uri).map_err(ConnectError::Unreachable)?;
         socket.set_nodelay(true)?;
         socket.set_write_timeout(Some(Duration::from_secs(10)))?;
         while tls.is_handshaking() {
-            tls.complete_io(&mut socket).map_err(ConnectError::Unreachable)?;
+            tls.complete_io(&mut socket)
+                .map_err(ConnectError::Unreachable)?;
         }
         let tls = Mutex::new(tls);
         Ok(Self { socket, tls })
@@ -109,11 +112,16 @@ impl ServerConnection for Secured {
         if let Some(size) = decrypted(&mut self.lock(), bytes)? {
             return Ok(Some(size));
         }
-        self.socket.set_read_timeout(Some(wait.max(Duration::from_millis(1))))?;
+        self.socket
+            .set_read_timeout(Some(wait.max(Duration::from_millis(1))))?;
         let mut read = [0; READ_MAX];
         let size = match (&self.socket).read(&mut read) {
             Ok(size) => size,
-            Err(error) if matches!(error.kind(), ErrorKind::WouldBlock | ErrorKind::Interrupted) => return Ok(None),
+            Err(error)
+                if matches!(error.kind(), ErrorKind::WouldBlock | ErrorKind::Interrupted) =>
+            {
+                return Ok(None)
+            }
             Err(error) => return Err(error),
         };
         let (mut encrypted, mut tls) = (&read[..size], self.lock());

@@ -1,5 +1,5 @@
-//! What the examples over `TurnSocket` share: options, payloads that one thread sends and another one receives, and what
-//! is said.
+//! What the examples over `TurnSocket` share: options, payloads that one thread sends and another
+//! one receives, and what is said.
 #![allow(dead_code)] // each example takes what it needs
 
 #[path = "tally.rs"]
@@ -14,15 +14,18 @@ use std::time::{Duration, Instant};
 
 use tally::Tally;
 use turn_client::driver::ConnectOptions;
-use turn_client::{AddressFamily, ConnectError, SocketError, TurnCause, TurnConfig, TurnCredentials, TurnSocket};
+use turn_client::{
+    AddressFamily, ConnectError, SocketError, TurnCause, TurnConfig, TurnCredentials, TurnSocket,
+};
 
 /// `TRANSPORTS` stands for the options of the transport to the server.
 const USAGE: &str = "\
-[OPTION..]: asks a TURN server for an address, and sends payloads through it to a peer that sends them back
+[OPTION..]: asks a TURN server for an address, and sends payloads through it to a peer that sends
+them back
 
   --server HOST:PORT  the server, as 127.0.0.1:3478 or [::1]:3478
   --user NAME         whose password is the variable TURN_PASSWORD
-TRANSPORTS  --peer IP:PORT      the peer, which is to send back what it gets; without it nothing is sent
+TRANSPORTS  --peer IP:PORT      the peer, which is to send back what it gets; without it none
   --count N           how many payloads; without it 10
   --size BYTES        of each, at least 4; without it 100
   --interval MS       between two; without it 1
@@ -31,8 +34,8 @@ TRANSPORTS  --peer IP:PORT      the peer, which is to send back what it gets; wi
   --redirects N       how many other servers are asked, which servers name
   --help
 
-Exit status: 0 all came back, or nothing was to be sent; 1 something was lost; 2 options that can't be read;
-3 the server refused something, or the address is lost; 4 no answer, or no connection to the server
+Exit status: 0 all came back, or nothing was to be sent; 1 something was lost; 2 options that can't
+be read; 3 the server refused something, or the address is lost; 4 no answer, or no connection
 ";
 
 const ALL_BACK: u8 = 0;
@@ -71,12 +74,16 @@ fn knows(transports: &str, option: &str) -> bool {
     transports.split_whitespace().any(|it| it == option)
 }
 
-fn read_options(mut words: impl Iterator<Item = String>, transports: &str) -> Result<Options, Box<dyn Error>> {
+fn read_options(
+    mut words: impl Iterator<Item = String>,
+    transports: &str,
+) -> Result<Options, Box<dyn Error>> {
     let (mut server, mut user) = (None, None);
     let mut options = Options {
         server: String::new(),
         user: String::new(),
-        password: std::env::var("TURN_PASSWORD").map_err(|_| "a password is wanted: TURN_PASSWORD")?,
+        password: std::env::var("TURN_PASSWORD")
+            .map_err(|_| "a password is wanted: TURN_PASSWORD")?,
         is_tcp: false,
         trusted: String::new(),
         tls_name: None,
@@ -117,7 +124,10 @@ impl Options {
     /// What the options say of the client.
     pub fn config(&self) -> TurnConfig {
         let mut config = TurnConfig::new(TurnCredentials::new(&self.user, &self.password));
-        if self.peer.map_or(self.server.starts_with('['), |peer| peer.is_ipv6()) {
+        if self
+            .peer
+            .map_or(self.server.starts_with('['), |peer| peer.is_ipv6())
+        {
             config.set_address_family(AddressFamily::IPV6);
         }
         config
@@ -151,7 +161,10 @@ impl Run<'_> {
     }
 
     fn is_lost(&self) -> bool {
-        self.lost.lock().unwrap_or_else(PoisonError::into_inner).is_some()
+        self.lost
+            .lock()
+            .unwrap_or_else(PoisonError::into_inner)
+            .is_some()
     }
 
     /// Receives until the socket is closed, or lost.
@@ -189,7 +202,8 @@ impl Run<'_> {
             self.send(peer)?;
         }
         let (sent, kept) = (self.start.elapsed(), self.options.kept);
-        let is_awaited = || self.with_tally(|it| it.back < it.count) && self.start.elapsed() < sent + PATIENCE;
+        let is_awaited =
+            || self.with_tally(|it| it.back < it.count) && self.start.elapsed() < sent + PATIENCE;
         while !self.is_lost() && (is_awaited() || self.start.elapsed() < kept) {
             thread::sleep(LOOKS);
         }
@@ -211,15 +225,25 @@ fn run(options: &Options, socket: &TurnSocket) -> Result<u32, SocketError> {
     let outcome = thread::scope(|scope| {
         scope.spawn(|| run.receive());
         let outcome = run.send_all();
-        println!("{:8.3}  gives the address back", start.elapsed().as_secs_f64());
+        println!(
+            "{:8.3}  gives the address back",
+            start.elapsed().as_secs_f64()
+        );
         let _ = socket.close();
         outcome
     });
-    let tally = run.tally.into_inner().unwrap_or_else(PoisonError::into_inner);
+    let tally = run
+        .tally
+        .into_inner()
+        .unwrap_or_else(PoisonError::into_inner);
     let missing = tally.count - tally.back;
     tally.print();
     outcome?;
-    match run.lost.into_inner().unwrap_or_else(PoisonError::into_inner) {
+    match run
+        .lost
+        .into_inner()
+        .unwrap_or_else(PoisonError::into_inner)
+    {
         Some(error) => Err(error),
         None => Ok(missing),
     }
@@ -289,7 +313,8 @@ fn work(options: &Options, connect: Connect) -> Result<u8, Box<dyn Error>> {
     })
 }
 
-/// The exit status of an example, whose options of the transport are `transports`. `connect` connects to the server.
+/// The exit status of an example, whose options of the transport are `transports`. `connect`
+/// connects to the server.
 pub fn main_over(name: &str, transports: &str, connect: Connect) -> ExitCode {
     let words: Vec<_> = std::env::args().skip(1).collect();
     if words.iter().any(|it| it == "--help") {

@@ -13,10 +13,11 @@ const LEAST_WAIT: Duration = Duration::from_millis(1);
 /// How long a stream has to take what is written.
 const WRITE_PATIENCE: Duration = Duration::from_secs(10);
 
-/// A connection to a server, of which each method may be called while another thread is in [`receive`](Self::receive).
+/// A connection to a server, of which each method may be called while another thread is in
+/// [`receive`](Self::receive).
 ///
-/// A connected [`UdpSocket`] is one, and so is a [`TcpStream`]. [`StreamConnection`] makes one of any stream over TCP,
-/// as one over TLS.
+/// A connected [`UdpSocket`] is one, and so is a [`TcpStream`]. [`StreamConnection`] makes one of
+/// any stream over TCP, as one over TLS.
 pub trait ServerConnection: fmt::Debug + Send + Sync {
     /// Returns the transport: UDP for datagrams, TCP for a stream.
     fn transport(&self) -> TransportType;
@@ -27,11 +28,13 @@ pub trait ServerConnection: fmt::Debug + Send + Sync {
     /// Returns the server's address.
     fn server_addr(&self) -> io::Result<SocketAddr>;
 
-    /// Sends a datagram; or writes all of the bytes to a stream. After an error a stream isn't used any more.
+    /// Sends a datagram; or writes all of the bytes to a stream. After an error a stream isn't used
+    /// any more.
     fn send(&self, bytes: &[u8]) -> io::Result<()>;
 
-    /// Waits for a datagram, or for bytes of a stream, for at most that time or a little longer. Returns how many bytes
-    /// there are, or `None` if nothing came. From a stream `Some(0)` means that the server closed it.
+    /// Waits for a datagram, or for bytes of a stream, for at most that time or a little longer.
+    /// Returns how many bytes there are, or `None` if nothing came. From a stream `Some(0)` means
+    /// that the server closed it.
     fn receive(&self, bytes: &mut [u8], wait: Duration) -> io::Result<Option<usize>>;
 }
 
@@ -50,8 +53,8 @@ fn received(read: io::Result<usize>) -> io::Result<Option<usize>> {
     }
 }
 
-/// A socket that is connected to the server. An ICMP report that its port is closed may be anybody's: it is ignored, and
-/// the client gives up in time.
+/// A socket that is connected to the server. An ICMP report that its port is closed may be
+/// anybody's: it is ignored, and the client gives up in time.
 impl ServerConnection for UdpSocket {
     fn transport(&self) -> TransportType {
         TransportType::Udp
@@ -108,12 +111,12 @@ impl ServerConnection for TcpStream {
 
 /// A stream over a TCP connection, as one over TLS: `rustls::StreamOwned`, `native_tls::TlsStream`.
 ///
-/// The stream is locked while it is read, so **it is for sockets that one thread uses**: another one that sends waits until
-/// a read is over, and may wait long. The `example-rustls` of the repository has a [`ServerConnection`] over TLS that
-/// isn't locked meanwhile.
+/// The stream is locked while it is read, so **it is for sockets that one thread uses**: another
+/// one that sends waits until a read is over, and may wait long. The `example-rustls` of the
+/// repository has a [`ServerConnection`] over TLS that isn't locked meanwhile.
 ///
-/// A read of the stream has to return an error of the kind `WouldBlock` or `TimedOut` if the TCP connection's read
-/// timeout is over, and to go on when it is called again. Both named above do.
+/// A read of the stream has to return an error of the kind `WouldBlock` or `TimedOut` if the TCP
+/// connection's read timeout is over, and to go on when it is called again. Both named above do.
 pub struct StreamConnection<S> {
     stream: Mutex<S>,
     /// The TCP connection below the stream.

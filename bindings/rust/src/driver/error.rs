@@ -19,7 +19,9 @@ fn why(cause: Option<&TurnCause>) -> String {
         }) => {
             let signed = if *is_signed { "signed" } else { "unsigned" };
             let reason: String = reason.chars().filter(|it| !it.is_control()).collect();
-            return format!("rejected {code} {signed} {reason}").trim_end().to_string();
+            return format!("rejected {code} {signed} {reason}")
+                .trim_end()
+                .to_string();
         }
         Some(TurnCause::Unanswered) => "no response came in time",
         Some(TurnCause::Integrity) => "the response wasn't signed, or not by the password",
@@ -43,14 +45,16 @@ pub enum ConnectError {
     /// The URI is that of a STUN server.
     NotTurn,
     /// The URI wants TLS, which this crate doesn't have: make the connection, and hand it to
-    /// [`connect_over`](crate::driver::ConnectOptions::connect_over). With `transport=udp` it wants DTLS.
+    /// [`connect_over`](crate::driver::ConnectOptions::connect_over). With `transport=udp` it wants
+    /// DTLS.
     WantsTls,
-    /// The settings ask for another transport to peers than is wanted here: UDP for a [`TurnSocket`](crate::TurnSocket),
-    /// TCP for a [`TurnStream`](crate::TurnStream).
+    /// The settings ask for another transport to peers than is wanted here: UDP for a
+    /// [`TurnSocket`](crate::TurnSocket), TCP for a [`TurnStream`](crate::TurnStream).
     AllocationTransport,
     /// The settings or the credentials can't be, or memory ran out.
     Settings(AllocateError),
-    /// The server can't be reached: its name isn't resolved, there is no route, or the connection was refused or closed.
+    /// The server can't be reached: its name isn't resolved, there is no route, or the connection
+    /// was refused or closed.
     Unreachable(io::Error),
     /// The server gave no relayed address.
     Rejected {
@@ -82,11 +86,17 @@ impl fmt::Display for ConnectError {
     fn fmt(&self, f: &mut fmt::Formatter<'_>) -> fmt::Result {
         match self {
             Self::NotTurn => f.write_str("the URI is that of a STUN server"),
-            Self::WantsTls => f.write_str("the URI wants TLS, for which a connection has to be handed in"),
-            Self::AllocationTransport => f.write_str("the settings ask for another transport to peers"),
+            Self::WantsTls => {
+                f.write_str("the URI wants TLS, for which a connection has to be handed in")
+            }
+            Self::AllocationTransport => {
+                f.write_str("the settings ask for another transport to peers")
+            }
             Self::Settings(error) => error.fmt(f),
             Self::Unreachable(error) => write!(f, "the server can't be reached: {error}"),
-            Self::Rejected { cause, .. } => write!(f, "no relayed address: {}", why(cause.as_ref())),
+            Self::Rejected { cause, .. } => {
+                write!(f, "no relayed address: {}", why(cause.as_ref()))
+            }
             Self::Peer(error) => error.fmt(f),
             Self::TimedOut => f.write_str("no relayed address in the time that was given"),
         }
@@ -113,9 +123,9 @@ impl From<AllocateError> for ConnectError {
 impl From<ConnectError> for io::Error {
     fn from(error: ConnectError) -> Self {
         let kind = match &error {
-            ConnectError::NotTurn | ConnectError::AllocationTransport | ConnectError::Settings(_) => {
-                ErrorKind::InvalidInput
-            }
+            ConnectError::NotTurn
+            | ConnectError::AllocationTransport
+            | ConnectError::Settings(_) => ErrorKind::InvalidInput,
             ConnectError::WantsTls => ErrorKind::Unsupported,
             ConnectError::Unreachable(error) => error.kind(),
             ConnectError::Rejected { .. } => ErrorKind::ConnectionRefused,
@@ -130,20 +140,22 @@ impl From<ConnectError> for io::Error {
 #[derive(Debug)]
 #[non_exhaustive]
 pub enum SocketError {
-    /// The relayed address is gone, and the socket is over: the server didn't renew it, closed the connection, or memory
-    /// ran out.
+    /// The relayed address is gone, and the socket is over: the server didn't renew it, closed the
+    /// connection, or memory ran out.
     Lost {
         /// Why; `None` if the connection is closed or memory ran out.
         cause: Option<TurnCause>,
     },
-    /// There is no permission for the peer, or no connection to it: it was rejected, or not renewed. The socket goes on.
+    /// There is no permission for the peer, or no connection to it: it was rejected, or not
+    /// renewed. The socket goes on.
     PeerRefused {
         /// The peer's address.
         peer: IpAddr,
         /// Why; `None` if there is no relayed address of that family.
         cause: Option<TurnCause>,
     },
-    /// The server passed on an ICMP report about what was sent to the peer (RFC 8656, section 11.6). The socket goes on.
+    /// The server passed on an ICMP report about what was sent to the peer (RFC 8656, section
+    /// 11.6). The socket goes on.
     PeerUnreachable {
         /// The peer.
         peer: SocketAddr,
@@ -154,8 +166,8 @@ pub enum SocketError {
         /// The report's data.
         icmp_data: u32,
     },
-    /// The time of [`set_read_timeout`](crate::TurnSocket::set_read_timeout) is over, or the server didn't confirm the
-    /// end of the allocation in time.
+    /// The time of [`set_read_timeout`](crate::TurnSocket::set_read_timeout) is over, or the server
+    /// didn't confirm the end of the allocation in time.
     TimedOut,
     /// The data has more than [`PAYLOAD_MAX`](crate::PAYLOAD_MAX) bytes. Nothing was sent.
     TooLarge,
@@ -197,15 +209,24 @@ impl fmt::Display for SocketError {
             Self::Lost { cause: None } => {
                 f.write_str("the relayed address is gone: the connection to the server is closed")
             }
-            Self::Lost { cause } => write!(f, "the relayed address is gone: {}", why(cause.as_ref())),
-            Self::PeerRefused { peer, cause: None } => write!(f, "no relayed address serves {peer}"),
-            Self::PeerRefused { peer, cause } => write!(f, "no permission for {peer}: {}", why(cause.as_ref())),
+            Self::Lost { cause } => {
+                write!(f, "the relayed address is gone: {}", why(cause.as_ref()))
+            }
+            Self::PeerRefused { peer, cause: None } => {
+                write!(f, "no relayed address serves {peer}")
+            }
+            Self::PeerRefused { peer, cause } => {
+                write!(f, "no permission for {peer}: {}", why(cause.as_ref()))
+            }
             Self::PeerUnreachable {
                 peer,
                 icmp_type,
                 icmp_code,
                 ..
-            } => write!(f, "ICMP type {icmp_type} code {icmp_code} on the way to {peer}"),
+            } => write!(
+                f,
+                "ICMP type {icmp_type} code {icmp_code} on the way to {peer}"
+            ),
             Self::TimedOut => f.write_str("the time is over"),
             Self::TooLarge => write!(f, "more than {} bytes", crate::PAYLOAD_MAX),
             Self::NoMemory => f.write_str("there is no memory for the message"),

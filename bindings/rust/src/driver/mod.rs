@@ -1,7 +1,8 @@
 //! Drivers: sockets over a TURN server, which do the input and output that the client doesn't.
 //!
-//! [`TurnSocket`] sends and receives datagrams as [`std::net::UdpSocket`] does, over UDP or TCP to the server, or over TLS
-//! with a library of the program's choice. It blocks and has no thread of its own.
+//! [`TurnSocket`] sends and receives datagrams as [`std::net::UdpSocket`] does, over UDP or TCP to
+//! the server, or over TLS with a library of the program's choice. It blocks and has no thread of
+//! its own.
 //!
 //! ```no_run
 //! use turn_client::{TurnConfig, TurnCredentials, TurnSocket};
@@ -16,11 +17,12 @@
 //! # Ok::<(), Box<dyn std::error::Error>>(())
 //! ```
 //!
-//! [`TurnStream`] is a connection over TCP to a peer (RFC 6062), with the calls of [`std::net::TcpStream`].
-//! [`ConnectOptions`] has more to choose for both. [`TurnSession`] is what a driver for another runtime needs.
+//! [`TurnStream`] is a connection over TCP to a peer (RFC 6062), with the calls of
+//! [`std::net::TcpStream`]. [`ConnectOptions`] has more to choose for both. [`TurnSession`] is what
+//! a driver for another runtime needs.
 //!
-//! Not there: connections that peers open, TLS below a [`TurnStream`], DTLS to the server, look-ups of SRV and NAPTR records (RFC 5928), names of peers, and a lost address that
-//! is requested again.
+//! Not there: connections that peers open, TLS below a [`TurnStream`], DTLS to the server, look-ups
+//! of SRV and NAPTR records (RFC 5928), names of peers, and a lost address that is requested again.
 
 mod connection;
 mod error;
@@ -33,6 +35,8 @@ mod stream;
 pub use connection::{ServerConnection, StreamConnection};
 pub use error::{ConnectError, SocketError};
 pub use options::ConnectOptions;
-pub use session::{Incoming, Permission, SessionState, TurnSession, INCOMING_BYTES_MAX, INCOMING_MAX};
+pub use session::{
+    Incoming, Permission, SessionState, TurnSession, INCOMING_BYTES_MAX, INCOMING_MAX,
+};
 pub use socket::{TurnSocket, CLOSE_PATIENCE};
 pub use stream::{TurnStream, FLUSH_PATIENCE};

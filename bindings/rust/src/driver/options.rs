@@ -55,8 +55,8 @@ impl ConnectOptions {
         }
     }
 
-    /// Sets how long it may take until there is a relayed address. Without it a server that doesn't respond is given up
-    /// after 39.5 seconds, and a TCP connection after 30.
+    /// Sets how long it may take until there is a relayed address. Without it a server that doesn't
+    /// respond is given up after 39.5 seconds, and a TCP connection after 30.
     pub fn timeout(&mut self, timeout: Duration) -> &mut Self {
         self.timeout = Some(timeout);
         self
@@ -68,23 +68,24 @@ impl ConnectOptions {
         self
     }
 
-    /// Sets whether channels to peers are requested, which make each datagram 32 bytes or more shorter; they are at
-    /// first. Without them all goes in indications, which suits peers to whom little is sent.
+    /// Sets whether channels to peers are requested, which make each datagram 32 bytes or more
+    /// shorter; they are at first. Without them all goes in indications, which suits peers to whom
+    /// little is sent.
     pub fn channels(&mut self, channels: bool) -> &mut Self {
         self.channels = channels;
         self
     }
 
-    /// Sets how many other servers are asked in a row, which a server names by a response 300 (RFC 8489, section 10); at
-    /// first none. Such a response may be anybody's who can send from the server's address. A server that was asked isn't
-    /// asked again.
+    /// Sets how many other servers are asked in a row, which a server names by a response 300 (RFC
+    /// 8489, section 10); at first none. Such a response may be anybody's who can send from the
+    /// server's address. A server that was asked isn't asked again.
     pub fn follow(&mut self, follow: usize) -> &mut Self {
         self.follow = follow;
         self
     }
 
-    /// Connects to the server of a URI over UDP or TCP, and gets a relayed address. Of the host's addresses the first is
-    /// taken for which the system gives a socket or a connection.
+    /// Connects to the server of a URI over UDP or TCP, and gets a relayed address. Of the host's
+    /// addresses the first is taken for which the system gives a socket or a connection.
     ///
     /// # Errors
     ///
@@ -100,9 +101,9 @@ impl ConnectOptions {
         })
     }
 
-    /// Connects over TCP to the server of a URI, gets a relayed address, and connects it to a peer over TCP (RFC 6062).
-    /// The settings' own transport to peers, and the URI's to the server, have no meaning here. The same server is asked
-    /// for the connection that carries the bytes.
+    /// Connects over TCP to the server of a URI, gets a relayed address, and connects it to a peer
+    /// over TCP (RFC 6062). The settings' own transport to peers, and the URI's to the server, have
+    /// no meaning here. The same server is asked for the connection that carries the bytes.
     ///
     /// # Errors
     ///
@@ -129,7 +130,10 @@ impl ConnectOptions {
     fn reach<T>(
         &self,
         mut servers: Vec<SocketAddr>,
-        mut with: impl FnMut(&[SocketAddr], Option<Instant>) -> Result<(SocketAddr, Result<T, ConnectError>), ConnectError>,
+        mut with: impl FnMut(
+            &[SocketAddr],
+            Option<Instant>,
+        ) -> Result<(SocketAddr, Result<T, ConnectError>), ConnectError>,
     ) -> Result<T, ConnectError> {
         let until = self.timeout.map(|it| Instant::now() + it);
         let mut asked = Vec::new();
@@ -140,7 +144,9 @@ impl ConnectOptions {
                 Err(ConnectError::Rejected {
                     alternate_server: Some(elsewhere),
                     ..
-                }) if asked.len() <= self.follow && !asked.contains(&elsewhere) => servers = vec![elsewhere],
+                }) if asked.len() <= self.follow && !asked.contains(&elsewhere) => {
+                    servers = vec![elsewhere]
+                }
                 made => return made,
             }
         }
@@ -162,16 +168,26 @@ impl ConnectOptions {
         })
     }
 
-    /// Gets a relayed address over a connection that the program made: over TLS, or a socket with settings of its own.
-    /// No other server is asked, and `local_addr` has no meaning.
+    /// Gets a relayed address over a connection that the program made: over TLS, or a socket with
+    /// settings of its own. No other server is asked, and `local_addr` has no meaning.
     ///
-    /// With [`native-tls`](https://docs.rs/native-tls), or likewise with `rustls::StreamOwned`:
+    /// With a library for TLS whose `secure` does the handshake, as `native_tls::TlsConnector` and
+    /// `rustls::StreamOwned` do:
     ///
-    /// ```ignore
+    /// ```no_run
+    /// use std::net::TcpStream;
+    /// use turn_client::driver::{ConnectOptions, StreamConnection};
+    /// use turn_client::{TurnConfig, TurnCredentials, TurnUri};
+    ///
+    /// # fn secure(_: &str, socket: TcpStream) -> std::io::Result<TcpStream> { Ok(socket) }
+    /// # fn main() -> Result<(), Box<dyn std::error::Error>> {
     /// let uri: TurnUri = "turns:turn.example.org".parse()?;
     /// let socket = TcpStream::connect(&uri)?;
-    /// let tls = native_tls::TlsConnector::new()?.connect(uri.host(), socket.try_clone()?)?;
-    /// let socket = ConnectOptions::new().connect_over(StreamConnection::new(tls, socket)?, config)?;
+    /// let connection = StreamConnection::new(secure(uri.host(), socket.try_clone()?)?, socket)?;
+    /// let config = TurnConfig::new(TurnCredentials::new("alice", "secret"));
+    /// let socket = ConnectOptions::new().connect_over(connection, config)?;
+    /// # Ok(())
+    /// # }
     /// ```
     ///
     /// # Errors
@@ -197,7 +213,10 @@ fn servers(uri: &TurnUri) -> Result<Vec<SocketAddr>, ConnectError> {
     if uri.scheme().is_secure() {
         return Err(ConnectError::WantsTls);
     }
-    Ok(uri.to_socket_addrs().map_err(ConnectError::Unreachable)?.collect())
+    Ok(uri
+        .to_socket_addrs()
+        .map_err(ConnectError::Unreachable)?
+        .collect())
 }
 
 /// What can be opened to the first of these servers, with that server.
@@ -212,7 +231,10 @@ fn first_opened<T>(
         if left == Some(Duration::ZERO) {
             return Err(ConnectError::TimedOut);
         }
-        match open(server, left.unwrap_or(CONNECT_PATIENCE).min(CONNECT_PATIENCE)) {
+        match open(
+            server,
+            left.unwrap_or(CONNECT_PATIENCE).min(CONNECT_PATIENCE),
+        ) {
             Ok(opened) => return Ok((server, opened)),
             Err(error) => why = error,
         }

@@ -1,4 +1,5 @@
-//! What drivers of datagrams share: a client with its clock, permissions, channels and what came, without any socket.
+//! What drivers of datagrams share: a client with its clock, permissions, channels and what came,
+//! without any socket.
 
 use std::collections::{HashMap, HashSet, VecDeque};
 use std::fmt;
@@ -7,10 +8,13 @@ use std::time::{Duration, Instant};
 
 use super::error::{ConnectError, SocketError};
 use crate::api::{
-    Transmit, TransportType, TurnCause, TurnConfig, TurnCredentials, TurnEvent, TurnPeerData, TurnPollRet, TurnRecvRet,
+    Transmit, TransportType, TurnCause, TurnConfig, TurnCredentials, TurnEvent, TurnPeerData,
+    TurnPollRet, TurnRecvRet,
 };
 use crate::client::{TurnClientApi, TurnClientTcp, TurnClientUdp};
-use crate::error::{BindChannelError, CreatePermissionError, CredentialsError, PollError, RecvError, SendError};
+use crate::error::{
+    BindChannelError, CreatePermissionError, CredentialsError, PollError, RecvError, SendError,
+};
 
 /// How many datagrams of peers are stored while nobody receives, at most.
 pub const INCOMING_MAX: usize = 256;
@@ -80,7 +84,9 @@ impl SessionState {
         match self {
             Self::Ready => None,
             Self::Closing | Self::Closed => Some(SocketError::Closed),
-            Self::Lost { cause } | Self::Failed { cause, .. } => Some(SocketError::Lost { cause: cause.clone() }),
+            Self::Lost { cause } | Self::Failed { cause, .. } => Some(SocketError::Lost {
+                cause: cause.clone(),
+            }),
             Self::Allocating => Some(SocketError::Lost { cause: None }),
         }
     }
@@ -131,12 +137,14 @@ impl Channels {
     }
 }
 
-/// A client over UDP or TCP with an allocation over UDP, for a driver: it has the clock, takes the client's turns, keeps
-/// track of permissions and channels, and stores what came. The driver owns the connection to the server and waits.
-/// [`TurnSocket`](crate::TurnSocket) is one over the sockets of std.
+/// A client over UDP or TCP with an allocation over UDP, for a driver: it has the clock, takes the
+/// client's turns, keeps track of permissions and channels, and stores what came. The driver owns
+/// the connection to the server and waits. [`TurnSocket`](crate::TurnSocket) is one over the
+/// sockets of std.
 ///
-/// A driver calls [`turn`](Self::turn) after each other call, and at the time that it returned. Bytes that come go to
-/// [`handle_received`](Self::handle_received); then [`next_incoming`](Self::next_incoming) returns what they brought.
+/// A driver calls [`turn`](Self::turn) after each other call, and at the time that it returned.
+/// Bytes that come go to [`handle_received`](Self::handle_received); then
+/// [`next_incoming`](Self::next_incoming) returns what they brought.
 pub struct TurnSession {
     client: Box<dyn TurnClientApi>,
     start: Instant,
@@ -161,8 +169,8 @@ impl fmt::Debug for TurnSession {
 }
 
 impl TurnSession {
-    /// Makes a session between two addresses over a transport to the server. Nothing is sent before the first turn.
-    /// Without `channels` all data goes in indications.
+    /// Makes a session between two addresses over a transport to the server. Nothing is sent before
+    /// the first turn. Without `channels` all data goes in indications.
     ///
     /// # Errors
     ///
@@ -211,8 +219,9 @@ impl TurnSession {
 
     // ---- turns
 
-    /// Takes turns until there is nothing to do: passes each message for the server to `send`, handles events, and
-    /// returns when the next turn is due at the latest; `None` if the session is over.
+    /// Takes turns until there is nothing to do: passes each message for the server to `send`,
+    /// handles events, and returns when the next turn is due at the latest; `None` if the session
+    /// is over.
     pub fn turn(&mut self, send: &mut dyn FnMut(&[u8])) -> Option<Instant> {
         while !self.state.is_over() {
             match self.turn_once(send) {
@@ -271,7 +280,9 @@ impl TurnSession {
                 self.requested.remove(&peer);
             }
             TurnEvent::PermissionCreateFailed(_, peer) => self.handle_refusal(peer, cause),
-            TurnEvent::ChannelCreateFailed(_, peer) => self.bar_channel(peer, self.now() + CHANNEL_REST),
+            TurnEvent::ChannelCreateFailed(_, peer) => {
+                self.bar_channel(peer, self.now() + CHANNEL_REST)
+            }
             TurnEvent::AllocationCreated(..)
             | TurnEvent::ChannelCreated(..)
             | TurnEvent::TcpConnected(_)
@@ -282,7 +293,8 @@ impl TurnSession {
         }
     }
 
-    /// What was requested is told to whoever requested it, and what isn't renewed to whoever receives.
+    /// What was requested is told to whoever requested it, and what isn't renewed to whoever
+    /// receives.
     fn handle_refusal(&mut self, peer: IpAddr, cause: Option<TurnCause>) {
         if !self.requested.remove(&peer) {
             self.store(Err(SocketError::PeerRefused { peer, cause }));
@@ -300,7 +312,9 @@ impl TurnSession {
         self.state = match (&self.state, failure) {
             (SessionState::Closing, _) => SessionState::Closed,
             (SessionState::Allocating, Some(failure)) => failure,
-            (SessionState::Ready, Some(SessionState::Failed { cause, .. })) => SessionState::Lost { cause },
+            (SessionState::Ready, Some(SessionState::Failed { cause, .. })) => {
+                SessionState::Lost { cause }
+            }
             (SessionState::Ready, _) => SessionState::Lost {
                 cause: Some(TurnCause::Expired),
             },
@@ -309,7 +323,8 @@ impl TurnSession {
         self.requested.clear();
     }
 
-    /// Ends the session, for its connection is closed, or memory ran out. One that was closing is closed.
+    /// Ends the session, for its connection is closed, or memory ran out. One that was closing is
+    /// closed.
     pub fn lose(&mut self) {
         self.state = match self.state {
             SessionState::Closing | SessionState::Closed => SessionState::Closed,
@@ -320,9 +335,9 @@ impl TurnSession {
 
     // ---- what comes
 
-    /// Handles what came of the server: a datagram, or bytes of a stream. What they bring is returned by
-    /// [`next_incoming`](Self::next_incoming), which is to be called until it returns `None` before more is passed here,
-    /// or [`store_incoming`](Self::store_incoming).
+    /// Handles what came of the server: a datagram, or bytes of a stream. What they bring is
+    /// returned by [`next_incoming`](Self::next_incoming), which is to be called until it returns
+    /// `None` before more is passed here, or [`store_incoming`](Self::store_incoming).
     pub fn handle_received(&mut self, bytes: &[u8]) {
         if self.state.is_over() {
             return;
@@ -349,7 +364,8 @@ impl TurnSession {
         self.store(incoming);
     }
 
-    /// Returns what came and wasn't returned yet: a datagram of a peer, or what there is to say about a peer.
+    /// Returns what came and wasn't returned yet: a datagram of a peer, or what there is to say
+    /// about a peer.
     pub fn next_incoming(&mut self) -> Option<Incoming> {
         if let Some(first) = self.incoming.pop_front() {
             self.incoming_bytes -= first.as_ref().map_or(0, |(data, _)| data.len());
@@ -358,8 +374,8 @@ impl TurnSession {
         self.pull().map(Ok)
     }
 
-    /// Stores what came, for a later [`next_incoming`](Self::next_incoming): at most [`INCOMING_MAX`] datagrams and
-    /// [`INCOMING_BYTES_MAX`] bytes. What comes beyond is dropped.
+    /// Stores what came, for a later [`next_incoming`](Self::next_incoming): at most
+    /// [`INCOMING_MAX`] datagrams and [`INCOMING_BYTES_MAX`] bytes. What comes beyond is dropped.
     pub fn store_incoming(&mut self) {
         while let Some(data) = self.pull() {
             self.store(Ok(data));
@@ -392,16 +408,23 @@ impl TurnSession {
 
     // ---- to peers
 
-    /// Passes a datagram for a peer to `send`, and requests a channel to the peer unless there is one.
+    /// Passes a datagram for a peer to `send`, and requests a channel to the peer unless there is
+    /// one.
     ///
     /// # Errors
     ///
     /// Nothing is sent then.
     ///
     /// - `Closed`, `Lost`: the session is over.
-    /// - `PeerRefused` without a cause: there is no permission. Call [`request_permission`](Self::request_permission).
+    /// - `PeerRefused` without a cause: there is no permission. Call
+    ///   [`request_permission`](Self::request_permission).
     /// - `TooLarge`, `NoMemory`.
-    pub fn send_to(&mut self, data: &[u8], peer: SocketAddr, send: &mut dyn FnMut(&[u8])) -> Result<(), SocketError> {
+    pub fn send_to(
+        &mut self,
+        data: &[u8],
+        peer: SocketAddr,
+        send: &mut dyn FnMut(&[u8]),
+    ) -> Result<(), SocketError> {
         if let Some(error) = self.state.error() {
             return Err(error);
         }
@@ -444,8 +467,8 @@ impl TurnSession {
 
     // ---- permissions, credentials, the end
 
-    /// Requests a permission for a peer's IP address, unless there is one or it was requested. It is renewed until the
-    /// session ends.
+    /// Requests a permission for a peer's IP address, unless there is one or it was requested. It
+    /// is renewed until the session ends.
     ///
     /// # Errors
     ///
@@ -481,18 +504,25 @@ impl TurnSession {
         if self.requested.contains(&peer) {
             return Permission::Requested;
         }
-        let latest = self.refusals.iter().rev().find(|(refused, _)| *refused == peer);
+        let latest = self
+            .refusals
+            .iter()
+            .rev()
+            .find(|(refused, _)| *refused == peer);
         Permission::Refused(latest.and_then(|(_, cause)| cause.clone()))
     }
 
     /// Sets the credentials that replace the present ones with the server's next challenge: see
     /// [`TurnClientApi::set_credentials`].
-    pub fn set_credentials(&mut self, credentials: &TurnCredentials) -> Result<(), CredentialsError> {
+    pub fn set_credentials(
+        &mut self,
+        credentials: &TurnCredentials,
+    ) -> Result<(), CredentialsError> {
         self.client.set_credentials(credentials)
     }
 
-    /// Gives the relayed address back to the server: the session is `Closing`, and after the server's response
-    /// `Closed`. Without an address it is `Closed` at once.
+    /// Gives the relayed address back to the server: the session is `Closing`, and after the
+    /// server's response `Closed`. Without an address it is `Closed` at once.
     pub fn close(&mut self) {
         if self.state.is_over() || self.state == SessionState::Closing {
             return;

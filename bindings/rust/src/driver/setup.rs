@@ -1,4 +1,5 @@
-//! How a connection to a peer is made: the allocation, the permission, the connection, and its socket.
+//! How a connection to a peer is made: the allocation, the permission, the connection, and its
+//! socket.
 
 use std::io::{self, ErrorKind};
 use std::net::{SocketAddr, TcpStream};
@@ -7,7 +8,9 @@ use std::time::{Duration, Instant};
 use super::connection::{open_tcp, ServerConnection};
 use super::error::{ConnectError, SocketError};
 use super::options::CONNECT_PATIENCE;
-use crate::api::{Transmit, TransportType, TurnCause, TurnConfig, TurnEvent, TurnPollRet, TurnRecvRet};
+use crate::api::{
+    Transmit, TransportType, TurnCause, TurnConfig, TurnEvent, TurnPollRet, TurnRecvRet,
+};
 use crate::client::{TurnClientApi, TurnClientTcp};
 
 /// Bytes that are read at once.
@@ -62,7 +65,11 @@ pub(super) struct Setup {
 }
 
 impl Setup {
-    pub fn new(control: TcpStream, config: TurnConfig, peer: SocketAddr) -> Result<Self, ConnectError> {
+    pub fn new(
+        control: TcpStream,
+        config: TurnConfig,
+        peer: SocketAddr,
+    ) -> Result<Self, ConnectError> {
         let local = control.local_addr().map_err(ConnectError::Unreachable)?;
         let server = control.peer_addr().map_err(ConnectError::Unreachable)?;
         Ok(Self {
@@ -94,8 +101,10 @@ impl Setup {
         let (Some((data, _)), Some(relayed)) = (self.data, self.relayed) else {
             return Err(ConnectError::Unreachable(closed()));
         };
-        data.set_read_timeout(None).map_err(ConnectError::Unreachable)?;
-        data.set_write_timeout(None).map_err(ConnectError::Unreachable)?;
+        data.set_read_timeout(None)
+            .map_err(ConnectError::Unreachable)?;
+        data.set_write_timeout(None)
+            .map_err(ConnectError::Unreachable)?;
         Ok(Made {
             control: self.control,
             data,
@@ -142,9 +151,14 @@ impl Setup {
                 has_done = true;
             }
             match polled {
-                TurnPollRet::Closed => return Err(self.failure.take().unwrap_or_else(|| unreachable(closed()))),
+                TurnPollRet::Closed => {
+                    return Err(self.failure.take().unwrap_or_else(|| unreachable(closed())))
+                }
                 TurnPollRet::AllocateTcpSocket {
-                    id, socket, peer_addr, ..
+                    id,
+                    socket,
+                    peer_addr,
+                    ..
                 } => self.open(id, socket.to, peer_addr),
                 TurnPollRet::TcpClose { .. } => return Err(self.refused(None)),
                 TurnPollRet::WaitUntil(_) if has_done => {}
@@ -157,12 +171,18 @@ impl Setup {
     }
 
     /// Requests what an event allows for.
-    fn handle_event(&mut self, event: TurnEvent, cause: Option<TurnCause>) -> Result<(), ConnectError> {
+    fn handle_event(
+        &mut self,
+        event: TurnEvent,
+        cause: Option<TurnCause>,
+    ) -> Result<(), ConnectError> {
         let now = self.start.elapsed();
         let requested = match event {
             TurnEvent::AllocationCreated(_, relayed) if self.relayed.is_none() => {
                 self.relayed = Some(relayed);
-                let asked = self.client.create_permission(TransportType::Tcp, self.peer.ip(), now);
+                let asked = self
+                    .client
+                    .create_permission(TransportType::Tcp, self.peer.ip(), now);
                 asked.is_ok()
             }
             TurnEvent::AllocationCreateFailed(_) => {
@@ -193,9 +213,13 @@ impl Setup {
     /// Opens the socket of the connection that was requested; one that a peer opened gets none.
     fn open(&mut self, id: u32, server: SocketAddr, peer: SocketAddr) {
         let is_wanted = peer == self.peer && self.data.is_none();
-        let opened = is_wanted.then(|| open_tcp(server, CONNECT_PATIENCE).ok()).flatten();
+        let opened = is_wanted
+            .then(|| open_tcp(server, CONNECT_PATIENCE).ok())
+            .flatten();
         let own = opened.as_ref().and_then(|it| it.local_addr().ok());
-        let told = self.client.allocated_tcp_socket(id, peer, own, self.start.elapsed());
+        let told = self
+            .client
+            .allocated_tcp_socket(id, peer, own, self.start.elapsed());
         if let (Some(data), Some(own), Ok(())) = (opened, own, told) {
             self.data = Some((data, own));
         }
@@ -204,9 +228,14 @@ impl Setup {
     /// Waits for bytes of the connection on which they are due, and passes them to the client.
     fn receive(&mut self, bytes: &mut [u8], wait: Duration) -> Result<(), ConnectError> {
         let own = self.client.local_addr();
-        let came = self
-            .control
-            .receive(bytes, if self.data.is_some() { Duration::ZERO } else { wait });
+        let came = self.control.receive(
+            bytes,
+            if self.data.is_some() {
+                Duration::ZERO
+            } else {
+                wait
+            },
+        );
         self.handle(came, bytes, own)?;
         if let Some((data, own)) = &self.data {
             let (came, own) = (data.receive(bytes, wait), *own);
@@ -215,7 +244,12 @@ impl Setup {
         Ok(())
     }
 
-    fn handle(&mut self, came: io::Result<Option<usize>>, bytes: &[u8], own: SocketAddr) -> Result<(), ConnectError> {
+    fn handle(
+        &mut self,
+        came: io::Result<Option<usize>>,
+        bytes: &[u8],
+        own: SocketAddr,
+    ) -> Result<(), ConnectError> {
         let Some(size) = came.map_err(unreachable)? else {
             return Ok(());
         };

@@ -27,12 +27,13 @@ const DROP_PATIENCE: Duration = Duration::from_millis(250);
 const IN_MAX: usize = 65_536;
 /// How long a call serves at least, so that it reads what came.
 const LEAST_SERVICE: Duration = Duration::from_millis(1);
-/// The longest wait in the system. No call can wake a thread there that waits for a datagram, so what another thread
-/// requests or closes is seen after it. It also bounds what Linux adds to a timeout, as much as an eighth.
+/// The longest wait in the system. No call can wake a thread there that waits for a datagram, so
+/// what another thread requests or closes is seen after it. It also bounds what Linux adds to a
+/// timeout, as much as an eighth.
 const LONGEST_WAIT: Duration = Duration::from_secs(1);
 
-/// A socket whose datagrams go through a TURN server, with the calls of [`std::net::UdpSocket`]: peers see, and send to,
-/// its [`relayed_addr`](Self::relayed_addr).
+/// A socket whose datagrams go through a TURN server, with the calls of [`std::net::UdpSocket`]:
+/// peers see, and send to, its [`relayed_addr`](Self::relayed_addr).
 ///
 /// ```no_run
 /// use turn_client::{TurnConfig, TurnCredentials, TurnSocket};
@@ -49,31 +50,34 @@ const LONGEST_WAIT: Duration = Duration::from_secs(1);
 ///
 /// # Permissions
 ///
-/// A peer may send only if its IP address has a permission. The first [`send_to`](Self::send_to) to an address requests
-/// it and waits for the server; [`permit`](Self::permit) does that for a peer to whom nothing is sent. Both are renewed
-/// until the socket is closed. After the first datagram a channel to the peer is requested, unless
-/// [`ConnectOptions::channels`] says otherwise. If the server rejects it, all goes in indications, and it is requested
-/// again after five minutes.
+/// A peer may send only if its IP address has a permission. The first [`send_to`](Self::send_to) to
+/// an address requests it and waits for the server; [`permit`](Self::permit) does that for a peer
+/// to whom nothing is sent. Both are renewed until the socket is closed. After the first datagram a
+/// channel to the peer is requested, unless [`ConnectOptions::channels`] says otherwise. If the
+/// server rejects it, all goes in indications, and it is requested again after five minutes.
 ///
 /// # Renewals
 ///
-/// There is no thread of the socket's own. What is due is done within its calls: allocation, permissions and channels are
-/// renewed while a thread is in [`recv_from`](Self::recv_from), [`send_to`](Self::send_to) or [`serve`](Self::serve).
-/// **While the program calls nothing, nothing is renewed and nothing is received.** A permission ends 300 seconds after
-/// it was granted and is renewed after 240; an allocation is renewed a minute before its end, which mostly is after 600
-/// seconds. So call one of them at least twice a minute, as [`serve`](Self::serve) with a time of zero. If the allocation
-/// has ended meanwhile, the next calls return [`SocketError::Lost`].
+/// There is no thread of the socket's own. What is due is done within its calls: allocation,
+/// permissions and channels are renewed while a thread is in [`recv_from`](Self::recv_from),
+/// [`send_to`](Self::send_to) or [`serve`](Self::serve). **While the program calls nothing, nothing
+/// is renewed and nothing is received.** A permission ends 300 seconds after it was granted and is
+/// renewed after 240; an allocation is renewed a minute before its end, which mostly is after 600
+/// seconds. So call one of them at least twice a minute, as [`serve`](Self::serve) with a time of
+/// zero. If the allocation has ended meanwhile, the next calls return [`SocketError::Lost`].
 ///
 /// # Threads
 ///
-/// All calls take `&self`, so threads may share a socket, as by an [`Arc`](std::sync::Arc): one may send while another
-/// one is blocked in `recv_from`. What one thread closes, another one that waits sees within a second.
+/// All calls take `&self`, so threads may share a socket, as by an [`Arc`](std::sync::Arc): one may
+/// send while another one is blocked in `recv_from`. What one thread closes, another one that waits
+/// sees within a second.
 ///
 /// # What is stored, and dropped
 ///
-/// What comes while a call waits for something else, as `send_to` for a permission, is stored for `recv_from`: at most
-/// [`INCOMING_MAX`](crate::driver::INCOMING_MAX) datagrams and [`INCOMING_BYTES_MAX`](crate::driver::INCOMING_BYTES_MAX)
-/// bytes. What comes beyond is dropped. What comes while no call runs waits in the system's socket.
+/// What comes while a call waits for something else, as `send_to` for a permission, is stored for
+/// `recv_from`: at most [`INCOMING_MAX`](crate::driver::INCOMING_MAX) datagrams and
+/// [`INCOMING_BYTES_MAX`](crate::driver::INCOMING_BYTES_MAX) bytes. What comes beyond is dropped.
+/// What comes while no call runs waits in the system's socket.
 pub struct TurnSocket {
     connection: Box<dyn ServerConnection>,
     local_addr: SocketAddr,
@@ -112,12 +116,13 @@ enum Waits {
 }
 
 impl TurnSocket {
-    /// Connects to the server of a URI over UDP or TCP, and gets a relayed address. [`ConnectOptions`] has more to
-    /// choose, and connects over TLS.
+    /// Connects to the server of a URI over UDP or TCP, and gets a relayed address.
+    /// [`ConnectOptions`] has more to choose, and connects over TLS.
     ///
     /// # Errors
     ///
-    /// As [`ConnectOptions::connect`]. A server that doesn't respond is given up after 39.5 seconds.
+    /// As [`ConnectOptions::connect`]. A server that doesn't respond is given up after 39.5
+    /// seconds.
     pub fn connect(uri: &TurnUri, config: TurnConfig) -> Result<Self, ConnectError> {
         ConnectOptions::new().connect(uri, config)
     }
@@ -130,8 +135,16 @@ impl TurnSocket {
         until: Option<Instant>,
     ) -> Result<Self, ConnectError> {
         let local_addr = connection.local_addr().map_err(ConnectError::Unreachable)?;
-        let server_addr = connection.server_addr().map_err(ConnectError::Unreachable)?;
-        let session = TurnSession::new(connection.transport(), local_addr, server_addr, config, channels)?;
+        let server_addr = connection
+            .server_addr()
+            .map_err(ConnectError::Unreachable)?;
+        let session = TurnSession::new(
+            connection.transport(),
+            local_addr,
+            server_addr,
+            config,
+            channels,
+        )?;
         let mut socket = Self {
             connection,
             local_addr,
@@ -164,14 +177,15 @@ impl TurnSocket {
 
     // ---- addresses
 
-    /// Returns the relayed address, to which peers send. If there are two, of IPv4 and IPv6, it is the first of
-    /// [`relayed_addrs`](Self::relayed_addrs).
+    /// Returns the relayed address, to which peers send. If there are two, of IPv4 and IPv6, it is
+    /// the first of [`relayed_addrs`](Self::relayed_addrs).
     pub fn relayed_addr(&self) -> SocketAddr {
         let none = SocketAddr::from(([0, 0, 0, 0], 0)); // a socket that was made has one
         self.relayed_addrs.first().copied().unwrap_or(none)
     }
 
-    /// Returns all relayed addresses: two if the settings asked for both families and the server gave both.
+    /// Returns all relayed addresses: two if the settings asked for both families and the server
+    /// gave both.
     pub fn relayed_addrs(&self) -> &[SocketAddr] {
         &self.relayed_addrs
     }
@@ -198,8 +212,9 @@ impl TurnSocket {
 
     // ---- datagrams
 
-    /// Sends a datagram to a peer, and returns its size. If the peer's IP address has no permission, that is requested
-    /// first, and the call waits for the server: see [Permissions](#permissions).
+    /// Sends a datagram to a peer, and returns its size. If the peer's IP address has no
+    /// permission, that is requested first, and the call waits for the server: see
+    /// [Permissions](#permissions).
     ///
     /// # Errors
     ///
@@ -211,7 +226,12 @@ impl TurnSocket {
     /// - `Io`: the system refuses to send.
     pub fn send_to(&self, data: &[u8], peer: SocketAddr) -> Result<usize, SocketError> {
         if data.len() > crate::PAYLOAD_MAX {
-            return Err(self.lock().session.state().error().unwrap_or(SocketError::TooLarge));
+            return Err(self
+                .lock()
+                .session
+                .state()
+                .error()
+                .unwrap_or(SocketError::TooLarge));
         }
         if !self.is_permitted(peer.ip())? {
             self.permit(peer.ip())?;
@@ -239,8 +259,8 @@ impl TurnSocket {
         }
     }
 
-    /// Waits for a datagram of a peer, and returns its size and the peer. If it is longer than `bytes`, the rest is lost,
-    /// as with `UdpSocket`.
+    /// Waits for a datagram of a peer, and returns its size and the peer. If it is longer than
+    /// `bytes`, the rest is lost, as with `UdpSocket`.
     ///
     /// # Errors
     ///
@@ -249,12 +269,15 @@ impl TurnSocket {
     /// - `TimedOut`: nothing came in the time of [`set_read_timeout`](Self::set_read_timeout).
     /// - `PeerRefused`: the permission for a peer, who had one, wasn't renewed.
     /// - `PeerUnreachable`: the server passed on an ICMP report.
-    /// - `Closed`, `Lost`: the socket is over. What had come before is returned first, unless it was closed.
+    /// - `Closed`, `Lost`: the socket is over. What had come before is returned first, unless it
+    ///   was closed.
     /// - `Io`: the system refuses to receive.
     pub fn recv_from(&self, bytes: &mut [u8]) -> Result<(usize, SocketAddr), SocketError> {
         let until = self.lock().read_timeout.map(|it| Instant::now() + it);
         let incoming = self.wait(Waits::Receiving, until, |session| -> Option<Incoming> {
-            session.next_incoming().or_else(|| session.state().error().map(Err))
+            session
+                .next_incoming()
+                .or_else(|| session.state().error().map(Err))
         });
         let (data, peer) = incoming
             .map_err(SocketError::Io)?
@@ -306,24 +329,28 @@ impl TurnSocket {
                 Permission::Refused(cause) => Some(Err(SocketError::PeerRefused { peer, cause })),
             }
         });
-        outcome.map_err(SocketError::Io)?.unwrap_or(Err(SocketError::TimedOut))
+        outcome
+            .map_err(SocketError::Io)?
+            .unwrap_or(Err(SocketError::TimedOut))
     }
 
-    /// Does what is due for that time, and stores what comes for [`recv_from`](Self::recv_from): in place of
-    /// [`std::thread::sleep`], or with a time of zero now and then, for a program that doesn't receive. See
-    /// [Renewals](#renewals).
+    /// Does what is due for that time, and stores what comes for [`recv_from`](Self::recv_from): in
+    /// place of [`std::thread::sleep`], or with a time of zero now and then, for a program that
+    /// doesn't receive. See [Renewals](#renewals).
     ///
     /// # Errors
     ///
     /// `Closed`, `Lost`: the socket is over. `Io`: the system refuses to receive.
     pub fn serve(&self, time: Duration) -> Result<(), SocketError> {
         let until = Instant::now() + time.max(LEAST_SERVICE);
-        let outcome = self.wait(Waits::Storing, Some(until), |session| session.state().error().map(Err));
+        let outcome = self.wait(Waits::Storing, Some(until), |session| {
+            session.state().error().map(Err)
+        });
         outcome.map_err(SocketError::Io)?.unwrap_or(Ok(()))
     }
 
-    /// Sets the credentials that replace the present ones with the server's next challenge: for passwords that expire.
-    /// Call it before they do.
+    /// Sets the credentials that replace the present ones with the server's next challenge: for
+    /// passwords that expire. Call it before they do.
     ///
     /// # Errors
     ///
@@ -332,18 +359,21 @@ impl TurnSocket {
         self.lock().session.set_credentials(credentials)
     }
 
-    /// Gives the relayed address back to the server, and waits until the server confirms it, for [`CLOSE_PATIENCE`] at
-    /// most. What came and wasn't received is dropped, and each other call returns `Closed` from now on.
+    /// Gives the relayed address back to the server, and waits until the server confirms it, for
+    /// [`CLOSE_PATIENCE`] at most. What came and wasn't received is dropped, and each other call
+    /// returns `Closed` from now on.
     ///
-    /// A socket that is dropped tells the server once that it gives the address back, in a quarter of a second at most,
-    /// and doesn't wait for the response: if that is lost, the server keeps the address until its time is over.
+    /// A socket that is dropped tells the server once that it gives the address back, in a quarter
+    /// of a second at most, and doesn't wait for the response: if that is lost, the server keeps
+    /// the address until its time is over.
     ///
     /// # Errors
     ///
     /// The socket is closed also then.
     ///
     /// - `Closed`, `Lost`: it was over before.
-    /// - `TimedOut`: the server didn't confirm it. The server keeps the address until its time is over.
+    /// - `TimedOut`: the server didn't confirm it. The server keeps the address until its time is
+    ///   over.
     /// - `Io`: the system refuses to send or receive.
     pub fn close(&self) -> Result<(), SocketError> {
         {
@@ -360,7 +390,9 @@ impl TurnSocket {
         let mut inner = self.lock();
         inner.session.lose();
         self.changed.notify_all();
-        outcome.map_err(SocketError::Io)?.ok_or(SocketError::TimedOut)
+        outcome
+            .map_err(SocketError::Io)?
+            .ok_or(SocketError::TimedOut)
     }
 
     // ---- turns
@@ -369,8 +401,8 @@ impl TurnSocket {
         self.inner.lock().unwrap_or_else(PoisonError::into_inner)
     }
 
-    /// Ends the session of a stream that failed. A datagram that wasn't sent is as one that was lost, so over UDP the
-    /// session goes on: the error is returned.
+    /// Ends the session of a stream that failed. A datagram that wasn't sent is as one that was
+    /// lost, so over UDP the session goes on: the error is returned.
     fn fail(&self, inner: &mut Inner, error: io::Error) -> Option<io::Error> {
         if self.connection.transport() == TransportType::Udp {
             return Some(error);
@@ -397,7 +429,8 @@ impl TurnSocket {
 
     /// Takes turns and receives until `outcome` returns something, or until a time, then `None`.
     ///
-    /// One thread at a time reads, which has taken the buffer; others wait until it has something, and take turns, too.
+    /// One thread at a time reads, which has taken the buffer; others wait until it has something,
+    /// and take turns, too.
     fn wait<T>(
         &self,
         waits: Waits,
@@ -427,7 +460,8 @@ impl TurnSocket {
         }
     }
 
-    /// Waits for bytes of the server, and passes them to the session; or while another thread does that, until it has.
+    /// Waits for bytes of the server, and passes them to the session; or while another thread does
+    /// that, until it has.
     fn receive<'a>(
         &'a self,
         mut inner: MutexGuard<'a, Inner>,
@@ -438,15 +472,22 @@ impl TurnSocket {
             return (waited.unwrap_or_else(PoisonError::into_inner).0, None);
         };
         drop(inner);
-        let mut reading = Reading { socket: self, buffer };
+        let mut reading = Reading {
+            socket: self,
+            buffer,
+        };
         let received = self.connection.receive(&mut reading.buffer, wait);
         let mut inner = self.lock();
         let buffer = std::mem::take(&mut reading.buffer);
         let failed = match received {
             Ok(None) => None,
-            Ok(Some(0)) if self.connection.transport() == TransportType::Tcp => self.fail(&mut inner, closed()),
+            Ok(Some(0)) if self.connection.transport() == TransportType::Tcp => {
+                self.fail(&mut inner, closed())
+            }
             Ok(Some(size)) => {
-                inner.session.handle_received(buffer.get(..size).unwrap_or_default());
+                inner
+                    .session
+                    .handle_received(buffer.get(..size).unwrap_or_default());
                 None
             }
             Err(error) => self.fail(&mut inner, error),

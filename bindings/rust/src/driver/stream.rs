@@ -26,7 +26,8 @@ const LONGEST_WAIT: Duration = Duration::from_secs(1);
 /// Until the next turn, if the client wants one at once and does nothing in it.
 const PAUSE: Duration = Duration::from_millis(10);
 
-/// A connection over TCP to a peer through a TURN server (RFC 6062), with the calls of [`TcpStream`].
+/// A connection over TCP to a peer through a TURN server (RFC 6062), with the calls of
+/// [`TcpStream`].
 ///
 /// ```no_run
 /// use std::io::{Read, Write};
@@ -42,12 +43,13 @@ const PAUSE: Duration = Duration::from_millis(10);
 /// # Ok::<(), Box<dyn std::error::Error>>(())
 /// ```
 ///
-/// Each stream has an allocation and a relayed address of its own. A thread of its own renews it until the stream is
-/// closed or dropped, whatever the program does. If the allocation is lost, the server closes the connection, and that is
-/// read as its end. Nobody else can connect to the relayed address.
+/// Each stream has an allocation and a relayed address of its own. A thread of its own renews it
+/// until the stream is closed or dropped, whatever the program does. If the allocation is lost, the
+/// server closes the connection, and that is read as its end. Nobody else can connect to the
+/// relayed address.
 ///
-/// A server may end connections by a reset, as coturn does, and drop what it had not passed on: let the peer confirm
-/// before you close.
+/// A server may end connections by a reset, as coturn does, and drop what it had not passed on: let
+/// the peer confirm before you close.
 pub struct TurnStream {
     data: TcpStream,
     control: Arc<Control>,
@@ -69,13 +71,18 @@ impl fmt::Debug for TurnStream {
 }
 
 impl TurnStream {
-    /// Connects to the server of a URI over TCP, gets a relayed address, and connects it to a peer. The settings' own
-    /// transport to peers, and the URI's to the server, have no meaning here: both are TCP.
+    /// Connects to the server of a URI over TCP, gets a relayed address, and connects it to a peer.
+    /// The settings' own transport to peers, and the URI's to the server, have no meaning here:
+    /// both are TCP.
     ///
     /// # Errors
     ///
     /// As [`ConnectOptions::connect_stream`].
-    pub fn connect(uri: &TurnUri, config: TurnConfig, peer: SocketAddr) -> Result<Self, ConnectError> {
+    pub fn connect(
+        uri: &TurnUri,
+        config: TurnConfig,
+        peer: SocketAddr,
+    ) -> Result<Self, ConnectError> {
         ConnectOptions::new().connect_stream(uri, config, peer)
     }
 
@@ -127,14 +134,14 @@ impl TurnStream {
         self.data.set_write_timeout(timeout)
     }
 
-    /// Ends reads, writes or both: see [`TcpStream::shutdown`]. A server may then close the connection to the peer for
-    /// both ways.
+    /// Ends reads, writes or both: see [`TcpStream::shutdown`]. A server may then close the
+    /// connection to the peer for both ways.
     pub fn shutdown(&self, how: Shutdown) -> io::Result<()> {
         self.data.shutdown(how)
     }
 
-    /// Lets the server pass on what was written, for at most [`FLUSH_PATIENCE`], then gives the relayed address back, for
-    /// at most [`CLOSE_PATIENCE`]. What comes meanwhile is dropped.
+    /// Lets the server pass on what was written, for at most [`FLUSH_PATIENCE`], then gives the
+    /// relayed address back, for at most [`CLOSE_PATIENCE`]. What comes meanwhile is dropped.
     ///
     /// A stream that is dropped does neither wait: what was written may be lost.
     ///
@@ -268,7 +275,9 @@ impl Control {
                 Ok(Some(due)) => due,
                 Ok(None) | Err(_) => break,
             };
-            let wait = due.saturating_duration_since(Instant::now()).min(LONGEST_WAIT);
+            let wait = due
+                .saturating_duration_since(Instant::now())
+                .min(LONGEST_WAIT);
             let size = match self.stream.receive(&mut bytes, wait) {
                 Ok(None) => continue,
                 Ok(Some(0)) | Err(_) => break,
@@ -283,7 +292,11 @@ impl Control {
 
     fn handle(&self, bytes: &[u8]) -> io::Result<()> {
         let client = &mut self.lock().client;
-        let (from, to, now) = (client.remote_addr(), client.local_addr(), self.start.elapsed());
+        let (from, to, now) = (
+            client.remote_addr(),
+            client.local_addr(),
+            self.start.elapsed(),
+        );
         let came = Transmit::new(bytes, TransportType::Tcp, from, to);
         client.recv(came, now).map_err(io::Error::other)?;
         while client.poll_recv(now).map_err(io::Error::other)?.is_some() {}

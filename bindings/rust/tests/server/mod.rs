@@ -1,5 +1,5 @@
-//! A TURN server of Python for tests, in a process of its own (`serve.py`): what it answers is written by the RFCs, and
-//! shares no code with the client.
+//! A TURN server of Python for tests, in a process of its own (`serve.py`): what it answers is
+//! written by the RFCs, and shares no code with the client.
 #![allow(dead_code)] // each test takes what it needs
 
 use std::io::{BufRead, BufReader, Write};
@@ -33,7 +33,9 @@ pub struct Server {
 impl Server {
     pub fn start(transport: TransportType) -> Self {
         let package = Path::new(env!("CARGO_MANIFEST_DIR"));
-        let mut found = package.ancestors().map(|it| it.join("tests/server/serve.py"));
+        let mut found = package
+            .ancestors()
+            .map(|it| it.join("tests/server/serve.py"));
         let script = found.find(|it| it.is_file()).unwrap();
         let by = match transport {
             TransportType::Udp => "udp",
@@ -78,7 +80,10 @@ impl Server {
             if answer == wanted {
                 return;
             }
-            assert!(Instant::now() < until, "{command}: {answer}, and not {wanted}");
+            assert!(
+                Instant::now() < until,
+                "{command}: {answer}, and not {wanted}"
+            );
             std::thread::sleep(Duration::from_millis(10));
         }
     }
@@ -86,7 +91,10 @@ impl Server {
     /// How many signed requests of a method came.
     pub fn count(&mut self, method: u16) -> usize {
         let method = method.to_string();
-        self.tell("requests").split(' ').filter(|it| *it == method).count()
+        self.tell("requests")
+            .split(' ')
+            .filter(|it| *it == method)
+            .count()
     }
 
     pub fn uri(&self) -> TurnUri {

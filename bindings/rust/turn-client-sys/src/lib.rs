@@ -1,9 +1,10 @@
-//! Raw declarations of `turn_client.h`, the C interface of a proved TURN client (RFC 8656, RFC 6062, RFC 6156) that does
-//! no input or output, and the library itself to link with.
+//! Raw declarations of `turn_client.h`, the C interface of a proved TURN client (RFC 8656, RFC
+//! 6062, RFC 6156) that does no input or output, and the library itself to link with.
 //!
-//! Names, numbers and structs are the header's, in its order. What a call does, which refusals it has, in which order,
-//! and which duties a caller has, the header says: it lies beside the library, in
-//! `lib/x86_64-linux-gnu/turn_client.h`. The crate `turn-client` is the safe layer over these declarations.
+//! Names, numbers and structs are the header's, in its order. What a call does, which refusals it
+//! has, in which order, and which duties a caller has, the header says: it lies beside the library,
+//! in `lib/x86_64-linux-gnu/turn_client.h`. The crate `turn-client` is the safe layer over these
+//! declarations.
 //!
 //! ```
 //! // A release is major * 10,000 + minor * 100 + patch.
@@ -17,11 +18,13 @@
 //! The build script takes the first of these that there is:
 //!
 //! 1. the folder that the variable `TURN_CLIENT_LIB` names by its whole path;
-//! 2. the library in the package, for x86-64 Linux with glibc. In the repository it is a link into `dist/`, in a package
-//!    that `cargo package` made a copy;
-//! 3. what `pkg-config turn_client` names, unless the build is for another platform than it runs on.
+//! 2. the library in the package, for x86-64 Linux with glibc. In the repository it is a link into
+//!    `dist/`, in a package that `cargo package` made a copy;
+//! 3. what `pkg-config turn_client` names, unless the build is for another platform than it runs
+//!    on.
 //!
-//! A package that depends on this one gets the folder of the header as `DEP_TURN_CLIENT_INCLUDE` in its build script.
+//! A package that depends on this one gets the folder of the header as `DEP_TURN_CLIENT_INCLUDE` in
+//! its build script.
 
 #![allow(non_camel_case_types)] // they are the header's
 #![deny(missing_docs, missing_debug_implementations)]
@@ -29,7 +32,8 @@
 
 use core::ffi::c_void;
 
-/// The version of the header that these declarations are of: `turn_client_version` returns the library's own.
+/// The version of the header that these declarations are of: `turn_client_version` returns the
+/// library's own.
 pub const TURN_CLIENT_VERSION_NUMBER: u32 = 100;
 
 /// The call did what it says.
@@ -476,7 +480,12 @@ extern "C" {
 
     /// Requests a permission for a peer's address, whose port does not count (RFC 8656, section 9).
     /// It is valid for 300 seconds, and the client renews it.
-    pub fn turn_client_permit(client: *mut turn_client, transport: u32, peer: *const turn_address, now: u64) -> i32;
+    pub fn turn_client_permit(
+        client: *mut turn_client,
+        transport: u32,
+        peer: *const turn_address,
+        now: u64,
+    ) -> i32;
     /// Requests a channel to a peer (RFC 8656, section 12), and a permission for its address if
     /// there is none and none was requested. The channel is valid for 600 seconds, and the client
     /// renews it.
@@ -489,7 +498,11 @@ extern "C" {
     ) -> i32;
     /// Requests a TCP connection to a peer (RFC 6062, section 4.3), over an allocation over TCP.
     /// turn_client_poll then requests its socket.
-    pub fn turn_client_connect(client: *mut turn_client, peer: *const turn_address, now: u64) -> i32;
+    pub fn turn_client_connect(
+        client: *mut turn_client,
+        peer: *const turn_address,
+        now: u64,
+    ) -> i32;
 
     /// Reports the socket that was opened for a connection after TURN_OPEN_SOCKET, or that none
     /// was.
@@ -508,8 +521,13 @@ extern "C" {
         now: u64,
     ) -> i32;
 
-    /// Lists the relayed addresses: writes at most `out_len` of them, and returns how many there are.
-    pub fn turn_client_relayed(client: *mut turn_client, out: *mut turn_relayed, out_len: usize) -> usize;
+    /// Lists the relayed addresses: writes at most `out_len` of them, and returns how many there
+    /// are.
+    pub fn turn_client_relayed(
+        client: *mut turn_client,
+        out: *mut turn_relayed,
+        out_len: usize,
+    ) -> usize;
     /// The peers' addresses that have a permission in the allocation of a relayed address, with
     /// port 0. There are none if there is no such allocation.
     pub fn turn_client_permissions(
@@ -521,9 +539,21 @@ extern "C" {
     ) -> usize;
     /// Returns whether there is a permission for a peer's address; false if the transport or the
     /// family is not valid, or the handle is not open.
-    pub fn turn_client_is_permitted(client: *mut turn_client, transport: u32, peer: *const turn_address) -> bool;
+    pub fn turn_client_is_permitted(
+        client: *mut turn_client,
+        transport: u32,
+        peer: *const turn_address,
+    ) -> bool;
     /// Lists the channels, as `turn_client_relayed` does.
-    pub fn turn_client_channels(client: *mut turn_client, out: *mut turn_channel, out_len: usize) -> usize;
+    pub fn turn_client_channels(
+        client: *mut turn_client,
+        out: *mut turn_channel,
+        out_len: usize,
+    ) -> usize;
     /// Lists the connections to peers that have a socket, as `turn_client_relayed` does.
-    pub fn turn_client_connections(client: *mut turn_client, out: *mut turn_connection, out_len: usize) -> usize;
+    pub fn turn_client_connections(
+        client: *mut turn_client,
+        out: *mut turn_connection,
+        out_len: usize,
+    ) -> usize;
 }

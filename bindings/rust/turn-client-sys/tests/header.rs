@@ -1,7 +1,8 @@
 //! Sizes, offsets and numbers are those of the header.
 //!
-//! A C program is made of the same lists as what is wanted of it, is compiled with the header that lies beside the
-//! library, and prints what a C compiler makes of them. `CC` names another compiler than `cc`.
+//! A C program is made of the same lists as what is wanted of it, is compiled with the header that
+//! lies beside the library, and prints what a C compiler makes of them. `CC` names another compiler
+//! than `cc`.
 
 use std::mem::{align_of, offset_of, size_of};
 use std::path::PathBuf;
@@ -30,7 +31,8 @@ macro_rules! layouts {
             $(
                 let (c, field) = (stringify!($name), stringify!($field));
                 rows.push(row(format!("offsetof({c}, {field})"), offset_of!($name, $field)));
-                rows.push(row(format!("sizeof((({c} *)0)->{field})"), size_of_field(|it: &$name| &it.$field)));
+                let size = size_of_field(|it: &$name| &it.$field);
+                rows.push(row(format!("sizeof((({c} *)0)->{field})"), size));
             )*
         )*
         rows
@@ -46,8 +48,9 @@ fn layouts() -> Vec<Row> {
     layouts! {
         turn_address { ip, port, family }
         turn_settings {
-            size, local, server, transport, peers, families, integrity, anonymous, sends, first_wait, most_wait,
-            last_wait, compatible, max_connection_attempts, ignore_short_lifetimes
+            size, local, server, transport, peers, families, integrity, anonymous, sends,
+            first_wait, most_wait, last_wait, compatible, max_connection_attempts,
+            ignore_short_lifetimes
         }
         turn_seed { bytes }
         turn_transmit { size, transport, from, to }
@@ -101,12 +104,16 @@ fn printed_by(name: &str, program: &str) -> String {
 
 /// Holds each value against what C makes of its expression.
 fn agree(name: &str, rows: &[Row]) {
-    let mut program = "#include <stdio.h>\n#include \"turn_client.h\"\nint main(void)\n{\n".to_string();
+    let mut program =
+        "#include <stdio.h>\n#include \"turn_client.h\"\nint main(void)\n{\n".to_string();
     for (expression, _) in rows {
         program += &format!("    printf(\"{expression} %lld\\n\", (long long)({expression}));\n");
     }
     program += "    return 0;\n}\n";
-    let want: String = rows.iter().map(|(it, value)| format!("{it} {value}\n")).collect();
+    let want: String = rows
+        .iter()
+        .map(|(it, value)| format!("{it} {value}\n"))
+        .collect();
     assert_eq!(printed_by(name, &program), want);
 }
 

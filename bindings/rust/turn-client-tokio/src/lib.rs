@@ -16,11 +16,12 @@
 //! # }
 //! ```
 //!
-//! [`TurnSocket`] has the calls of [`tokio::net::UdpSocket`], and those of the blocking `turn_client::TurnSocket`. The
-//! server is reached over UDP or TCP, or by [`ConnectOptions::connect_over`] over any stream, as one over TLS.
+//! [`TurnSocket`] has the calls of [`tokio::net::UdpSocket`], and those of the blocking
+//! `turn_client::TurnSocket`. The server is reached over UDP or TCP, or by
+//! [`ConnectOptions::connect_over`] over any stream, as one over TLS.
 //!
-//! Not there: DTLS to the server, look-ups of SRV and NAPTR records (RFC 5928), connections to peers over TCP (RFC 6062),
-//! and a lost address that is requested again.
+//! Not there: DTLS to the server, look-ups of SRV and NAPTR records (RFC 5928), connections to
+//! peers over TCP (RFC 6062), and a lost address that is requested again.
 
 #![forbid(unsafe_code)]
 #![deny(missing_docs, missing_debug_implementations)]

@@ -251,7 +251,8 @@ pub(crate) async fn serve(shared: Arc<Shared>, mut line: Line) {
     }
 }
 
-/// Takes turns, and returns when the next one is due; `None` when the session is over. Whoever waits looks again.
+/// Takes turns, and returns when the next one is due; `None` when the session is over. Whoever
+/// waits looks again.
 fn turn(shared: &Shared, closes_at: &mut Option<Instant>) -> Option<Instant> {
     let mut inner = shared.lock();
     let due = inner.turn();

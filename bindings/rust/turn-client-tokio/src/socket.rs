@@ -27,8 +27,8 @@ pub const UNSENT_MAX: usize = 256 * 1024;
 /// # Permissions
 ///
 /// A peer may send only if its IP address has a permission. The first [`send_to`](Self::send_to) to
-/// an address requests it and waits for the server; [`permit`](Self::permit) does that for a peer to
-/// whom nothing is sent. After the first datagram a channel to the peer is requested, unless
+/// an address requests it and waits for the server; [`permit`](Self::permit) does that for a peer
+/// to whom nothing is sent. After the first datagram a channel to the peer is requested, unless
 /// [`ConnectOptions::channels`] says otherwise. If the server rejects it, all goes in indications,
 /// and it is requested again after five minutes.
 ///
@@ -63,7 +63,8 @@ impl TurnSocket {
     ///
     /// # Errors
     ///
-    /// As [`ConnectOptions::connect`]. A server that doesn't respond is given up after 39.5 seconds.
+    /// As [`ConnectOptions::connect`]. A server that doesn't respond is given up after 39.5
+    /// seconds.
     ///
     /// # Panics
     ///
@@ -149,8 +150,9 @@ impl TurnSocket {
 
     // ---- datagrams
 
-    /// Sends a datagram to a peer, and returns its size. If the peer's IP address has no permission,
-    /// that is requested first, and the call waits for the server: see [Permissions](#permissions).
+    /// Sends a datagram to a peer, and returns its size. If the peer's IP address has no
+    /// permission, that is requested first, and the call waits for the server: see
+    /// [Permissions](#permissions).
     ///
     /// # Errors
     ///
@@ -183,8 +185,8 @@ impl TurnSocket {
     ///
     /// - `PeerRefused`: the permission for a peer, who had one, wasn't renewed.
     /// - `PeerUnreachable`: the server passed on an ICMP report.
-    /// - `Closed`, `Lost`: the socket is over. What had come before is returned first, unless it was
-    ///   closed.
+    /// - `Closed`, `Lost`: the socket is over. What had come before is returned first, unless it
+    ///   was closed.
     pub async fn recv_from(&self, bytes: &mut [u8]) -> Result<(usize, SocketAddr), SocketError> {
         let incoming = self.shared.wait(|inner| {
             let next = inner.session.next_incoming();
