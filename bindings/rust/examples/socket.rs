@@ -12,15 +12,21 @@ mod driven;
 use std::error::Error;
 use std::process::ExitCode;
 
-use driven::{main_over, Options};
-use turn_client::{TurnSocket, TurnUri};
+use driven::{main_over, Line, Options};
+use turn_client::TurnUri;
 
-const TRANSPORTS: &str = "  --tcp               over TCP to the server\n";
+const TRANSPORTS: &str = "  --tcp               over TCP to the server
+  --connect IP:PORT   the peer, over a connection over TCP (RFC 6062), by TurnStream
+";
 
-fn connect(options: &Options) -> Result<TurnSocket, Box<dyn Error>> {
+fn connect(options: &Options) -> Result<Line, Box<dyn Error>> {
     let query = if options.is_tcp { "?transport=tcp" } else { "" };
     let uri: TurnUri = format!("turn:{}{query}", options.server).parse()?;
-    Ok(options.how().connect(&uri, options.config())?)
+    let (how, config) = (options.how(), options.config());
+    Ok(match options.connect {
+        Some(peer) => Line::Stream(how.connect_stream(&uri, config, peer)?),
+        None => Line::Socket(how.connect(&uri, config)?),
+    })
 }
 
 fn main() -> ExitCode {

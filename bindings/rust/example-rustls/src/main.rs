@@ -19,10 +19,10 @@ use std::process::ExitCode;
 use std::sync::{Arc, Mutex, MutexGuard, PoisonError};
 use std::time::Duration;
 
-use driven::{main_over, Options};
+use driven::{main_over, Line, Options};
 use rustls::{Certificate, ClientConfig, ClientConnection, RootCertStore, ServerName};
 use turn_client::driver::ServerConnection;
-use turn_client::{ConnectError, TransportType, TurnSocket, TurnUri};
+use turn_client::{ConnectError, TransportType, TurnUri};
 
 /// Bytes that are read of the TCP connection at once.
 const READ_MAX: usize = 16_384;
@@ -140,10 +140,11 @@ impl ServerConnection for Secured {
     }
 }
 
-fn connect(options: &Options) -> Result<TurnSocket, Box<dyn Error>> {
+fn connect(options: &Options) -> Result<Line, Box<dyn Error>> {
     let uri: TurnUri = format!("turns:{}", options.server).parse()?;
     let connection = Secured::connect(options, &uri)?;
-    Ok(options.how().connect_over(connection, options.config())?)
+    let made = options.how().connect_over(connection, options.config())?;
+    Ok(Line::Socket(made))
 }
 
 fn main() -> ExitCode {

@@ -6,6 +6,7 @@
 mod tally;
 
 use std::error::Error;
+use std::io::{self, Read, Write};
 use std::net::SocketAddr;
 use std::process::ExitCode;
 use std::sync::{Mutex, PoisonError};
@@ -16,6 +17,7 @@ use tally::Tally;
 use turn_client::driver::ConnectOptions;
 use turn_client::{
     AddressFamily, ConnectError, SocketError, TurnCause, TurnConfig, TurnCredentials, TurnSocket,
+    TurnStream,
 };
 
 /// `TRANSPORTS` stands for the options of the transport to the server.
@@ -52,6 +54,7 @@ const IN_MAX: usize = 65_536;
 
 // ---- options
 
+#[derive(Default)]
 pub struct Options {
     pub server: String,
     user: String,
@@ -60,6 +63,8 @@ pub struct Options {
     /// A file of certificates, and the name in the server's own.
     pub trusted: String,
     pub tls_name: Option<String>,
+    /// A peer to whom a connection over TCP is made.
+    pub connect: Option<SocketAddr>,
     peer: Option<SocketAddr>,
     count: u32,
     size: usize,
@@ -80,20 +85,12 @@ fn read_options(
 ) -> Result<Options, Box<dyn Error>> {
     let (mut server, mut user) = (None, None);
     let mut options = Options {
-        server: String::new(),
-        user: String::new(),
         password: std::env::var("TURN_PASSWORD")
             .map_err(|_| "a password is wanted: TURN_PASSWORD")?,
-        is_tcp: false,
-        trusted: String::new(),
-        tls_name: None,
-        peer: None,
         count: 10,
         size: 100,
         interval: Duration::from_millis(1),
-        kept: Duration::ZERO,
-        has_no_channel: false,
-        redirects: 0,
+        ..Options::default()
     };
     while let Some(option) = words.next() {
         let mut value = || words.next().ok_or(format!("{option} wants a value"));
@@ -103,6 +100,9 @@ fn read_options(
             "--tcp" if knows(transports, "--tcp") => options.is_tcp = true,
             "--tls" if knows(transports, "--tls") => options.trusted = value()?,
             "--tls-name" if knows(transports, "--tls-name") => options.tls_name = Some(value()?),
+            "--connect" if knows(transports, "--connect") => {
+                options.connect = Some(value()?.parse()?);
+            }
             "--peer" => options.peer = Some(value()?.parse()?),
             "--count" => options.count = value()?.parse()?,
             "--size" => options.size = value()?.parse()?,
@@ -114,7 +114,7 @@ fn read_options(
         }
     }
     (options.server, options.user) = server.zip(user).ok_or("a server and a user are wanted")?;
-    if options.peer.is_none() {
+    if options.peer.or(options.connect).is_none() {
         options.count = 0;
     }
     Ok(options)
@@ -126,6 +126,7 @@ impl Options {
         let mut config = TurnConfig::new(TurnCredentials::new(&self.user, &self.password));
         if self
             .peer
+            .or(self.connect)
             .map_or(self.server.starts_with('['), |peer| peer.is_ipv6())
         {
             config.set_address_family(AddressFamily::IPV6);
@@ -141,8 +142,14 @@ impl Options {
     }
 }
 
+/// What payloads go over.
+pub enum Line {
+    Socket(TurnSocket),
+    Stream(TurnStream),
+}
+
 /// Connects to the server.
-pub type Connect = fn(&Options) -> Result<TurnSocket, Box<dyn Error>>;
+pub type Connect = fn(&Options) -> Result<Line, Box<dyn Error>>;
 
 // ---- payloads
 
@@ -249,6 +256,30 @@ fn run(options: &Options, socket: &TurnSocket) -> Result<u32, SocketError> {
     }
 }
 
+/// Writes all payloads to a connection while another thread reads: how many are missing.
+fn run_stream(options: &Options, stream: TurnStream) -> io::Result<u32> {
+    let mut tally = Tally::new(options.count, options.size);
+    let payloads: Vec<_> = (0..options.count)
+        .map(|_| tally.next(Duration::ZERO))
+        .collect();
+    let mut came = vec![0; payloads.concat().len()];
+    let outcome = thread::scope(|scope| {
+        scope.spawn(|| payloads.iter().try_for_each(|it| (&stream).write_all(it)));
+        (&stream).read_exact(&mut came)
+    });
+    stream.close()?;
+    let missing = match outcome {
+        Ok(()) if came == payloads.concat() => 0,
+        _ => options.count,
+    };
+    println!(
+        "{} of {} payloads came back",
+        options.count - missing,
+        options.count
+    );
+    Ok(missing)
+}
+
 // ---- what it says
 
 /// A cause, as the other examples print it.
@@ -295,7 +326,11 @@ fn say_connect_error(error: &ConnectError) -> u8 {
 
 fn work(options: &Options, connect: Connect) -> Result<u8, Box<dyn Error>> {
     let socket = match connect(options) {
-        Ok(socket) => socket,
+        Ok(Line::Socket(socket)) => socket,
+        Ok(Line::Stream(stream)) => {
+            let missing = run_stream(options, stream)?;
+            return Ok(if missing == 0 { ALL_BACK } else { SOME_LOST });
+        }
         Err(error) => {
             let error = error.downcast::<ConnectError>()?;
             return Ok(say_connect_error(&error));

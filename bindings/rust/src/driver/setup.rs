@@ -3,6 +3,7 @@
 
 use std::io::{self, ErrorKind};
 use std::net::{SocketAddr, TcpStream};
+use std::thread;
 use std::time::{Duration, Instant};
 
 use super::connection::{open_tcp, ServerConnection};
@@ -15,6 +16,11 @@ use crate::client::{TurnClientApi, TurnClientTcp};
 
 /// Bytes that are read at once.
 const IN_MAX: usize = 16_384;
+/// How long it may take to tell the server that its address isn't wanted.
+pub(super) const LAST_PATIENCE: Duration = Duration::from_millis(250);
+/// How long the client waits from one request to the next, and a little.
+pub(super) const PACE: Duration = Duration::from_millis(60);
+const LEAST_PAUSE: Duration = Duration::from_millis(5);
 /// The longest wait for bytes of one of two connections.
 const LONGEST_WAIT: Duration = Duration::from_millis(20);
 
@@ -118,10 +124,26 @@ impl Setup {
 
     /// Tells the server once that the address isn't wanted any more.
     fn give_back(&mut self) {
-        let now = self.start.elapsed();
-        if self.client.delete(now).is_ok() {
-            let control = &self.control;
-            let _ = send_all(&mut self.client, now, &mut |it| control.send(it.data));
+        let until = Instant::now() + LAST_PATIENCE;
+        let _ = self.client.delete(self.start.elapsed());
+        while Instant::now() < until {
+            let (control, own, now) = (
+                &self.control,
+                self.client.local_addr(),
+                self.start.elapsed(),
+            );
+            let sent = send_all(&mut self.client, now, &mut |transmit| match transmit.from {
+                from if from == own => control.send(transmit.data),
+                _ => Ok(()),
+            });
+            while self.client.poll_event().is_some() {}
+            match (sent, self.client.poll(now)) {
+                (Ok(_), Ok(TurnPollRet::WaitUntil(due))) if due <= now + PACE => {
+                    thread::sleep(due.saturating_sub(now).max(LEAST_PAUSE));
+                }
+                (Ok(_), Ok(TurnPollRet::TcpClose { .. })) => self.data = None,
+                _ => return, // all is sent
+            }
         }
     }
 

@@ -11,7 +11,7 @@ use super::connection::ServerConnection;
 use super::error::{ConnectError, SocketError};
 use super::options::ConnectOptions;
 use super::session::{Incoming, Permission, SessionState, TurnSession};
-use super::setup::closed;
+use super::setup::{closed, LAST_PATIENCE, PACE};
 use crate::api::{TransportType, TurnConfig, TurnCredentials};
 use crate::error::CredentialsError;
 use crate::uri::TurnUri;
@@ -19,10 +19,6 @@ use crate::uri::TurnUri;
 /// How long the server has to confirm the end of an allocation.
 pub const CLOSE_PATIENCE: Duration = Duration::from_secs(3);
 
-/// How long the client waits from one request to the next, and a little.
-const PACE: Duration = Duration::from_millis(60);
-/// How long a socket that is dropped may take to tell the server.
-const DROP_PATIENCE: Duration = Duration::from_millis(250);
 /// Bytes that are read at once; no datagram is larger.
 const IN_MAX: usize = 65_536;
 /// How long a call serves at least, so that it reads what came.
@@ -158,21 +154,26 @@ impl TurnSocket {
             }),
             changed: Condvar::new(),
         };
-        let outcome = socket.wait(Waits::Storing, until, |session| match session.state() {
+        socket.await_address(until)?;
+        let relayed = socket.lock().session.client().relayed_addresses();
+        socket.relayed_addrs = relayed.into_iter().map(|(_, address)| address).collect();
+        Ok(socket)
+    }
+
+    /// Waits for the relayed address.
+    fn await_address(&self, until: Option<Instant>) -> Result<(), ConnectError> {
+        let outcome = self.wait(Waits::Storing, until, |session| match session.state() {
             SessionState::Allocating => None,
             SessionState::Lost { cause: None } => Some(Err(ConnectError::Unreachable(closed()))),
             state => Some(state.connect_error().map_or(Ok(()), Err)),
         });
-        let failure = socket.lock().failure.take();
+        let failure = self.lock().failure.take();
         match (outcome, failure) {
-            (Ok(Some(Ok(()))), _) => {}
-            (Err(error), _) | (_, Some(error)) => return Err(ConnectError::Unreachable(error)),
-            (Ok(Some(Err(error))), None) => return Err(error),
-            (Ok(None), None) => return Err(ConnectError::TimedOut),
+            (Ok(Some(Ok(()))), _) => Ok(()),
+            (Err(error), _) | (_, Some(error)) => Err(ConnectError::Unreachable(error)),
+            (Ok(Some(Err(error))), None) => Err(error),
+            (Ok(None), None) => Err(ConnectError::TimedOut),
         }
-        let relayed = socket.lock().session.client().relayed_addresses();
-        socket.relayed_addrs = relayed.into_iter().map(|(_, address)| address).collect();
-        Ok(socket)
     }
 
     // ---- addresses
@@ -517,7 +518,7 @@ impl Drop for TurnSocket {
     fn drop(&mut self) {
         let mut inner = self.lock();
         inner.session.close();
-        let until = Instant::now() + DROP_PATIENCE;
+        let until = Instant::now() + LAST_PATIENCE;
         while let Some(due) = self.turn(&mut inner) {
             let now = Instant::now();
             if due > now + PACE || now > until {
