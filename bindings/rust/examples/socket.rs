@@ -25,7 +25,7 @@ fn connect(options: &Options) -> Result<Line, Box<dyn Error>> {
     let (how, config) = (options.how(), options.config());
     Ok(match options.connect {
         Some(peer) => Line::Stream(how.connect_stream(&uri, config, peer)?),
-        None => Line::Socket(how.connect(&uri, config)?),
+        None => Line::Socket(Box::new(how.connect(&uri, config)?)),
     })
 }
 

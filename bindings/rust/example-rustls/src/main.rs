@@ -144,7 +144,7 @@ fn connect(options: &Options) -> Result<Line, Box<dyn Error>> {
     let uri: TurnUri = format!("turns:{}", options.server).parse()?;
     let connection = Secured::connect(options, &uri)?;
     let made = options.how().connect_over(connection, options.config())?;
-    Ok(Line::Socket(made))
+    Ok(Line::Socket(Box::new(made)))
 }
 
 fn main() -> ExitCode {

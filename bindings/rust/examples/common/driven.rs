@@ -144,7 +144,7 @@ impl Options {
 
 /// What payloads go over.
 pub enum Line {
-    Socket(TurnSocket),
+    Socket(Box<TurnSocket>),
     Stream(TurnStream),
 }
 
