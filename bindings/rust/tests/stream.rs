@@ -15,7 +15,7 @@ use turn_client::{ConnectError, SocketError, TransportType, TurnCause, TurnStrea
 
 const SOON: Duration = Duration::from_millis(300);
 /// What a call that is not answered may take, on a machine that is busy.
-const PATIENCE: Duration = Duration::from_secs(5);
+const PATIENCE: Duration = Duration::from_secs(60);
 const LARGE: usize = 1 << 20;
 
 fn peer() -> SocketAddr {

@@ -264,7 +264,12 @@ fn run_stream(options: &Options, stream: TurnStream) -> io::Result<u32> {
         .collect();
     let mut came = vec![0; payloads.concat().len()];
     let outcome = thread::scope(|scope| {
-        scope.spawn(|| payloads.iter().try_for_each(|it| (&stream).write_all(it)));
+        scope.spawn(|| {
+            payloads.iter().try_for_each(|it| {
+                thread::sleep(options.interval);
+                (&stream).write_all(it)
+            })
+        });
         (&stream).read_exact(&mut came)
     });
     stream.close()?;

@@ -7,7 +7,7 @@ use std::time::{Duration, Instant};
 use super::connection::{open_tcp, open_udp, ServerConnection};
 use super::error::ConnectError;
 use super::setup::Setup;
-use super::socket::TurnSocket;
+use super::socket::{deadline, TurnSocket};
 use super::stream::TurnStream;
 use crate::api::{TransportType, TurnConfig};
 use crate::uri::TurnUri;
@@ -55,7 +55,7 @@ impl ConnectOptions {
         }
     }
 
-    /// Sets how long it may take until there is a relayed address. Without it a server that doesn't
+    /// Sets how long it may take until there is a relayed address, the look-up of a name left out. Without it a server that doesn't
     /// respond is given up after 39.5 seconds, and a TCP connection after 30.
     pub fn timeout(&mut self, timeout: Duration) -> &mut Self {
         self.timeout = Some(timeout);
@@ -135,7 +135,7 @@ impl ConnectOptions {
             Option<Instant>,
         ) -> Result<(SocketAddr, Result<T, ConnectError>), ConnectError>,
     ) -> Result<T, ConnectError> {
-        let until = self.timeout.map(|it| Instant::now() + it);
+        let until = self.timeout.and_then(deadline);
         let mut asked = Vec::new();
         loop {
             let (server, made) = with(&servers, until)?;
@@ -200,7 +200,7 @@ impl ConnectOptions {
         connection: impl ServerConnection + 'static,
         config: TurnConfig,
     ) -> Result<TurnSocket, ConnectError> {
-        let until = self.timeout.map(|it| Instant::now() + it);
+        let until = self.timeout.and_then(deadline);
         TurnSocket::allocate(Box::new(connection), config, self.channels, until)
     }
 }

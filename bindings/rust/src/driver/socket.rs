@@ -274,7 +274,7 @@ impl TurnSocket {
     ///   was closed.
     /// - `Io`: the system refuses to receive.
     pub fn recv_from(&self, bytes: &mut [u8]) -> Result<(usize, SocketAddr), SocketError> {
-        let until = self.lock().read_timeout.map(|it| Instant::now() + it);
+        let until = self.lock().read_timeout.and_then(deadline);
         let incoming = self.wait(Waits::Receiving, until, |session| -> Option<Incoming> {
             session
                 .next_incoming()
@@ -343,8 +343,8 @@ impl TurnSocket {
     ///
     /// `Closed`, `Lost`: the socket is over. `Io`: the system refuses to receive.
     pub fn serve(&self, time: Duration) -> Result<(), SocketError> {
-        let until = Instant::now() + time.max(LEAST_SERVICE);
-        let outcome = self.wait(Waits::Storing, Some(until), |session| {
+        let until = deadline(time.max(LEAST_SERVICE));
+        let outcome = self.wait(Waits::Storing, until, |session| {
             session.state().error().map(Err)
         });
         outcome.map_err(SocketError::Io)?.unwrap_or(Ok(()))
@@ -497,6 +497,11 @@ impl TurnSocket {
         self.changed.notify_all();
         (inner, failed)
     }
+}
+
+/// When a time is over; `None` if that is later than any clock shows.
+pub(super) fn deadline(time: Duration) -> Option<Instant> {
+    Instant::now().checked_add(time)
 }
 
 /// A thread that reads. If the read panics the next thread that reads gets a buffer all the same.

@@ -74,7 +74,7 @@ impl Server {
 
     /// Waits until the server answers a command so.
     pub fn comes_to(&mut self, command: &str, wanted: &str) {
-        let until = Instant::now() + Duration::from_secs(5);
+        let until = Instant::now() + Duration::from_secs(60);
         loop {
             let answer = self.tell(command);
             if answer == wanted {

@@ -75,7 +75,7 @@ async def main():
     print(f"{host}:{port}", flush=True)
     loop = asyncio.get_running_loop()
     while line := await loop.run_in_executor(None, sys.stdin.readline):
-        command, *given = line.split()
+        command, *given = line.split() or [""]
         print(follow(server, command, given), flush=True)
     server.stop()
 
