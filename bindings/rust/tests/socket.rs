@@ -88,6 +88,22 @@ fn datagrams_go_both_ways() {
     }
 }
 
+/// What the server responds is read also while the program only sends: it has a channel then.
+#[test]
+fn a_program_may_only_send() {
+    for transport in BOTH {
+        let mut server = Server::start(transport);
+        let socket = connect(&server);
+        let until = Instant::now() + PATIENCE;
+        while !server.tell("payloads").ends_with("|channel") {
+            assert!(Instant::now() < until, "there is no channel");
+            socket.send_to(b"hello", peer()).unwrap();
+            thread::sleep(Duration::from_millis(30));
+        }
+        assert_eq!(received(&socket).unwrap().0, "hello");
+    }
+}
+
 #[test]
 fn a_stream_may_come_in_pieces() {
     let mut server = Server::start(TransportType::Tcp);

@@ -23,6 +23,9 @@ pub const CLOSE_PATIENCE: Duration = Duration::from_secs(3);
 const IN_MAX: usize = 65_536;
 /// How long a call serves at least, so that it reads what came.
 const LEAST_SERVICE: Duration = Duration::from_millis(1);
+/// How long a program may only send until a call takes what came, and how long it then takes.
+const UNREAD_MAX: Duration = Duration::from_millis(100);
+const LOOK_MAX: Duration = Duration::from_millis(10);
 /// The longest wait in the system. No call can wake a thread there that waits for a datagram, so
 /// what another thread requests or closes is seen after it. It also bounds what Linux adds to a
 /// timeout, as much as an eighth.
@@ -92,6 +95,9 @@ struct Inner {
     read_timeout: Option<Duration>,
     /// Why the stream to the server failed.
     failure: Option<io::Error>,
+    /// How often something was read, and when a thread last tried.
+    reads: u64,
+    read_at: Instant,
 }
 
 impl fmt::Debug for TurnSocket {
@@ -151,6 +157,8 @@ impl TurnSocket {
                 buffer: Some(vec![0; IN_MAX]),
                 read_timeout: None,
                 failure: None,
+                reads: 0,
+                read_at: Instant::now(),
             }),
             changed: Condvar::new(),
         };
@@ -249,7 +257,26 @@ impl TurnSocket {
             });
         }
         self.turn(&mut inner);
+        self.look(inner);
         Ok(data.len())
+    }
+
+    /// Takes what waits in the system's socket, if nobody read for a while: responses come also to a
+    /// program that only sends.
+    fn look<'a>(&'a self, mut inner: MutexGuard<'a, Inner>) {
+        if inner.buffer.is_none() || inner.read_at.elapsed() < UNREAD_MAX {
+            return;
+        }
+        let until = Instant::now() + LOOK_MAX;
+        loop {
+            let before = inner.reads;
+            (inner, _) = self.receive(inner, Duration::ZERO);
+            inner.session.store_incoming();
+            self.turn(&mut inner);
+            if inner.reads == before || Instant::now() > until {
+                return;
+            }
+        }
     }
 
     fn is_permitted(&self, peer: IpAddr) -> Result<bool, SocketError> {
@@ -480,12 +507,14 @@ impl TurnSocket {
         let received = self.connection.receive(&mut reading.buffer, wait);
         let mut inner = self.lock();
         let buffer = std::mem::take(&mut reading.buffer);
+        inner.read_at = Instant::now();
         let failed = match received {
             Ok(None) => None,
             Ok(Some(0)) if self.connection.transport() == TransportType::Tcp => {
                 self.fail(&mut inner, closed())
             }
             Ok(Some(size)) => {
+                inner.reads += 1;
                 inner
                     .session
                     .handle_received(buffer.get(..size).unwrap_or_default());
