@@ -1,10 +1,19 @@
-//! A TURN client (RFC 8656, RFC 6062, RFC 6156) over UDP or TCP that does no input or output: a
-//! safe layer over the archive `libturn_client.a` of a proved client. The names are those of the
-//! crate `turn-client-proto`.
+//! A TURN client (RFC 8656, RFC 6062, RFC 6156): sockets over a TURN server, and the client alone,
+//! which does no input or output. It is a safe layer over the library `libturn_client.a` of a proved
+//! client. This crate isn't proved; that it calls the library correctly is tested.
 //!
-//! The program owns sockets and clock, and takes turns: it sends what the client draws, polls it,
-//! and takes its events. A turn is due after each call, and when the moment has come that `poll`
-//! told:
+//! | to | use |
+//! |---|---|
+//! | send and receive datagrams | [`TurnSocket`], with the calls of [`UdpSocket`](std::net::UdpSocket) |
+//! | connect to a peer over TCP | [`TurnStream`], with the calls of [`TcpStream`](std::net::TcpStream) |
+//! | do so over TLS, or with other settings | [`driver::ConnectOptions`] |
+//! | do the input and output yourself | [`TurnClientUdp`], [`TurnClientTcp`] |
+//!
+//! # The client alone
+//!
+//! The names are those of the crate `turn-client-proto`. The program owns sockets and clock, and
+//! takes turns: it sends what the client draws, polls it, and takes its events. A turn is due after
+//! each call, and when the time has come that `poll` returned:
 //!
 //! ```no_run
 //! use std::net::{SocketAddr, UdpSocket};
