@@ -343,6 +343,7 @@ class Version(unittest.TestCase):
     """What states another version than VERSION, in a copy of the files that state one."""
 
     HEADER, CARGO = "bindings/c/include/turn_client.h", "bindings/rust/Cargo.toml"
+    CARGO_SYS, CARGO_TOKIO = (f"bindings/rust/turn-client-{it}/Cargo.toml" for it in ("sys", "tokio"))
     LIBRARY = "crates/turn_client_c/src/lib.rt"
     WHEEL, CHANGES = "bindings/python/make_wheel.py", "CHANGELOG.md"
     MODULE = "bindings/python/turn_client.py"
@@ -353,8 +354,8 @@ class Version(unittest.TestCase):
         self.addCleanup(room.cleanup)
         self.top = Path(room.name)
         files = ("MANIFEST", "turn_client.pc", "turn_client.h")
-        copied = ("VERSION", "bindings/c/build", self.HEADER, self.CARGO, self.LIBRARY, self.WHEEL, self.MODULE,
-                  self.CHANGES)
+        copied = ("VERSION", "bindings/c/build", self.HEADER, self.CARGO, self.CARGO_SYS, self.CARGO_TOKIO,
+                  self.LIBRARY, self.WHEEL, self.MODULE, self.CHANGES)
         for file in (*copied, *(f"{self.DIST}/{it}" for it in files)):
             self.top.joinpath(file).parent.mkdir(parents=True, exist_ok=True)
             shutil.copy(TOP / file, self.top / file)
@@ -391,7 +392,11 @@ class Version(unittest.TestCase):
             (self.HEADER, f"_NUMBER {number}", "_NUMBER 90807", "TURN_CLIENT_VERSION_NUMBER states 90807"),
             (self.LIBRARY, f"VERSION: u32 = {number};", "VERSION: u32 = 90807;", "turn_client_c: VERSION states 90807"),
             (self.LIBRARY, f"result ≡ {number} }}", "result ≡ 90807 }", "turn_client_version states 90807"),
-            (self.CARGO, f'version = "{stands}"', 'version = "9.8.7"', f"{self.CARGO} states 9.8.7"),
+            (self.CARGO, f'\nversion = "{stands}"', '\nversion = "9.8.7"', f"{self.CARGO} states 9.8.7"),
+            (self.CARGO, f'version = "={stands}"', 'version = "=9.8.7"', "of the other package states 9.8.7"),
+            (self.CARGO_TOKIO, f'version = "={stands}"', 'version = "=9.8.7"', "of the other package states 9.8.7"),
+            (self.CARGO_TOKIO, f'\nversion = "{stands}"', '\nversion = "9.8.7"', f"{self.CARGO_TOKIO} states 9.8.7"),
+            (self.CARGO_SYS, f'version = "{stands}"', 'version = "9.8.7"', f"{self.CARGO_SYS} states 9.8.7"),
             (self.WHEEL, read, '"9.8.7"', f"{self.WHEEL}: VERSION states 9.8.7"),
             (self.WHEEL, "Version: {VERSION}", "Version: 9.8.7", f"{self.WHEEL}: METADATA states 9.8.7"),
             (self.MODULE, f'__version__ = "{stands}"', '__version__ = "9.8.7"', f"{self.MODULE} states 9.8.7"),

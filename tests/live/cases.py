@@ -203,7 +203,7 @@ def connections():
 
 
 def drivers():
-    """What a driver does in place of the program: turn_client_asyncio of Python, turn_driver.h of C."""
+    """What a driver does in place of the program: turn_client_asyncio, turn_driver.h of C, TurnSocket of Rust."""
     both = [replace(case, name=f"driver: {case.name}") for case in (*payloads(), *connections())]
     tls = [replace(case, transport="tls", name=case.name.replace(", TCP", "") + ", TLS") for case in both
            if case.transport == "tcp"]
@@ -216,7 +216,7 @@ def drivers():
     followed = replace(redirected, name="driver: another server, which is followed, UDP", want=ALL_BACK, peer="run",
                        options=("--redirects", "1"), visits=1, says=("public address: ",))
     untrusted = Case("driver: a certificate that nobody vouches for", NO_ANSWER, transport="tls", peer="none",
-                     is_distrusted=True, says=(r"(?i)certificate.verify.failed",))
+                     is_distrusted=True, says=(r"(?i)certificate.verify.failed|UnknownIssuer",))
     # the renewal is rejected after 35 seconds, and the allocation ends after 70
     restarted = Case("driver: killed and restarted, UDP", FAILED, count=100, interval=50, seconds=90, during=restart,
                      server=SHORT_SERVER, is_idle=True, logged=(("error 437", 1),), lasts=(69, 80),

@@ -1,5 +1,6 @@
 """The programs that are run: how each is built, and which options it takes."""
 
+import glob
 import os
 import re
 import shutil
@@ -10,6 +11,7 @@ from dataclasses import dataclass
 ROOT = os.path.abspath(os.path.join(os.path.dirname(__file__), "..", ".."))
 LIBRARY = os.path.join(ROOT, "dist", "x86_64-linux-gnu")  # the folder of the released library
 PEERS = {"run": ["--peer"], "stream": ["--connect"], "echo": ["--echo"], "none": []}  # by which it learns its peer
+DEBIAN_CRATES = "/usr/share/cargo/registry"
 C_FILES = ("turn_client.c", "options.c", "sockets.c", "tally.c")
 C_DRIVER_FILES = ("example_driver.c", *(f"driver/{it}.c" for it in (
     "address", "buffers", "clock", "connection", "datagrams", "driver", "failure", "line", "openssl", "turns", "uri")))
@@ -111,17 +113,41 @@ def of_c_driver(archive, folder):
 
 
 def of_rust(archive, folder):
-    """The examples of bindings/rust/, each over one transport."""
+    """The examples of bindings/rust/: each with a loop of its own over one transport; over the driver socket.rs, and
+    example-rustls."""
     source = os.path.join(ROOT, "bindings", "rust")
-    names = {kind: f"bindings/rust/examples/{kind}.rs" for kind in ("udp", "tcp")}
+    transports = {"udp": ("udp",), "tcp": ("tcp",), "socket": ("udp", "tcp")}
+    names = {kind: f"bindings/rust/examples/{kind}.rs" for kind in transports}
     if not os.path.isdir(source) or shutil.which("cargo") is None:
         return [Absent(name, "no folder bindings/rust/, or no cargo") for name in names.values()]
     target = os.path.join(folder, "rust-target")
-    build = ["env", "TURN_CLIENT_LIB=" + archive, "CARGO_TARGET_DIR=" + target,
-             "cargo", "build", "--offline", "--release", "--examples"]
-    if not _build(build, source, os.path.join(folder, "build-rust.log")):
+    environment = ["env", "TURN_CLIENT_LIB=" + archive, "CARGO_TARGET_DIR=" + target]
+    build, log = ["cargo", "build", "--offline", "--release"], os.path.join(folder, "build-rust.log")
+    if not _build([*environment, *build, "--examples"], source, log):
         return [Absent(name, "it isn't built: see build-rust.log") for name in names.values()]
-    return [_made(name, [os.path.join(target, "release", "examples", kind)], (kind,)) for kind, name in names.items()]
+    made = [_made(names[kind], [os.path.join(target, "release", "examples", kind)], by, driver=kind == "socket")
+            for kind, by in transports.items()]
+    return [*made, _of_rustls([*environment, "CARGO_HOME=" + _debian_home(folder), *build], source, target, log)]
+
+
+def _debian_home(folder):
+    """A folder that has cargo take the packages of Debian (librust-NAME-dev) in place of those of a registry."""
+    home = os.path.join(folder, "cargo-home")
+    os.makedirs(home, exist_ok=True)
+    with open(os.path.join(home, "config.toml"), "w", encoding="utf-8") as config:
+        config.write(f'source.crates-io.replace-with = "debian"\nsource.debian.directory = "{DEBIAN_CRATES}"\n')
+    return home
+
+
+def _of_rustls(build, source, target, log):
+    """The example over TLS. Its rustls knows no names that are IP addresses."""
+    name = "bindings/rust/example-rustls"
+    if not glob.glob(os.path.join(DEBIAN_CRATES, "rustls-0.20*")):
+        return Absent(name, "rustls isn't installed: apt-get install librust-rustls-dev librust-rustls-pemfile-dev")
+    if not _build(build, os.path.join(source, "example-rustls"), log):
+        return Absent(name, "it isn't built: see build-rust.log")
+    command = [os.path.join(target, "release", "turn-client-example-rustls"), "--tls-name", "localhost"]
+    return _made(name, command, ("tls",), driver=True)
 
 
 def of_python(archive, folder):

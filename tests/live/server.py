@@ -21,7 +21,8 @@ COOKIE = bytes.fromhex("2112a442")
 # a certificate for a case over TLS, whose names are those by which programs reach the server
 CERTIFICATE, KEY, ANOTHER = "certificate.pem", "key.pem", "another.pem"
 CERTIFIED = ("openssl", "req", "-x509", "-newkey", "ec", "-pkeyopt", "ec_paramgen_curve:P-256", "-nodes", "-days", "2",
-             "-subj", "/CN=localhost", "-addext", "subjectAltName=IP:127.0.0.1,IP:::1,DNS:localhost")
+             "-subj", "/CN=localhost", "-addext", "subjectAltName=IP:127.0.0.1,IP:::1,DNS:localhost",
+             "-addext", "basicConstraints=critical,CA:FALSE")  # rustls takes no certificate of an authority for a server's
 
 BINDING_REQUEST = bytes.fromhex("00010000") + COOKIE
 

@@ -1,5 +1,5 @@
-//! A client over TCP: allocates, gets a permission and a channel, sends payloads, counts what comes back, and gives the
-//! address back. Peers are reached over UDP.
+//! A client over TCP: allocates, gets a permission and a channel, sends payloads, counts what comes
+//! back, and gives the address back. Peers are reached over UDP.
 //!
 //!     TURN_PASSWORD=secret cargo run --example tcp -- --server 127.0.0.1:3478 --user alice --echo
 //!

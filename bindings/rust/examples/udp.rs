@@ -1,5 +1,5 @@
-//! A client over UDP: allocates, gets a permission and a channel, sends payloads, counts what comes back, and gives the
-//! address back.
+//! A client over UDP: allocates, gets a permission and a channel, sends payloads, counts what comes
+//! back, and gives the address back.
 //!
 //!     TURN_PASSWORD=secret cargo run --example udp -- --server 127.0.0.1:3478 --user alice --echo
 //!
@@ -22,8 +22,8 @@ impl Line for Socket {
         self.0.local_addr()
     }
 
-    /// That the server's port is closed is told by a call behind the one that found out. The client isn't told: it
-    /// sends again, and gives up in time.
+    /// That the server's port is closed is told by a call behind the one that found out. The client
+    /// isn't told: it sends again, and gives up in time.
     fn send(&mut self, bytes: &[u8]) -> Result<()> {
         match self.0.send(bytes) {
             Err(error) if error.kind() != ErrorKind::ConnectionRefused => Err(error),
@@ -35,7 +35,9 @@ impl Line for Socket {
         self.0.set_read_timeout(Some(wait))?;
         match self.0.recv(bytes) {
             Ok(size) => Ok(Some(size)),
-            Err(error) if is_nothing(&error) || error.kind() == ErrorKind::ConnectionRefused => Ok(None),
+            Err(error) if is_nothing(&error) || error.kind() == ErrorKind::ConnectionRefused => {
+                Ok(None)
+            }
             Err(error) => Err(error),
         }
     }

@@ -10,7 +10,7 @@ const FAMILY_4: u8 = 4;
 const FAMILY_6: u8 = 6;
 
 /// An address, told to C.
-pub(crate) fn told(address: SocketAddr) -> sys::Address {
+pub(crate) fn told(address: SocketAddr) -> sys::turn_address {
     let (ip, family) = match address.ip() {
         IpAddr::V4(v4) => {
             let [a, b, c, d] = v4.octets();
@@ -19,16 +19,16 @@ pub(crate) fn told(address: SocketAddr) -> sys::Address {
         IpAddr::V6(v6) => (v6.octets(), FAMILY_6),
     };
     let port = address.port();
-    sys::Address { ip, port, family }
+    sys::turn_address { ip, port, family }
 }
 
 /// An address without a port, told to C.
-pub(crate) fn told_ip(ip: IpAddr) -> sys::Address {
+pub(crate) fn told_ip(ip: IpAddr) -> sys::turn_address {
     told(SocketAddr::new(ip, 0))
 }
 
 /// An address that C told. It has no flow information and no scope.
-pub(crate) fn read(address: &sys::Address) -> SocketAddr {
+pub(crate) fn read(address: &sys::turn_address) -> SocketAddr {
     let [a, b, c, d, ..] = address.ip;
     let ip = match address.family {
         FAMILY_6 => IpAddr::V6(Ipv6Addr::from(address.ip)),
@@ -40,15 +40,15 @@ pub(crate) fn read(address: &sys::Address) -> SocketAddr {
 /// The number of a transport in IP.
 pub(crate) fn told_transport(transport: TransportType) -> u32 {
     match transport {
-        TransportType::Udp => sys::UDP,
-        TransportType::Tcp => sys::TCP,
+        TransportType::Udp => sys::TURN_UDP,
+        TransportType::Tcp => sys::TURN_TCP,
     }
 }
 
 /// A transport that C told by its number in IP.
 pub(crate) fn read_transport(number: u32) -> TransportType {
     match number {
-        sys::TCP => TransportType::Tcp,
+        sys::TURN_TCP => TransportType::Tcp,
         _ => TransportType::Udp,
     }
 }
@@ -56,8 +56,8 @@ pub(crate) fn read_transport(number: u32) -> TransportType {
 /// A moment, told to C: in nanoseconds. Behind the last that C takes there is none.
 pub(crate) fn told_moment(now: Duration) -> u64 {
     u64::try_from(now.as_nanos())
-        .unwrap_or(sys::MOMENT_MAX)
-        .min(sys::MOMENT_MAX)
+        .unwrap_or(sys::TURN_MOMENT_MAX)
+        .min(sys::TURN_MOMENT_MAX)
 }
 
 /// A wait, told to C: in milliseconds. What is less than one counts as one.
@@ -73,7 +73,10 @@ mod tests {
     #[test]
     fn an_address_is_told_in_the_order_of_the_network() {
         let v4 = told("1.2.3.4:258".parse().unwrap());
-        assert_eq!((&v4.ip[..5], v4.port, v4.family), (&[1, 2, 3, 4, 0][..], 258, 4));
+        assert_eq!(
+            (&v4.ip[..5], v4.port, v4.family),
+            (&[1, 2, 3, 4, 0][..], 258, 4)
+        );
         let v6 = told("[102:304::ff]:9".parse().unwrap());
         assert_eq!(
             (&v6.ip[..5], v6.ip[15], v6.port, v6.family),

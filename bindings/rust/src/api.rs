@@ -115,9 +115,9 @@ pub struct TurnConfig {
 }
 
 impl TurnConfig {
-    /// An address of IPv4 over UDP is asked for, HMAC-SHA1 and HMAC-SHA256 are supported, of which the server's
-    /// strongest is taken, the name is hidden where the server can, requests are sent again as RFC 8489 says, the
-    /// client is hardened, and a REFRESH may shorten an allocation.
+    /// An address of IPv4 over UDP is asked for, HMAC-SHA1 and HMAC-SHA256 are supported, of which
+    /// the server's strongest is taken, the name is hidden where the server can, requests are sent
+    /// again as RFC 8489 says, the client is hardened, and a REFRESH may shorten an allocation.
     pub fn new(credentials: TurnCredentials) -> Self {
         Self {
             allocation_transport: TransportType::Udp,
@@ -191,9 +191,9 @@ impl TurnConfig {
         self.anonymous_username
     }
 
-    /// Sets whether the client is hardened. Then it ignores responses to no request of its own, refuses a challenge
-    /// that lacks the list of algorithms which its nonce announces, and ignores what doesn't validate while it
-    /// allocates.
+    /// Sets whether the client is hardened. Then it ignores responses to no request of its own,
+    /// refuses a challenge that lacks the list of algorithms which its nonce announces, and ignores
+    /// what doesn't validate while it allocates.
     pub fn set_hardened(&mut self, is_hardened: bool) {
         self.is_hardened = is_hardened;
     }
@@ -203,9 +203,10 @@ impl TurnConfig {
         self.is_hardened
     }
 
-    /// Sets how many connections of an allocation may wait for their socket while the client accepts one more that a
-    /// peer opens (RFC 6062); the next gets error 447. While as many messages wait to be sent, an attempt that would
-    /// get an error is ignored. 0 is 64, or no limit if the client isn't hardened.
+    /// Sets how many connections of an allocation may wait for their socket while the client
+    /// accepts one more that a peer opens (RFC 6062); the next gets error 447. While as many
+    /// messages wait to be sent, an attempt that would get an error is ignored. 0 is 64, or no
+    /// limit if the client isn't hardened.
     pub fn set_max_connection_attempts(&mut self, max_connection_attempts: usize) {
         self.max_connection_attempts = max_connection_attempts;
     }
@@ -215,9 +216,10 @@ impl TurnConfig {
         self.max_connection_attempts
     }
 
-    /// Sets whether a lifetime under 600 seconds in the response to a REFRESH is believed (RFC 8656, section 8.3), so that
-    /// it shortens the allocation. If not, such a response changes nothing, and the allocation may outlast the server's.
-    /// It is not believed anyway if the client isn't hardened. What the response to the ALLOCATE says is always believed.
+    /// Sets whether a lifetime under 600 seconds in the response to a REFRESH is believed (RFC
+    /// 8656, section 8.3), so that it shortens the allocation. If not, such a response changes
+    /// nothing, and the allocation may outlast the server's. It is not believed anyway if the
+    /// client isn't hardened. What the response to the ALLOCATE says is always believed.
     pub fn set_short_lifetimes(&mut self, is_believed: bool) {
         self.short_lifetimes = is_believed;
     }
@@ -227,10 +229,11 @@ impl TurnConfig {
         self.short_lifetimes
     }
 
-    /// Sets how requests are sent again over UDP: the wait behind the first, which each next one doubles, the longest
-    /// wait between two, how often a request is sent in all, and the wait behind the last. Where `retransmits` is
-    /// 0, all of it is as RFC 8489 says. Waits count in milliseconds, rounded up. Over TCP a request is sent once, and
-    /// waits as long as all of these together.
+    /// Sets how requests are sent again over UDP: the wait behind the first, which each next one
+    /// doubles, the longest wait between two, how often a request is sent in all, and the wait
+    /// behind the last. Where `retransmits` is 0, all of it is as RFC 8489 says. Waits count in
+    /// milliseconds, rounded up. Over TCP a request is sent once, and waits as long as all of these
+    /// together.
     pub fn set_request_retransmits(
         &mut self,
         initial: Duration,
@@ -247,9 +250,14 @@ impl TurnConfig {
     }
 
     /// All of it, told to C, for a client between two addresses.
-    pub(crate) fn told(&self, transport: TransportType, local: SocketAddr, server: SocketAddr) -> sys::Settings {
-        let mut settings = sys::Settings {
-            size: size_of::<sys::Settings>(),
+    pub(crate) fn told(
+        &self,
+        transport: TransportType,
+        local: SocketAddr,
+        server: SocketAddr,
+    ) -> sys::turn_settings {
+        let mut settings = sys::turn_settings {
+            size: size_of::<sys::turn_settings>(),
             local: told(local),
             server: told(server),
             transport: told_transport(transport),
@@ -266,7 +274,7 @@ impl TurnConfig {
             compatible: u32::from(!self.is_hardened),
             max_connection_attempts: self.max_connection_attempts,
             ignore_short_lifetimes: u32::from(!self.short_lifetimes),
-            ..sys::Settings::default()
+            ..sys::turn_settings::default()
         };
         if let Some(waits) = self.retransmits {
             settings.sends = waits.retransmits;
@@ -280,24 +288,24 @@ impl TurnConfig {
 
 fn bit_of_family(family: AddressFamily) -> u32 {
     match family {
-        AddressFamily::IPV4 => sys::IPV4,
-        AddressFamily::IPV6 => sys::IPV6,
+        AddressFamily::IPV4 => sys::TURN_IPV4,
+        AddressFamily::IPV6 => sys::TURN_IPV6,
     }
 }
 
 fn bit_of_integrity(integrity: IntegrityAlgorithm) -> u32 {
     match integrity {
-        IntegrityAlgorithm::Sha1 => sys::SHA1,
-        IntegrityAlgorithm::Sha256 => sys::SHA256,
-        IntegrityAlgorithm::Sha512 => sys::SHA512,
+        IntegrityAlgorithm::Sha1 => sys::TURN_SHA1,
+        IntegrityAlgorithm::Sha256 => sys::TURN_SHA256,
+        IntegrityAlgorithm::Sha512 => sys::TURN_SHA512,
     }
 }
 
 fn told_feature(feature: Feature) -> u32 {
     match feature {
-        Feature::Auto => sys::ANONYMOUS_AUTO,
-        Feature::Required => sys::ANONYMOUS_REQUIRED,
-        Feature::Disabled => sys::ANONYMOUS_DISABLED,
+        Feature::Auto => sys::TURN_ANONYMOUS_AUTO,
+        Feature::Required => sys::TURN_ANONYMOUS_REQUIRED,
+        Feature::Disabled => sys::TURN_ANONYMOUS_DISABLED,
     }
 }
 
@@ -308,8 +316,8 @@ pub struct Transmit<T> {
     pub data: T,
     /// By which transport they go.
     pub transport: TransportType,
-    /// Where they come from. Of what is to be sent over TCP it tells the connection to the server: the client's own,
-    /// or that of a peer.
+    /// Where they come from. Of what is to be sent over TCP it tells the connection to the server:
+    /// the client's own, or that of a peer.
     pub from: SocketAddr,
     /// Where they go.
     pub to: SocketAddr,
@@ -329,8 +337,13 @@ impl<T> Transmit<T> {
 
 impl<'a> Transmit<&'a [u8]> {
     /// What C says to send, with its bytes.
-    pub(crate) fn read(data: &'a [u8], sent: &sys::Transmit) -> Self {
-        Self::new(data, read_transport(sent.transport), read(&sent.from), read(&sent.to))
+    pub(crate) fn read(data: &'a [u8], sent: &sys::turn_transmit) -> Self {
+        Self::new(
+            data,
+            read_transport(sent.transport),
+            read(&sent.from),
+            read(&sent.to),
+        )
     }
 }
 
@@ -348,10 +361,11 @@ pub struct Socket5Tuple {
 /// What is to be done by the program, or until when nothing is.
 #[derive(Clone, Copy, Debug, PartialEq, Eq)]
 pub enum TurnPollRet {
-    /// Nothing is to be done until that moment, unless something comes or is asked for. Where it isn't later than now,
-    /// another turn is due at once.
+    /// Nothing is to be done until that moment, unless something comes or is asked for. Where it
+    /// isn't later than now, another turn is due at once.
     WaitUntil(Duration),
-    /// A connection to the server is to be opened. Tell of it by `allocated_tcp_socket`, and poll again.
+    /// A connection to the server is to be opened. Tell of it by `allocated_tcp_socket`, and poll
+    /// again.
     AllocateTcpSocket {
         /// The number of the connection.
         id: u32,
@@ -373,11 +387,11 @@ pub enum TurnPollRet {
 
 impl TurnPollRet {
     /// What a status tells, where it is one that `poll` answers.
-    pub(crate) fn read(status: i32, wait: &sys::Wait) -> Option<Self> {
+    pub(crate) fn read(status: i32, wait: &sys::turn_wait) -> Option<Self> {
         let (from, to) = (read(&wait.from), read(&wait.to));
         Some(match status {
-            sys::OK => Self::WaitUntil(Duration::from_nanos(wait.until)),
-            sys::OPEN_SOCKET => Self::AllocateTcpSocket {
+            sys::TURN_OK => Self::WaitUntil(Duration::from_nanos(wait.until)),
+            sys::TURN_OPEN_SOCKET => Self::AllocateTcpSocket {
                 id: wait.id,
                 socket: Socket5Tuple {
                     transport: read_transport(wait.transport),
@@ -386,11 +400,11 @@ impl TurnPollRet {
                 },
                 peer_addr: read(&wait.peer),
             },
-            sys::CLOSE_SOCKET => Self::TcpClose {
+            sys::TURN_CLOSE_SOCKET => Self::TcpClose {
                 local_addr: from,
                 remote_addr: to,
             },
-            sys::CLOSED => Self::Closed,
+            sys::TURN_CLOSED => Self::Closed,
             _ => return None,
         })
     }
@@ -422,7 +436,7 @@ pub enum TurnRecvRet<'a> {
 
 impl TurnRecvRet<'_> {
     /// A report that C told.
-    pub(crate) fn of_report(told: &sys::Payload) -> Self {
+    pub(crate) fn of_report(told: &sys::turn_payload) -> Self {
         Self::PeerIcmp {
             transport: read_transport(told.transport),
             peer: read(&told.peer),
@@ -433,8 +447,8 @@ impl TurnRecvRet<'_> {
     }
 }
 
-/// Data of a peer. Where it stands in one piece in the bytes that came it is borrowed of them, for as long as they
-/// live. Over TCP it may have come in pieces: then it is a vector of its size.
+/// Data of a peer. Where it stands in one piece in the bytes that came it is borrowed of them, for
+/// as long as they live. Over TCP it may have come in pieces: then it is a vector of its size.
 #[derive(Clone, Debug, PartialEq, Eq)]
 pub struct TurnPeerData<'a> {
     data: Cow<'a, [u8]>,
@@ -446,9 +460,13 @@ pub struct TurnPeerData<'a> {
 
 impl<'a> TurnPeerData<'a> {
     /// Data of the peer that C told.
-    pub(crate) fn read(data: Cow<'a, [u8]>, told: &sys::Payload) -> Self {
+    pub(crate) fn read(data: Cow<'a, [u8]>, told: &sys::turn_payload) -> Self {
         let (transport, peer) = (read_transport(told.transport), read(&told.peer));
-        Self { data, transport, peer }
+        Self {
+            data,
+            transport,
+            peer,
+        }
     }
 
     /// The data.
@@ -509,20 +527,20 @@ pub enum TurnEvent {
 
 impl TurnEvent {
     /// An event that C told, where it is one of those above.
-    pub(crate) fn read(event: &sys::Event) -> Option<Self> {
+    pub(crate) fn read(event: &sys::turn_event) -> Option<Self> {
         let (transport, address) = (read_transport(event.transport), read(&event.address));
         Some(match event.kind {
-            sys::ALLOCATION_CREATED => Self::AllocationCreated(transport, address),
-            sys::ALLOCATION_FAILED => Self::AllocationCreateFailed(match address {
+            sys::TURN_ALLOCATION_CREATED => Self::AllocationCreated(transport, address),
+            sys::TURN_ALLOCATION_FAILED => Self::AllocationCreateFailed(match address {
                 SocketAddr::V4(_) => AddressFamily::IPV4,
                 SocketAddr::V6(_) => AddressFamily::IPV6,
             }),
-            sys::PERMISSION_CREATED => Self::PermissionCreated(transport, address.ip()),
-            sys::PERMISSION_FAILED => Self::PermissionCreateFailed(transport, address.ip()),
-            sys::CHANNEL_CREATED => Self::ChannelCreated(transport, address),
-            sys::CHANNEL_FAILED => Self::ChannelCreateFailed(transport, address),
-            sys::TCP_CONNECTED => Self::TcpConnected(address),
-            sys::TCP_FAILED => Self::TcpConnectFailed(address),
+            sys::TURN_PERMISSION_CREATED => Self::PermissionCreated(transport, address.ip()),
+            sys::TURN_PERMISSION_FAILED => Self::PermissionCreateFailed(transport, address.ip()),
+            sys::TURN_CHANNEL_CREATED => Self::ChannelCreated(transport, address),
+            sys::TURN_CHANNEL_FAILED => Self::ChannelCreateFailed(transport, address),
+            sys::TURN_TCP_CONNECTED => Self::TcpConnected(address),
+            sys::TURN_TCP_FAILED => Self::TcpConnectFailed(address),
             _ => return None,
         })
     }
@@ -536,9 +554,9 @@ pub enum TurnCause {
     Rejected {
         /// The response's error code, 300 to 699.
         code: u16,
-        /// Its reason phrase: the server's words, or those of whoever sent the response. Remove control characters
-        /// before it is printed. It is empty if the response had none. (One that isn't UTF-8 makes the response malformed:
-        /// [`Unusable`](Self::Unusable).)
+        /// Its reason phrase: the server's words, or those of whoever sent the response. Remove
+        /// control characters before it is printed. It is empty if the response had none. (One that
+        /// isn't UTF-8 makes the response malformed: [`Unusable`](Self::Unusable).)
         reason: String,
         /// Whether the response was validated under the password. If not, it may be anybody's.
         is_signed: bool,
@@ -547,15 +565,15 @@ pub enum TurnCause {
     Unanswered,
     /// The response wasn't signed, or not by the password.
     Integrity,
-    /// The server's challenge names no algorithm that the client supports, or lacks what the settings require, as to
-    /// hide the name.
+    /// The server's challenge names no algorithm that the client supports, or lacks what the
+    /// settings require, as to hide the name.
     NoCommonAlgorithm,
     /// The server allocated addresses of other families only.
     OtherFamily,
     /// Memory for the cause ran out, so it wasn't stored.
     OutOfMemory,
-    /// [`TurnClientApi::delete`](crate::TurnClientApi::delete) was called before: whatever fails or ends after it, by
-    /// a response or without one.
+    /// [`TurnClientApi::delete`](crate::TurnClientApi::delete) was called before: whatever fails or
+    /// ends after it, by a response or without one.
     Deleted,
     /// Its time was over.
     Expired,
@@ -566,24 +584,25 @@ pub enum TurnCause {
 }
 
 impl TurnCause {
-    /// The cause that C reports, with its reason phrase; `None` if it reports none, or none of those above.
-    pub(crate) fn read(cause: &sys::Cause, reason: impl FnOnce() -> String) -> Option<Self> {
+    /// The cause that C reports, with its reason phrase; `None` if it reports none, or none of
+    /// those above.
+    pub(crate) fn read(cause: &sys::turn_cause, reason: impl FnOnce() -> String) -> Option<Self> {
         Some(match cause.kind {
-            sys::REJECTED => Self::Rejected {
+            sys::TURN_REJECTED => Self::Rejected {
                 code: u16::try_from(cause.code).unwrap_or_default(),
                 reason: reason(),
                 is_signed: cause.is_signed,
             },
-            sys::UNANSWERED => Self::Unanswered,
-            sys::INTEGRITY => Self::Integrity,
-            sys::NO_ALGORITHM => Self::NoCommonAlgorithm,
-            sys::OTHER_FAMILY => Self::OtherFamily,
-            sys::CAUSE_MEMORY => Self::OutOfMemory,
-            sys::DELETED => Self::Deleted,
-            sys::EXPIRED => Self::Expired,
-            sys::SOCKET_CLOSED => Self::SocketClosed,
-            sys::UNUSABLE => Self::Unusable,
-            sys::CAUSE_NONE => return None,
+            sys::TURN_UNANSWERED => Self::Unanswered,
+            sys::TURN_INTEGRITY => Self::Integrity,
+            sys::TURN_NO_ALGORITHM => Self::NoCommonAlgorithm,
+            sys::TURN_OTHER_FAMILY => Self::OtherFamily,
+            sys::TURN_CAUSE_MEMORY => Self::OutOfMemory,
+            sys::TURN_DELETED => Self::Deleted,
+            sys::TURN_EXPIRED => Self::Expired,
+            sys::TURN_SOCKET_CLOSED => Self::SocketClosed,
+            sys::TURN_UNUSABLE => Self::Unusable,
+            sys::TURN_CAUSE_NONE => return None,
             // of a newer archive
             _ => return None,
         })
@@ -616,7 +635,8 @@ pub struct Connection {
 mod tests {
     use super::*;
 
-    /// What is set takes the place of what was, and what is added stands beside it, once. The bits are the header's.
+    /// What is set takes the place of what was, and what is added stands beside it, once. The bits
+    /// are the header's.
     #[test]
     fn settings_are_told_as_bits() {
         let (local, server) = (
@@ -629,15 +649,27 @@ mod tests {
             (told.families, told.integrity)
         };
         assert_eq!(bits(&config), (1, 3));
-        let compatible = |config: &TurnConfig| config.told(TransportType::Udp, local, server).compatible;
+        let compatible =
+            |config: &TurnConfig| config.told(TransportType::Udp, local, server).compatible;
         assert_eq!(compatible(&config), 0);
         config.set_hardened(false);
         assert_eq!(compatible(&config), 1);
-        let attempts = |config: &TurnConfig| config.told(TransportType::Udp, local, server).max_connection_attempts;
+        let attempts = |config: &TurnConfig| {
+            config
+                .told(TransportType::Udp, local, server)
+                .max_connection_attempts
+        };
         assert_eq!(attempts(&config), 0);
         config.set_max_connection_attempts(7);
-        assert_eq!((attempts(&config), config.max_connection_attempts()), (7, 7));
-        let ignored = |config: &TurnConfig| config.told(TransportType::Udp, local, server).ignore_short_lifetimes;
+        assert_eq!(
+            (attempts(&config), config.max_connection_attempts()),
+            (7, 7)
+        );
+        let ignored = |config: &TurnConfig| {
+            config
+                .told(TransportType::Udp, local, server)
+                .ignore_short_lifetimes
+        };
         assert_eq!((ignored(&config), config.short_lifetimes()), (0, true));
         config.set_short_lifetimes(false);
         assert_eq!((ignored(&config), config.short_lifetimes()), (1, false));
@@ -656,29 +688,35 @@ mod tests {
         config.set_supported_integrity(IntegrityAlgorithm::Sha512);
         assert_eq!(bits(&config), (3, 4));
         assert_eq!(
-            (config.address_families().len(), config.supported_integrity().len()),
+            (
+                config.address_families().len(),
+                config.supported_integrity().len()
+            ),
             (2, 1)
         );
     }
 
     #[test]
     fn a_password_is_not_printed() {
-        let printed = format!("{:?}", TurnConfig::new(TurnCredentials::new("alice", "secret")));
+        let printed = format!(
+            "{:?}",
+            TurnConfig::new(TurnCredentials::new("alice", "secret"))
+        );
         assert!(printed.contains("alice") && !printed.contains("secret"));
     }
 
     #[test]
     fn what_a_newer_archive_might_tell_is_no_event_and_no_wait() {
         const UNKNOWN: u32 = 9;
-        let event = sys::Event {
+        let event = sys::turn_event {
             kind: UNKNOWN,
-            ..sys::Event::default()
+            ..sys::turn_event::default()
         };
         assert_eq!(TurnEvent::read(&event), None);
-        assert_eq!(TurnPollRet::read(8, &sys::Wait::default()), None);
-        let cause = sys::Cause {
+        assert_eq!(TurnPollRet::read(8, &sys::turn_wait::default()), None);
+        let cause = sys::turn_cause {
             kind: 11,
-            ..sys::Cause::default()
+            ..sys::turn_cause::default()
         };
         assert_eq!(TurnCause::read(&cause, String::new), None);
     }
@@ -687,11 +725,11 @@ mod tests {
     #[test]
     fn causes_are_those_of_the_header() {
         let read = |kind| {
-            let cause = sys::Cause {
+            let cause = sys::turn_cause {
                 kind,
                 code: 403,
                 is_signed: true,
-                ..sys::Cause::default()
+                ..sys::turn_cause::default()
             };
             TurnCause::read(&cause, || "Forbidden".to_string())
         };
@@ -701,17 +739,17 @@ mod tests {
             is_signed: true,
         };
         let wanted = [
-            (sys::CAUSE_NONE, None),
-            (sys::REJECTED, Some(rejected)),
-            (sys::UNANSWERED, Some(TurnCause::Unanswered)),
-            (sys::INTEGRITY, Some(TurnCause::Integrity)),
-            (sys::NO_ALGORITHM, Some(TurnCause::NoCommonAlgorithm)),
-            (sys::OTHER_FAMILY, Some(TurnCause::OtherFamily)),
-            (sys::CAUSE_MEMORY, Some(TurnCause::OutOfMemory)),
-            (sys::DELETED, Some(TurnCause::Deleted)),
-            (sys::EXPIRED, Some(TurnCause::Expired)),
-            (sys::SOCKET_CLOSED, Some(TurnCause::SocketClosed)),
-            (sys::UNUSABLE, Some(TurnCause::Unusable)),
+            (sys::TURN_CAUSE_NONE, None),
+            (sys::TURN_REJECTED, Some(rejected)),
+            (sys::TURN_UNANSWERED, Some(TurnCause::Unanswered)),
+            (sys::TURN_INTEGRITY, Some(TurnCause::Integrity)),
+            (sys::TURN_NO_ALGORITHM, Some(TurnCause::NoCommonAlgorithm)),
+            (sys::TURN_OTHER_FAMILY, Some(TurnCause::OtherFamily)),
+            (sys::TURN_CAUSE_MEMORY, Some(TurnCause::OutOfMemory)),
+            (sys::TURN_DELETED, Some(TurnCause::Deleted)),
+            (sys::TURN_EXPIRED, Some(TurnCause::Expired)),
+            (sys::TURN_SOCKET_CLOSED, Some(TurnCause::SocketClosed)),
+            (sys::TURN_UNUSABLE, Some(TurnCause::Unusable)),
         ];
         for (kind, cause) in wanted {
             assert_eq!(read(kind), cause);

@@ -9,17 +9,21 @@ use std::time::Duration;
 
 use crate::address::{read, read_transport, told, told_ip, told_moment, told_transport};
 use crate::api::{
-    AllocationExpired, Channel, Connection, Transmit, TransportType, TurnCause, TurnConfig, TurnCredentials, TurnEvent,
-    TurnPeerData, TurnPollRet, TurnRecvRet,
+    Channel, Connection, Transmit, TransportType, TurnCause, TurnConfig, TurnCredentials,
+    TurnEvent, TurnPeerData, TurnPollRet, TurnRecvRet,
 };
 use crate::error::{
-    AllocateError, BindChannelError, CreatePermissionError, CredentialsError, DeleteError, PollError,
-    PollTransmitError, RecvError, SendError, SoftwareError, TcpAllocateError, TcpClosedError, TcpConnectError,
+    AllocateError, BindChannelError, CreatePermissionError, CredentialsError, DeleteError,
+    PollError, PollTransmitError, RecvError, SendError, SoftwareError, TcpAllocateError,
+    TcpClosedError, TcpConnectError,
 };
 use crate::sys;
 
 /// Bytes of a buffer that any message fits in, and any data over UDP that is one byte too long.
-const OUT_MIN: usize = max(sys::MESSAGE_MAX, sys::PAYLOAD_MAX + 1 + sys::SEND_EXTRA);
+const OUT_MIN: usize = max(
+    sys::TURN_MESSAGE_MAX,
+    sys::TURN_PAYLOAD_MAX + 1 + sys::TURN_SEND_EXTRA,
+);
 
 const fn max(one: usize, other: usize) -> usize {
     if one > other {
@@ -32,18 +36,18 @@ const fn max(one: usize, other: usize) -> usize {
 /// An open handle, and what its calls want beside it.
 pub struct Handle {
     /// It stays where it is while the client is moved: C wants it not to be copied.
-    client: Box<UnsafeCell<sys::Client>>,
+    client: Box<UnsafeCell<sys::turn_client>>,
     transport: TransportType,
     local_addr: SocketAddr,
     remote_addr: SocketAddr,
     /// What is to be sent is written here: `OUT_MIN` bytes, or more.
     out: Vec<u8>,
     /// A payload whose joined bytes wait in the client, for there was no memory for them.
-    unread: Option<sys::Payload>,
+    unread: Option<sys::turn_payload>,
 }
 
-// SAFETY: by the header a handle may go to another thread between two calls, and all calls are made through a borrow of
-// it. It isn't `Sync`: getters borrow it shared, and call C with it.
+// SAFETY: by the header a handle may go to another thread between two calls, and all calls are made
+// through a borrow of it. It isn't `Sync`: getters borrow it shared, and call C with it.
 unsafe impl Send for Handle {}
 
 impl Drop for Handle {
@@ -88,7 +92,7 @@ impl Handle {
             return Err(AllocateError::NoMemory);
         }
         let handle = Self {
-            client: Box::new(UnsafeCell::new(sys::CLIENT_INIT)),
+            client: Box::new(UnsafeCell::new(sys::TURN_CLIENT_INIT)),
             transport,
             local_addr,
             remote_addr,
@@ -96,9 +100,17 @@ impl Handle {
             unread: None,
         };
         let settings = config.told(transport, local_addr, remote_addr);
-        let (name, password) = (config.credentials().username(), config.credentials().password());
-        let (name_at, password_at, seed) = (name.as_ptr(), password.as_ptr(), sys::Seed { bytes: seed });
-        // SAFETY: the handle isn't open; pointers and lengths are of texts that live as long as the call.
+        let (name, password) = (
+            config.credentials().username(),
+            config.credentials().password(),
+        );
+        let (name_at, password_at, seed) = (
+            name.as_ptr(),
+            password.as_ptr(),
+            sys::turn_seed { bytes: seed },
+        );
+        // SAFETY: the handle isn't open; pointers and lengths are of texts that live as long as the
+        // call.
         let status = unsafe {
             sys::turn_client_open(
                 handle.at(),
@@ -115,18 +127,22 @@ impl Handle {
     }
 
     /// Where the handle lies.
-    fn at(&self) -> *mut sys::Client {
+    fn at(&self) -> *mut sys::turn_client {
         self.client.get()
     }
 
     /// The front of what is to be sent, as C told it. None where C told more than there is.
-    fn sent(&self, told: &sys::Transmit) -> Option<Transmit<&[u8]>> {
+    fn sent(&self, told: &sys::turn_transmit) -> Option<Transmit<&[u8]>> {
         let data = self.out.get(..told.size)?;
         Some(Transmit::read(data, told))
     }
 
     /// Data of a peer that C told, by the bytes that came with it.
-    fn peer_data<'a>(&mut self, payload: &sys::Payload, came: &'a [u8]) -> Result<TurnRecvRet<'a>, RecvError> {
+    fn peer_data<'a>(
+        &mut self,
+        payload: &sys::turn_payload,
+        came: &'a [u8],
+    ) -> Result<TurnRecvRet<'a>, RecvError> {
         if payload.is_joined {
             return match self.joined(payload) {
                 Err(RecvError::Unread) => Ok(TurnRecvRet::Handled),
@@ -134,12 +150,18 @@ impl Handle {
             };
         }
         let behind = came.get(payload.start..).unwrap_or_default();
-        let data = behind.get(..payload.size).ok_or(RecvError::Other(sys::PAYLOAD))?;
-        Ok(TurnRecvRet::PeerData(TurnPeerData::read(Cow::Borrowed(data), payload)))
+        let data = behind
+            .get(..payload.size)
+            .ok_or(RecvError::Other(sys::TURN_PAYLOAD))?;
+        Ok(TurnRecvRet::PeerData(TurnPeerData::read(
+            Cow::Borrowed(data),
+            payload,
+        )))
     }
 
-    /// Data of a peer whose bytes wait in the client. They wait on where there is no memory for them.
-    fn joined(&mut self, payload: &sys::Payload) -> Result<TurnPeerData<'static>, RecvError> {
+    /// Data of a peer whose bytes wait in the client. They wait on where there is no memory for
+    /// them.
+    fn joined(&mut self, payload: &sys::turn_payload) -> Result<TurnPeerData<'static>, RecvError> {
         let mut bytes = Vec::new();
         if !make_room(&mut bytes, payload.size) {
             self.unread = Some(*payload);
@@ -147,8 +169,9 @@ impl Handle {
         }
         if payload.size > 0 {
             // SAFETY: the vector has that many bytes.
-            let status = unsafe { sys::turn_client_read(self.at(), bytes.as_mut_ptr(), bytes.len()) };
-            if status != sys::OK {
+            let status =
+                unsafe { sys::turn_client_read(self.at(), bytes.as_mut_ptr(), bytes.len()) };
+            if status != sys::TURN_OK {
                 return Err(RecvError::of(status));
             }
         }
@@ -156,35 +179,47 @@ impl Handle {
     }
 
     /// The next payload that waits in a stream.
-    fn pull(&mut self, now: Duration) -> Result<Option<sys::Payload>, RecvError> {
-        let mut payload = sys::Payload::default();
+    fn pull(&mut self, now: Duration) -> Result<Option<sys::turn_payload>, RecvError> {
+        let mut payload = sys::turn_payload::default();
         // SAFETY: both pointers are of values that live as long as the call.
         match unsafe { sys::turn_client_pull(self.at(), told_moment(now), &mut payload) } {
-            sys::PAYLOAD => Ok(Some(payload)),
-            sys::NOTHING => Ok(None),
+            sys::TURN_PAYLOAD => Ok(Some(payload)),
+            sys::TURN_NOTHING => Ok(None),
             status => Err(RecvError::of(status)),
         }
     }
 
     /// What C reports of the event that was taken last.
-    fn cause(&self) -> sys::Cause {
-        let mut cause = sys::Cause::default();
-        // SAFETY: both pointers are of values that live as long as the call. An open handle refuses nothing.
+    fn cause(&self) -> sys::turn_cause {
+        let mut cause = sys::turn_cause::default();
+        // SAFETY: both pointers are of values that live as long as the call. An open handle refuses
+        // nothing.
         unsafe { sys::turn_client_cause(self.at(), &mut cause) };
         cause
     }
 
-    /// A text of so many bytes that a call copies; `None` if there is no such text, or no memory for it.
-    fn text(&self, size: usize, copy: impl Fn(*mut sys::Client, *mut u8, usize) -> i32) -> Option<String> {
+    /// A text of so many bytes that a call copies; `None` if there is no such text, or no memory
+    /// for it.
+    fn text(
+        &self,
+        size: usize,
+        copy: impl Fn(*mut sys::turn_client, *mut u8, usize) -> i32,
+    ) -> Option<String> {
         let mut bytes = Vec::new();
-        if !make_room(&mut bytes, size) || copy(self.at(), bytes.as_mut_ptr(), bytes.len()) != sys::OK {
+        if !make_room(&mut bytes, size)
+            || copy(self.at(), bytes.as_mut_ptr(), bytes.len()) != sys::TURN_OK
+        {
             return None;
         }
         String::from_utf8(bytes).ok()
     }
 
-    /// All that a getter shows. It is asked how many there are first: none comes or goes before it is asked again.
-    fn list<T: Clone + Default>(&self, get: impl Fn(*mut sys::Client, *mut T, usize) -> usize) -> Vec<T> {
+    /// All that a getter shows. It is asked how many there are first: none comes or goes before it
+    /// is asked again.
+    fn list<T: Clone + Default>(
+        &self,
+        get: impl Fn(*mut sys::turn_client, *mut T, usize) -> usize,
+    ) -> Vec<T> {
         let count = get(self.at(), NonNull::dangling().as_ptr(), 0);
         let mut held = vec![T::default(); count];
         let shown = get(self.at(), held.as_mut_ptr(), held.len());
@@ -203,14 +238,14 @@ fn random_seed() -> Result<[u8; 32], AllocateError> {
             return Ok(seed);
         }
         if drawn >= 0 || std::io::Error::last_os_error().kind() != std::io::ErrorKind::Interrupted {
-            return Err(AllocateError::of(sys::NO_RANDOM));
+            return Err(AllocateError::of(sys::TURN_NO_RANDOM));
         }
     }
 }
 
 /// A status as a call's outcome.
 fn outcome<E>(status: i32, refusal: fn(i32) -> E) -> Result<(), E> {
-    if status == sys::OK {
+    if status == sys::TURN_OK {
         Ok(())
     } else {
         Err(refusal(status))
@@ -229,7 +264,8 @@ pub trait HasHandle: fmt::Debug + Send {
 /// The calls of a client, over either transport. The two clients have them, and nothing else can.
 ///
 /// Moments are what the program's clock showed since a start of its own, as `start.elapsed()` of a
-/// [`std::time::Instant`]: none earlier than one that was handed in before, else renewals may come at the wrong time.
+/// [`std::time::Instant`]: none earlier than one that was handed in before, else renewals may come
+/// at the wrong time.
 pub trait TurnClientApi: HasHandle {
     /// The transport to the server.
     fn transport(&self) -> TransportType {
@@ -253,7 +289,7 @@ pub trait TurnClientApi: HasHandle {
             .handle()
             .list(|at, out, room| unsafe { sys::turn_client_relayed(at, out, room) });
         held.iter()
-            .map(|it: &sys::Relayed| (read_transport(it.transport), read(&it.address)))
+            .map(|it: &sys::turn_relayed| (read_transport(it.transport), read(&it.address)))
             .collect()
     }
 
@@ -261,7 +297,8 @@ pub trait TurnClientApi: HasHandle {
     fn permissions(&self, transport: TransportType, relayed: SocketAddr) -> Vec<IpAddr> {
         let (number, relayed) = (told_transport(transport), told(relayed));
         let held = self.handle().list(|at, out, room| {
-            // SAFETY: `list` hands in a handle, and a place with its room; the address lives as long as the call.
+            // SAFETY: `list` hands in a handle, and a place with its room; the address lives as
+            // long as the call.
             unsafe { sys::turn_client_permissions(at, number, &relayed, out, room) }
         });
         held.iter().map(|it| read(it).ip()).collect()
@@ -270,7 +307,13 @@ pub trait TurnClientApi: HasHandle {
     /// Whether a permission for an address stands.
     fn have_permission(&self, transport: TransportType, to: IpAddr) -> bool {
         // SAFETY: both pointers are of values that live as long as the call.
-        unsafe { sys::turn_client_is_permitted(self.handle().at(), told_transport(transport), &told_ip(to)) }
+        unsafe {
+            sys::turn_client_is_permitted(
+                self.handle().at(),
+                told_transport(transport),
+                &told_ip(to),
+            )
+        }
     }
 
     /// The channels.
@@ -279,7 +322,7 @@ pub trait TurnClientApi: HasHandle {
         let held = self
             .handle()
             .list(|at, out, room| unsafe { sys::turn_client_channels(at, out, room) });
-        let channel = |it: &sys::Channel| Channel {
+        let channel = |it: &sys::turn_channel| Channel {
             number: it.number,
             peer_addr: read(&it.peer),
         };
@@ -292,7 +335,7 @@ pub trait TurnClientApi: HasHandle {
         let held = self
             .handle()
             .list(|at, out, room| unsafe { sys::turn_client_connections(at, out, room) });
-        let connection = |it: &sys::Connection| Connection {
+        let connection = |it: &sys::turn_connection| Connection {
             local_addr: read(&it.local),
             peer_addr: read(&it.peer),
             id: it.id,
@@ -301,12 +344,14 @@ pub trait TurnClientApi: HasHandle {
         held.iter().map(connection).collect()
     }
 
-    /// Sets other credentials, which replace the present ones with the next challenge that the client accepts: for
-    /// passwords that expire. Until then it signs and validates as before. Call it before they expire, once the server
-    /// accepts the others: each challenge counts, also that for a stale nonce.
+    /// Sets other credentials, which replace the present ones with the next challenge that the
+    /// client accepts: for passwords that expire. Until then it signs and validates as before. Call
+    /// it before they expire, once the server accepts the others: each challenge counts, also that
+    /// for a stale nonce.
     fn set_credentials(&mut self, credentials: &TurnCredentials) -> Result<(), CredentialsError> {
         let (name, password) = (credentials.username(), credentials.password());
-        // SAFETY: the handle is open; pointers and lengths are of texts that live as long as the call.
+        // SAFETY: the handle is open; pointers and lengths are of texts that live as long as the
+        // call.
         let status = unsafe {
             sys::turn_client_credentials(
                 self.handle_mut().at(),
@@ -319,61 +364,77 @@ pub trait TurnClientApi: HasHandle {
         outcome(status, CredentialsError::of)
     }
 
-    /// Sets the text of SOFTWARE (RFC 8489, section 14.14), which requests carry from now on; an empty text for none, as
-    /// at first. It has at most [`SOFTWARE_MAX`](crate::SOFTWARE_MAX) bytes. Call it before the first `poll_transmit` to
-    /// have it in each.
+    /// Sets the text of SOFTWARE (RFC 8489, section 14.14), which requests carry from now on; an
+    /// empty text for none, as at first. It has at most [`SOFTWARE_MAX`](crate::SOFTWARE_MAX)
+    /// bytes. Call it before the first `poll_transmit` to have it in each.
     fn set_software(&mut self, text: &str) -> Result<(), SoftwareError> {
-        // SAFETY: the handle is open; pointer and length are of a text that lives as long as the call.
-        let status = unsafe { sys::turn_client_software(self.handle_mut().at(), text.as_ptr(), text.len()) };
+        // SAFETY: the handle is open; pointer and length are of a text that lives as long as the
+        // call.
+        let status =
+            unsafe { sys::turn_client_software(self.handle_mut().at(), text.as_ptr(), text.len()) };
         outcome(status, SoftwareError::of)
     }
 
-    /// Sets whether requests end with FINGERPRINT (RFC 8489, section 14.7) from now on. At first they don't.
+    /// Sets whether requests end with FINGERPRINT (RFC 8489, section 14.7) from now on. At first
+    /// they don't.
     fn set_fingerprint(&mut self, fingerprint: bool) {
-        // SAFETY: the handle is open, and borrowed for this call alone; the call refuses nothing else.
+        // SAFETY: the handle is open, and borrowed for this call alone; the call refuses nothing
+        // else.
         let status = unsafe { sys::turn_client_fingerprint(self.handle_mut().at(), fingerprint) };
-        debug_assert_eq!(status, sys::OK);
+        debug_assert_eq!(status, sys::TURN_OK);
     }
 
-    /// Asks for the end of the allocations, which are over for the client at once: take turns until `poll` answers
-    /// `Closed`. A client that is dropped tells the server nothing.
+    /// Asks for the end of the allocations, which are over for the client at once: take turns until
+    /// `poll` answers `Closed`. A client that is dropped tells the server nothing.
     fn delete(&mut self, now: Duration) -> Result<(), DeleteError> {
         // SAFETY: the handle is open, and borrowed for this call alone.
         let status = unsafe { sys::turn_client_delete(self.handle_mut().at(), told_moment(now)) };
         outcome(status, DeleteError::of)
     }
 
-    /// Asks for a permission for the address of a peer. It stands for 300 seconds, and the client renews it.
+    /// Asks for a permission for the address of a peer. It stands for 300 seconds, and the client
+    /// renews it.
     fn create_permission(
         &mut self,
         transport: TransportType,
         peer_addr: IpAddr,
         now: Duration,
     ) -> Result<(), CreatePermissionError> {
-        let (at, number, peer) = (self.handle_mut().at(), told_transport(transport), told_ip(peer_addr));
+        let (at, number, peer) = (
+            self.handle_mut().at(),
+            told_transport(transport),
+            told_ip(peer_addr),
+        );
         // SAFETY: both pointers are of values that live as long as the call.
         let status = unsafe { sys::turn_client_permit(at, number, &peer, told_moment(now)) };
         outcome(status, CreatePermissionError::of)
     }
 
-    /// Asks for a channel to a peer, and for the permission where none stands. It stands for 600 seconds, and the
-    /// client renews it.
+    /// Asks for a channel to a peer, and for the permission where none stands. It stands for 600
+    /// seconds, and the client renews it.
     fn bind_channel(
         &mut self,
         transport: TransportType,
         peer_addr: SocketAddr,
         now: Duration,
     ) -> Result<(), BindChannelError> {
-        let (at, number, peer) = (self.handle_mut().at(), told_transport(transport), told(peer_addr));
+        let (at, number, peer) = (
+            self.handle_mut().at(),
+            told_transport(transport),
+            told(peer_addr),
+        );
         let mut until = 0;
         // SAFETY: the pointers are of values that live as long as the call.
         match unsafe { sys::turn_client_bind(at, number, &peer, told_moment(now), &mut until) } {
-            sys::EXPIRED_CHANNEL => Err(BindChannelError::ExpiredChannelExists(Duration::from_nanos(until))),
+            sys::TURN_EXPIRED_CHANNEL => Err(BindChannelError::ExpiredChannelExists(
+                Duration::from_nanos(until),
+            )),
             status => outcome(status, BindChannelError::of),
         }
     }
 
-    /// Asks for a connection to a peer, over an allocation over TCP. `poll` then asks for its socket.
+    /// Asks for a connection to a peer, over an allocation over TCP. `poll` then asks for its
+    /// socket.
     fn tcp_connect(&mut self, peer_addr: SocketAddr, now: Duration) -> Result<(), TcpConnectError> {
         let (at, peer) = (self.handle_mut().at(), told(peer_addr));
         // SAFETY: both pointers are of values that live as long as the call.
@@ -381,8 +442,8 @@ pub trait TurnClientApi: HasHandle {
         outcome(status, TcpConnectError::of)
     }
 
-    /// Tells the own address of the socket that was opened for a connection, by the number and the peer that `poll`
-    /// told; or `None`, that no socket was opened.
+    /// Tells the own address of the socket that was opened for a connection, by the number and the
+    /// peer that `poll` told; or `None`, that no socket was opened.
     fn allocated_tcp_socket(
         &mut self,
         id: u32,
@@ -410,9 +471,9 @@ pub trait TurnClientApi: HasHandle {
         outcome(status, TcpClosedError::of)
     }
 
-    /// Writes what carries data to a peer: a channel frame, an indication, or over a connection the bytes as they are.
-    /// What is written stands in the client's buffer, which has 64 kB, and over a connection grows with the data. Send
-    /// it at once: it isn't kept behind the next call.
+    /// Writes what carries data to a peer: a channel frame, an indication, or over a connection the
+    /// bytes as they are. What is written stands in the client's buffer, which has 64 kB, and over
+    /// a connection grows with the data. Send it at once: it isn't kept behind the next call.
     fn send_to(
         &mut self,
         transport: TransportType,
@@ -421,45 +482,55 @@ pub trait TurnClientApi: HasHandle {
         now: Duration,
     ) -> Result<Transmit<&[u8]>, SendError> {
         let data = match transport {
-            TransportType::Udp => data.get(..=sys::PAYLOAD_MAX).unwrap_or(data),
+            TransportType::Udp => data.get(..=sys::TURN_PAYLOAD_MAX).unwrap_or(data),
             TransportType::Tcp => data,
         };
         let handle = self.handle_mut();
-        if !make_room(&mut handle.out, data.len().saturating_add(sys::SEND_EXTRA)) {
+        if !make_room(
+            &mut handle.out,
+            data.len().saturating_add(sys::TURN_SEND_EXTRA),
+        ) {
             return Err(SendError::NoMemory);
         }
         let (at, number, peer) = (handle.at(), told_transport(transport), told(to));
         let (out, out_len) = (handle.out.as_mut_ptr(), handle.out.len());
-        let mut sent = sys::Transmit::default();
-        // SAFETY: pointers and lengths are of memory that lives as long as the call; the buffer is the client's own, so
-        // the data doesn't lie in it.
+        let mut sent = sys::turn_transmit::default();
+        // SAFETY: pointers and lengths are of memory that lives as long as the call; the buffer is
+        // the client's own, so the data doesn't lie in it.
         let status = unsafe {
             let (data_at, data_len, now) = (data.as_ptr(), data.len(), told_moment(now));
-            sys::turn_client_send(at, number, &peer, data_at, data_len, now, out, out_len, &mut sent)
+            sys::turn_client_send(
+                at, number, &peer, data_at, data_len, now, out, out_len, &mut sent,
+            )
         };
         outcome(status, SendError::of)?;
         handle.sent(&sent).ok_or(SendError::Other(status))
     }
 
-    /// Hands in what came: a datagram, or what was read of a TCP connection to the server, cut anywhere. Over TCP no
-    /// bytes tell that the server closed it; call `poll_recv` behind this until it answers `None`.
-    fn recv<'a>(&mut self, transmit: Transmit<&'a [u8]>, now: Duration) -> Result<TurnRecvRet<'a>, RecvError> {
+    /// Hands in what came: a datagram, or what was read of a TCP connection to the server, cut
+    /// anywhere. Over TCP no bytes tell that the server closed it; call `poll_recv` behind this
+    /// until it answers `None`.
+    fn recv<'a>(
+        &mut self,
+        transmit: Transmit<&'a [u8]>,
+        now: Duration,
+    ) -> Result<TurnRecvRet<'a>, RecvError> {
         let handle = self.handle_mut();
         if transmit.transport != handle.transport {
             return Ok(TurnRecvRet::Ignored(transmit));
         }
         let (from, to, came) = (told(transmit.from), told(transmit.to), transmit.data);
-        let mut payload = sys::Payload::default();
+        let mut payload = sys::turn_payload::default();
         // SAFETY: pointers and the length are of memory that lives as long as the call.
         let status = unsafe {
             let (at, now) = (handle.at(), told_moment(now));
             sys::turn_client_feed(at, &from, &to, came.as_ptr(), came.len(), now, &mut payload)
         };
         match status {
-            sys::OK => Ok(TurnRecvRet::Handled),
-            sys::IGNORED => Ok(TurnRecvRet::Ignored(transmit)),
-            sys::PAYLOAD => handle.peer_data(&payload, came),
-            sys::ICMP => Ok(TurnRecvRet::of_report(&payload)),
+            sys::TURN_OK => Ok(TurnRecvRet::Handled),
+            sys::TURN_IGNORED => Ok(TurnRecvRet::Ignored(transmit)),
+            sys::TURN_PAYLOAD => handle.peer_data(&payload, came),
+            sys::TURN_ICMP => Ok(TurnRecvRet::of_report(&payload)),
             _ => Err(RecvError::of(status)),
         }
     }
@@ -476,59 +547,53 @@ pub trait TurnClientApi: HasHandle {
 
     /// Does what is due, and tells what the program is to do, or until when nothing is.
     fn poll(&mut self, now: Duration) -> Result<TurnPollRet, PollError> {
-        let mut wait = sys::Wait::default();
+        let mut wait = sys::turn_wait::default();
         // SAFETY: both pointers are of values that live as long as the call.
-        let status = unsafe { sys::turn_client_poll(self.handle_mut().at(), told_moment(now), &mut wait) };
+        let status =
+            unsafe { sys::turn_client_poll(self.handle_mut().at(), told_moment(now), &mut wait) };
         TurnPollRet::read(status, &wait).ok_or(PollError::of(status))
     }
 
     /// The next message to send. Its bytes stand in the client's buffer.
-    fn poll_transmit(&mut self, now: Duration) -> Result<Option<Transmit<&[u8]>>, PollTransmitError> {
+    fn poll_transmit(
+        &mut self,
+        now: Duration,
+    ) -> Result<Option<Transmit<&[u8]>>, PollTransmitError> {
         let handle = self.handle_mut();
         let (at, out, out_len) = (handle.at(), handle.out.as_mut_ptr(), handle.out.len());
-        let mut sent = sys::Transmit::default();
+        let mut sent = sys::turn_transmit::default();
         // SAFETY: pointers and the length are of memory that lives as long as the call.
         match unsafe { sys::turn_client_draw(at, told_moment(now), out, out_len, &mut sent) } {
-            sys::OK => handle.sent(&sent).map(Some).ok_or(PollTransmitError::Other(sys::OK)),
-            sys::NOTHING => Ok(None),
+            sys::TURN_OK => handle
+                .sent(&sent)
+                .map(Some)
+                .ok_or(PollTransmitError::Other(sys::TURN_OK)),
+            sys::TURN_NOTHING => Ok(None),
             status => Err(PollTransmitError::of(status)),
         }
     }
 
     /// The event that has waited longest.
     fn poll_event(&mut self) -> Option<TurnEvent> {
-        let mut event = sys::Event::default();
+        let mut event = sys::turn_event::default();
         // SAFETY: both pointers are of values that live as long as the call.
         let status = unsafe { sys::turn_client_event(self.handle_mut().at(), &mut event) };
-        if status == sys::OK {
+        if status == sys::TURN_OK {
             TurnEvent::read(&event)
         } else {
             None
         }
     }
 
-    /// Takes the allocation that has waited longest of those that [`poll`](Self::poll) removed because their time was
-    /// over (RFC 8656, section 6), where short lifetimes are believed ([`TurnConfig::set_short_lifetimes`]). Ask it after
-    /// `poll`, until it is `None`: no event tells the end of an allocation. What goes after `delete` isn't told.
-    fn poll_expired(&mut self) -> Option<AllocationExpired> {
-        let mut expired = sys::Relayed::default();
-        // SAFETY: both pointers are of values that live as long as the call.
-        let status = unsafe { sys::turn_client_expired(self.handle_mut().at(), &mut expired) };
-        (status == sys::OK).then(|| AllocationExpired {
-            transport: read_transport(expired.transport),
-            relayed: read(&expired.address),
-        })
-    }
-
-    /// Takes the event that has waited longest, as [`poll_event`](Self::poll_event) does, with its cause: `None` for
-    /// one that reports no failure.
+    /// Takes the event that has waited longest, as [`poll_event`](Self::poll_event) does, with its
+    /// cause: `None` for one that reports no failure.
     fn poll_event_with_cause(&mut self) -> Option<(TurnEvent, Option<TurnCause>)> {
         let event = self.poll_event()?;
         Some((event, self.cause()))
     }
 
-    /// Returns why the event happened that was taken last, until another is taken. `None` if it reports no failure, or
-    /// none was taken yet.
+    /// Returns why the event happened that was taken last, until another is taken. `None` if it
+    /// reports no failure, or none was taken yet.
     fn cause(&self) -> Option<TurnCause> {
         let (handle, cause) = (self.handle(), self.handle().cause());
         TurnCause::read(&cause, || {
@@ -540,25 +605,26 @@ pub trait TurnClientApi: HasHandle {
         })
     }
 
-    /// Returns the client's own address as the server saw it: the XOR-MAPPED-ADDRESS of the signed response that
-    /// allocated (RFC 8656, section 7.3). `None` before that, or if the response had no such address.
+    /// Returns the client's own address as the server saw it: the XOR-MAPPED-ADDRESS of the signed
+    /// response that allocated (RFC 8656, section 7.3). `None` before that, or if the response had
+    /// no such address.
     fn mapped_address(&self) -> Option<SocketAddr> {
-        let mut mapped = sys::Address::default();
+        let mut mapped = sys::turn_address::default();
         // SAFETY: both pointers are of values that live as long as the call.
         let status = unsafe { sys::turn_client_mapped(self.handle().at(), &mut mapped) };
-        (status == sys::OK).then(|| read(&mapped))
+        (status == sys::TURN_OK).then(|| read(&mapped))
     }
 
-    /// Returns the server that a response 300 named which ended the client (RFC 8489, section 10); `None` if there was
-    /// none. [`cause`](Self::cause) says whether that response was signed: if not, it may be anybody's. The client
-    /// doesn't follow it.
+    /// Returns the server that a response 300 named which ended the client (RFC 8489, section 10);
+    /// `None` if there was none. [`cause`](Self::cause) says whether that response was signed: if
+    /// not, it may be anybody's. The client doesn't follow it.
     fn alternate_server(&self) -> Option<SocketAddr> {
         let alternate = self.handle().cause().alternate;
         (alternate.family != 0).then(|| read(&alternate))
     }
 
-    /// Returns the name of the domain of that server (RFC 8489, section 14.16); `None` if the response had none, or
-    /// memory for it ran out.
+    /// Returns the name of the domain of that server (RFC 8489, section 14.16); `None` if the
+    /// response had none, or memory for it ran out.
     fn alternate_domain(&self) -> Option<String> {
         let handle = self.handle();
         // SAFETY: `text` passes a handle, and a place with its room.
@@ -578,8 +644,8 @@ macro_rules! client {
         }
 
         impl $name {
-            /// Makes a client that asks a server for an address, with a seed of the system's random bytes
-            /// (getrandom). Nothing is sent yet: `poll_transmit` gives the first request.
+            /// Makes a client that asks a server for an address, with a seed of the system's random
+            /// bytes (getrandom). Nothing is sent yet: `poll_transmit` gives the first request.
             pub fn new(
                 local_addr: SocketAddr,
                 remote_addr: SocketAddr,
@@ -590,8 +656,9 @@ macro_rules! client {
 
             /// Does what `new` does, with a seed of the program's own.
             ///
-            /// The 32 bytes come from the system's source of random bytes, and from nowhere else: whoever knows them
-            /// can forge answers, and two clients with the same confuse each other's. Only a seed of zeros is refused.
+            /// The 32 bytes come from the system's source of random bytes, and from nowhere else:
+            /// whoever knows them can forge answers, and two clients with the same confuse each
+            /// other's. Only a seed of zeros is refused.
             pub fn allocate(
                 local_addr: SocketAddr,
                 remote_addr: SocketAddr,
@@ -641,8 +708,8 @@ client! {
 }
 
 client! {
-    /// A client over TCP. What it is handed is a stream, cut anywhere. Its allocation is over UDP, or over TCP where
-    /// the settings say so: then it has connections to peers.
+    /// A client over TCP. What it is handed is a stream, cut anywhere. Its allocation is over UDP,
+    /// or over TCP where the settings say so: then it has connections to peers.
     ///
     /// ```
     /// use std::time::Duration;

@@ -1,8 +1,19 @@
-//! A TURN client (RFC 8656, RFC 6062, RFC 6156) over UDP or TCP that does no input or output: a safe layer over the
-//! archive `libturn_client.a` of a proved client. The names are those of the crate `turn-client-proto`.
+//! A TURN client (RFC 8656, RFC 6062, RFC 6156): sockets over a TURN server, and the client alone,
+//! which does no input or output. It is a safe layer over the library `libturn_client.a` of a proved
+//! client. This crate isn't proved; that it calls the library correctly is tested.
 //!
-//! The program owns sockets and clock, and takes turns: it sends what the client draws, polls it, and takes its events.
-//! A turn is due after each call, and when the moment has come that `poll` told:
+//! | to | use |
+//! |---|---|
+//! | send and receive datagrams | [`TurnSocket`], with the calls of [`UdpSocket`](std::net::UdpSocket) |
+//! | connect to a peer over TCP | [`TurnStream`], with the calls of [`TcpStream`](std::net::TcpStream) |
+//! | do so over TLS, or with other settings | [`driver::ConnectOptions`] |
+//! | do the input and output yourself | [`TurnClientUdp`], [`TurnClientTcp`] |
+//!
+//! # The client alone
+//!
+//! The names are those of the crate `turn-client-proto`. The program owns sockets and clock, and
+//! takes turns: it sends what the client draws, polls it, and takes its events. A turn is due after
+//! each call, and when the time has come that `poll` returned:
 //!
 //! ```no_run
 //! use std::net::{SocketAddr, UdpSocket};
@@ -44,27 +55,30 @@
 //!
 //! # What may surprise
 //!
-//! - Linux rounds a socket's timeout up by as much as an eighth: half an hour by more than the minute in which an
-//!   allocation is renewed. So the longest wait above is a minute.
-//! - Moments are [`Duration`](std::time::Duration)s since a start of the program's, as `start.elapsed()`: they have
-//!   their unit in their type, and the client gives and takes moments that no clock has shown yet, which
-//!   [`Instant`](std::time::Instant) can't be made of. What lies behind 2^62 nanoseconds counts as that.
-//! - Two requests are sent 50 ms apart at least, so what is asked for may be drawn only when `poll` says so.
-//! - While an event waits, `poll` tells to wait until now. Where turns at one moment do nothing, wait some
-//!   milliseconds.
-//! - A server that can't be reached is given up after 39.5 s. To a wrong password it answers challenges, of which nine
-//!   are answered. Both end in [`TurnEvent::AllocationCreateFailed`] and [`TurnPollRet::Closed`].
-//!   [`TurnClientApi::poll_event_with_cause`] says which it was: [`TurnCause::Unanswered`], or [`TurnCause::Rejected`]
-//!   with code 401.
-//! - An error response that isn't signed may be anybody's who can send from the server's address: see `is_signed` of
-//!   [`TurnCause::Rejected`]. The challenges of a wrong password never are.
+//! - Linux rounds a socket's timeout up by as much as an eighth: half an hour by more than the
+//!   minute in which an allocation is renewed. So the longest wait above is a minute.
+//! - Moments are [`Duration`](std::time::Duration)s since a start of the program's, as
+//!   `start.elapsed()`: they have their unit in their type, and the client gives and takes moments
+//!   that no clock has shown yet, which [`Instant`](std::time::Instant) can't be made of. What lies
+//!   behind 2^62 nanoseconds counts as that.
+//! - Two requests are sent 50 ms apart at least, so what is asked for may be drawn only when `poll`
+//!   says so.
+//! - While an event waits, `poll` tells to wait until now. Where turns at one moment do nothing,
+//!   wait some milliseconds.
+//! - A server that can't be reached is given up after 39.5 s. To a wrong password it answers
+//!   challenges, of which nine are answered. Both end in [`TurnEvent::AllocationCreateFailed`] and
+//!   [`TurnPollRet::Closed`]. [`TurnClientApi::poll_event_with_cause`] says which it was:
+//!   [`TurnCause::Unanswered`], or [`TurnCause::Rejected`] with code 401.
+//! - An error response that isn't signed may be anybody's who can send from the server's address:
+//!   see `is_signed` of [`TurnCause::Rejected`]. The challenges of a wrong password never are.
 //! - The client doesn't follow a response 300. A program may make another client at
 //!   [`TurnClientApi::alternate_server`], with a limit on how often it does so in a row.
-//! - No event tells that an allocation's time is over: look at [`TurnClientApi::relayed_addresses`].
-//! - A client may go to another thread, and isn't shared by two. Dropped, it frees what it holds, and tells the server
-//!   nothing: [`TurnClientApi::delete`] does that.
-//! - After `fork`, one of the two processes goes on with a client, and the other at most drops it: two that go on send
-//!   the same transaction IDs.
+//! - No event tells that an allocation's time is over: look at
+//!   [`TurnClientApi::relayed_addresses`].
+//! - A client may go to another thread, and isn't shared by two. Dropped, it frees what it holds,
+//!   and tells the server nothing: [`TurnClientApi::delete`] does that.
+//! - After `fork`, one of the two processes goes on with a client, and the other at most drops it:
+//!   two that go on send the same transaction IDs.
 //! - An address of IPv6 is told without flow information and scope.
 //!
 //! A client is sent, and not shared:
@@ -94,37 +108,52 @@
 //!
 //! # What is otherwise than in `turn-client-proto`
 //!
-//! - `new` makes a client; `allocate` does, with a seed of 32 random bytes of the program's own. Both may be refused.
-//!   Calls that want memory answer a `Result`.
-//! - `send_to` and `poll_transmit` answer bytes that stand in the client's buffer, which is 64 kB, until its next call.
-//! - `recv` takes `&[u8]`, and answers data that is borrowed of it or owned. Getters answer vectors. So
-//!   [`TurnClientApi`] makes an object: `Box<dyn TurnClientApi>` is a client over either transport.
-//! - `allocated_tcp_socket` takes no five addresses: number and peer name the connection. There is no `protocol_error`.
-//! - `channels`, `connections` and `poll_event_with_cause` are new. `cause` and `alternate_domain` return values of
-//!   their own.
+//! - `new` makes a client; `allocate` does, with a seed of 32 random bytes of the program's own.
+//!   Both may be refused. Calls that want memory answer a `Result`.
+//! - `send_to` and `poll_transmit` answer bytes that stand in the client's buffer, which is 64 kB,
+//!   until its next call.
+//! - `recv` takes `&[u8]`, and answers data that is borrowed of it or owned. Getters answer
+//!   vectors. So [`TurnClientApi`] makes an object: `Box<dyn TurnClientApi>` is a client over
+//!   either transport.
+//! - `allocated_tcp_socket` takes no five addresses: number and peer name the connection. There is
+//!   no `protocol_error`.
+//! - `channels`, `connections` and `poll_event_with_cause` are new. `cause` and `alternate_domain`
+//!   return values of their own.
 
 #![deny(missing_docs, missing_debug_implementations, unsafe_op_in_unsafe_fn)]
 #![deny(clippy::undocumented_unsafe_blocks)]
 #![cfg_attr(
     not(test),
-    deny(clippy::unwrap_used, clippy::expect_used, clippy::panic, clippy::indexing_slicing)
+    deny(
+        clippy::unwrap_used,
+        clippy::expect_used,
+        clippy::panic,
+        clippy::indexing_slicing
+    )
 )]
 
 mod address;
 mod api;
 mod client;
+pub mod driver;
 mod error;
 mod sys;
+mod uri;
 
 pub use api::{
-    AddressFamily, AllocationExpired, Channel, Connection, Feature, IntegrityAlgorithm, Socket5Tuple, Transmit,
-    TransportType, TurnCause, TurnConfig, TurnCredentials, TurnEvent, TurnPeerData, TurnPollRet, TurnRecvRet,
+    AddressFamily, Channel, Connection, Feature, IntegrityAlgorithm, Socket5Tuple, Transmit,
+    TransportType, TurnCause, TurnConfig, TurnCredentials, TurnEvent, TurnPeerData, TurnPollRet,
+    TurnRecvRet,
 };
 pub use client::{TurnClientApi, TurnClientTcp, TurnClientUdp};
+pub use driver::{ConnectError, SocketError, TurnSocket, TurnStream};
 pub use error::{
-    AllocateError, BindChannelError, CreatePermissionError, CredentialsError, DeleteError, PollError,
-    PollTransmitError, RecvError, SendError, SoftwareError, TcpAllocateError, TcpClosedError, TcpConnectError,
+    AllocateError, BindChannelError, CreatePermissionError, CredentialsError, DeleteError,
+    PollError, PollTransmitError, RecvError, SendError, SoftwareError, TcpAllocateError,
+    TcpClosedError, TcpConnectError,
 };
+
+pub use uri::{TurnUri, UriError, UriScheme, DEFAULT_PORT, DEFAULT_TLS_PORT};
 
 /// Its program is compiled with the tests.
 #[cfg(doctest)]
@@ -138,10 +167,10 @@ pub fn version() -> u32 {
 }
 
 /// Bytes of a user's name at most.
-pub const NAME_MAX: usize = sys::NAME_MAX;
+pub const NAME_MAX: usize = sys::TURN_NAME_MAX;
 
 /// Bytes of the text of SOFTWARE at most.
-pub const SOFTWARE_MAX: usize = sys::SOFTWARE_MAX;
+pub const SOFTWARE_MAX: usize = sys::TURN_SOFTWARE_MAX;
 
 /// Bytes of data at most that go to a peer over UDP between it and the server.
-pub const PAYLOAD_MAX: usize = sys::PAYLOAD_MAX;
+pub const PAYLOAD_MAX: usize = sys::TURN_PAYLOAD_MAX;

@@ -8,9 +8,9 @@ use std::time::Duration;
 use stored::walker::{address, open, Walker};
 use stored::{exchange, PASSWORD, SEED, USER};
 use turn_client::{
-    version, AllocateError, CredentialsError, IntegrityAlgorithm, SendError, SoftwareError, Transmit, TransportType,
-    TurnCause, TurnClientApi, TurnClientTcp, TurnClientUdp, TurnConfig, TurnCredentials, TurnEvent, TurnRecvRet,
-    NAME_MAX, PAYLOAD_MAX, SOFTWARE_MAX,
+    version, AllocateError, CredentialsError, IntegrityAlgorithm, SendError, SoftwareError,
+    Transmit, TransportType, TurnCause, TurnClientApi, TurnClientTcp, TurnClientUdp, TurnConfig,
+    TurnCredentials, TurnEvent, TurnRecvRet, NAME_MAX, PAYLOAD_MAX, SOFTWARE_MAX,
 };
 
 const LOCAL: &str = "192.0.2.1:5000";
@@ -18,7 +18,8 @@ const SERVER: &str = "192.0.2.2:3478";
 /// The peer of the stored exchanges that has a channel, or a connection.
 const PEER: &str = "198.51.100.1:9000";
 const OTHER_PEER: &str = "198.51.100.2:9001";
-/// So many parts of the exchange over UDP bind the channel, and of that of connections bind the first of these.
+/// So many parts of the exchange over UDP bind the channel, and of that of connections bind the
+/// first of these.
 const PARTS_UNTIL_CHANNEL: usize = 4;
 const PARTS_UNTIL_CONNECTION: usize = 3;
 /// A moment behind these.
@@ -31,7 +32,10 @@ fn allocate(user: &str, peers: TransportType) -> (Option<AllocateError>, Option<
     config.set_allocation_transport(peers);
     let (local, server): (SocketAddr, SocketAddr) = (address(LOCAL), address(SERVER));
     let over_udp = TurnClientUdp::allocate(local, server, config.clone(), SEED).err();
-    (over_udp, TurnClientTcp::allocate(local, server, config, SEED).err())
+    (
+        over_udp,
+        TurnClientTcp::allocate(local, server, config, SEED).err(),
+    )
 }
 
 #[test]
@@ -47,13 +51,16 @@ fn a_long_name_is_refused() {
 fn other_credentials_with_a_long_name_are_refused() {
     for name in ["over UDP", "over TCP"] {
         let mut client = open(exchange(name));
-        let mut set = |size: usize| client.set_credentials(&TurnCredentials::new(&"a".repeat(size), PASSWORD));
+        let mut set = |size: usize| {
+            client.set_credentials(&TurnCredentials::new(&"a".repeat(size), PASSWORD))
+        };
         assert_eq!(set(NAME_MAX), Ok(()));
         assert_eq!(set(NAME_MAX + 1), Err(CredentialsError::LongName));
     }
 }
 
-/// A refused text leaves the one that was set before: the first request has it, behind its three own attributes.
+/// A refused text leaves the one that was set before: the first request has it, behind its three
+/// own attributes.
 #[test]
 fn a_long_text_of_software_is_refused() {
     let mut client = open(exchange("over UDP"));
@@ -85,14 +92,22 @@ fn a_seed_of_zeros_is_refused() {
         TurnClientUdp::allocate(local, server, config.clone(), [0; 32]).err(),
         refusal
     );
-    assert_eq!(TurnClientTcp::allocate(local, server, config, [0; 32]).err(), refusal);
+    assert_eq!(
+        TurnClientTcp::allocate(local, server, config, [0; 32]).err(),
+        refusal
+    );
 }
 
 /// The first request of a client that draws its own seed, which has the transaction ID.
 fn first_request() -> Vec<u8> {
     let config = TurnConfig::new(TurnCredentials::new(USER, PASSWORD));
     let mut client = TurnClientUdp::new(address(LOCAL), address(SERVER), config).unwrap();
-    client.poll_transmit(Duration::ZERO).unwrap().unwrap().data.to_vec()
+    client
+        .poll_transmit(Duration::ZERO)
+        .unwrap()
+        .unwrap()
+        .data
+        .to_vec()
 }
 
 /// Two responses came, and then the events of both are taken.
@@ -105,14 +120,20 @@ fn each_event_comes_with_its_own_cause() {
         walker.call(step);
     }
     let client = walker.client();
-    for (peer, code, reason) in [(PEER, 403, "Forbidden"), (OTHER_PEER, 508, "Insufficient Capacity")] {
+    for (peer, code, reason) in [
+        (PEER, 403, "Forbidden"),
+        (OTHER_PEER, 508, "Insufficient Capacity"),
+    ] {
         let event = TurnEvent::PermissionCreateFailed(TransportType::Udp, address(peer).ip());
         let cause = TurnCause::Rejected {
             code,
             reason: reason.to_string(),
             is_signed: true,
         };
-        assert_eq!(client.poll_event_with_cause(), Some((event, Some(cause.clone()))));
+        assert_eq!(
+            client.poll_event_with_cause(),
+            Some((event, Some(cause.clone())))
+        );
         assert_eq!(client.cause(), Some(cause));
     }
     assert_eq!(client.poll_event_with_cause(), None);
@@ -146,19 +167,30 @@ fn the_archive_is_of_this_version() {
 fn what_came_by_another_transport_is_ignored() {
     let mut walker = Walker::walked(exchange("over UDP"), PARTS_UNTIL_CHANNEL);
     let came = Transmit::new(FRAME, TransportType::Tcp, address(SERVER), address(LOCAL));
-    assert_eq!(walker.client().recv(came, LATER), Ok(TurnRecvRet::Ignored(came)));
+    assert_eq!(
+        walker.client().recv(came, LATER),
+        Ok(TurnRecvRet::Ignored(came))
+    );
 }
 
 #[test]
 fn a_client_tells_its_addresses() {
-    for (name, by) in [("over UDP", TransportType::Udp), ("over TCP", TransportType::Tcp)] {
+    for (name, by) in [
+        ("over UDP", TransportType::Udp),
+        ("over TCP", TransportType::Tcp),
+    ] {
         let client = open(exchange(name));
-        let told = (client.transport(), client.local_addr(), client.remote_addr());
+        let told = (
+            client.transport(),
+            client.local_addr(),
+            client.remote_addr(),
+        );
         assert_eq!(told, (by, address(LOCAL), address(SERVER)));
     }
 }
 
-/// Data that stands in what came is borrowed of that, and not of the client, which may be called and dropped.
+/// Data that stands in what came is borrowed of that, and not of the client, which may be called
+/// and dropped.
 #[test]
 fn data_outlives_the_client() {
     let mut walker = Walker::walked(exchange("over UDP"), PARTS_UNTIL_CHANNEL);

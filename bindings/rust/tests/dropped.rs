@@ -1,5 +1,5 @@
-//! A client that is dropped while it is open frees what it holds. This test is alone in its process, since it looks at
-//! the memory of all of that.
+//! A client that is dropped while it is open frees what it holds. This test is alone in its
+//! process, since it looks at the memory of all of that.
 
 mod stored;
 
@@ -8,7 +8,8 @@ use std::time::Duration;
 use stored::exchange;
 use stored::walker::open;
 
-/// Of so many clients, the smallest that isn't freed, 1 kB, would add up to more than what is allowed for.
+/// Of so many clients, the smallest that isn't freed, 1 kB, would add up to more than what is
+/// allowed for.
 const CLIENTS: usize = 5_000;
 const ALLOWED: usize = 4 << 20;
 

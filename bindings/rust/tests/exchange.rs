@@ -1,5 +1,5 @@
-//! Walks the stored exchanges (`stored/`): each answer, each byte that is to be sent, each event, getter and payload
-//! is what `tests/c/samples.py` worked out by the RFCs, and so is each refusal.
+//! Walks the stored exchanges (`stored/`): each answer, each byte that is to be sent, each event,
+//! getter and payload is what `tests/c/samples.py` worked out by the RFCs, and so is each refusal.
 
 mod stored;
 
@@ -107,11 +107,14 @@ fn on_other_threads() {
     }
 }
 
-/// What the tests above hold against the stored answers: all that calls can answer but the lack of memory, of channel
-/// numbers, and of UTF-8.
+/// What the tests above hold against the stored answers: all that calls can answer but the lack of
+/// memory, of channel numbers, and of UTF-8.
 #[test]
 fn the_exchanges_have_each_answer() {
-    let steps = EXCHANGES.iter().flat_map(|it| it.parts).flat_map(|part| part.1);
+    let steps = EXCHANGES
+        .iter()
+        .flat_map(|it| it.parts)
+        .flat_map(|part| part.1);
     let answers: BTreeSet<_> = steps
         .map(|step| step.want.answer)
         .filter(|it| it.starts_with("TURN_"))

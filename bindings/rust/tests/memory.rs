@@ -1,5 +1,6 @@
-//! A payload for which there is no memory waits in the client: nothing is lost, and nothing else comes before it. The
-//! allocator here is Rust's alone; that of the archive is tried by `tests/c/refused.c`.
+//! A payload for which there is no memory waits in the client: nothing is lost, and nothing else
+//! comes before it. The allocator here is Rust's alone; that of the archive is tried by
+//! `tests/c/refused.c`.
 
 mod stored;
 
@@ -71,22 +72,33 @@ fn nothing_is_lost_without_memory() {
     let mut walker = Walker::walked(exchange("over TCP"), 3);
     let client = walker.client();
     let (first, both) = (frame(1), [&frame(1)[100..], &frame(2)].concat());
-    assert_eq!(client.recv(came(&first[..100]), LATER), Ok(TurnRecvRet::Handled));
+    assert_eq!(
+        client.recv(came(&first[..100]), LATER),
+        Ok(TurnRecvRet::Handled)
+    );
 
     assert_eq!(
         bounded(SIZE, || client.recv(came(&both), LATER)),
         Ok(TurnRecvRet::Handled)
     );
     assert_eq!(client.recv(came(b"more"), LATER), Err(RecvError::Unread));
-    assert_eq!(bounded(SIZE, || client.poll_recv(LATER)), Err(RecvError::Unread));
+    assert_eq!(
+        bounded(SIZE, || client.poll_recv(LATER)),
+        Err(RecvError::Unread)
+    );
     assert!(is_data(client.poll_recv(LATER), 1));
-    assert_eq!(bounded(SIZE, || client.poll_recv(LATER)), Err(RecvError::Unread));
+    assert_eq!(
+        bounded(SIZE, || client.poll_recv(LATER)),
+        Err(RecvError::Unread)
+    );
     assert!(is_data(client.poll_recv(LATER), 2));
     assert_eq!(client.poll_recv(LATER), Ok(None));
 
     let long = vec![0; 1 << 20];
     let sent = bounded(SIZE, || {
-        client.send_to(TransportType::Tcp, address(PEER), &long, LATER).err()
+        client
+            .send_to(TransportType::Tcp, address(PEER), &long, LATER)
+            .err()
     });
     assert_eq!(sent, Some(SendError::NoMemory));
 }

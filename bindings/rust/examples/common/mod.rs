@@ -12,16 +12,16 @@ use std::time::{Duration, Instant};
 use options::{Options, Peer};
 use tally::Tally;
 use turn_client::{
-    AddressFamily, IntegrityAlgorithm, Transmit, TransportType, TurnCause, TurnClientApi, TurnConfig, TurnCredentials,
-    TurnEvent, TurnPeerData, TurnPollRet, TurnRecvRet,
+    AddressFamily, IntegrityAlgorithm, Transmit, TransportType, TurnCause, TurnClientApi,
+    TurnConfig, TurnCredentials, TurnEvent, TurnPeerData, TurnPollRet, TurnRecvRet,
 };
 
 /// How long the last payloads are waited for.
 const PATIENCE: Duration = Duration::from_secs(2);
 /// How long it waits at least where the client wants a turn, and does nothing in it.
 const PAUSE: Duration = Duration::from_millis(1);
-/// How long it waits at most: the system may round a socket's timeout up by an eighth, of half an hour by more than the
-/// minute in which an allocation is renewed.
+/// How long it waits at most: the system may round a socket's timeout up by an eighth, of half an
+/// hour by more than the minute in which an allocation is renewed.
 const LONGEST: Duration = Duration::from_secs(60);
 /// Bytes that are read at once; no datagram is larger.
 const IN_MAX: usize = 65_536;
@@ -110,7 +110,9 @@ fn start_echo() -> std::io::Result<SocketAddr> {
     std::thread::spawn(move || {
         let mut bytes = [0; IN_MAX];
         while let Ok((size, from)) = socket.recv_from(&mut bytes) {
-            let Some(bytes) = bytes.get(..size) else { return };
+            let Some(bytes) = bytes.get(..size) else {
+                return;
+            };
             if socket.send_to(bytes, from).is_err() {
                 return;
             }
@@ -158,7 +160,8 @@ impl Run {
 
     // ---- turns
 
-    /// Sends what is due, polls, and follows events: until when nothing is to be done; none where the client has ended.
+    /// Sends what is due, polls, and follows events: until when nothing is to be done; none where
+    /// the client has ended.
     fn turn(&mut self) -> Result<Option<Duration>, Failure> {
         loop {
             while let Some(transmit) = self.client.poll_transmit(self.start.elapsed())? {
@@ -177,10 +180,9 @@ impl Run {
                 TurnPollRet::WaitUntil(until) if !has_happened => return Ok(Some(until)),
                 TurnPollRet::WaitUntil(_) | TurnPollRet::TcpClose { .. } => {}
                 // for connections to peers, which aren't asked for here
-                TurnPollRet::AllocateTcpSocket { id, peer_addr, .. } => {
-                    self.client
-                        .allocated_tcp_socket(id, peer_addr, None, self.start.elapsed())?
-                }
+                TurnPollRet::AllocateTcpSocket { id, peer_addr, .. } => self
+                    .client
+                    .allocated_tcp_socket(id, peer_addr, None, self.start.elapsed())?,
             }
         }
     }
@@ -214,10 +216,15 @@ impl Run {
             (TurnEvent::PermissionCreated(..), Some(peer)) if !self.has_no_channel => {
                 self.client.bind_channel(BETWEEN, peer, now)?;
             }
-            (TurnEvent::PermissionCreated(..) | TurnEvent::ChannelCreated(..), _) => self.is_ready = true,
+            (TurnEvent::PermissionCreated(..) | TurnEvent::ChannelCreated(..), _) => {
+                self.is_ready = true
+            }
             (TurnEvent::AllocationCreateFailed(_), _) if self.goes_elsewhere() => {}
             (TurnEvent::AllocationCreateFailed(_), _) if !self.has_heard => {
-                self.fail(NO_ANSWER, format!("no answer from {}", self.client.remote_addr()));
+                self.fail(
+                    NO_ANSWER,
+                    format!("no answer from {}", self.client.remote_addr()),
+                );
             }
             (TurnEvent::AllocationCreateFailed(_), _) => {
                 self.fail(FAILED, format!("no address: {why}"));
@@ -227,7 +234,8 @@ impl Run {
         Ok(())
     }
 
-    /// Whether a failed allocation is not the end: the server named another one, and the example goes on there, once.
+    /// Whether a failed allocation is not the end: the server named another one, and the example
+    /// goes on there, once.
     fn goes_elsewhere(&mut self) -> bool {
         if self.follows {
             self.elsewhere = self.client.alternate_server();
@@ -236,7 +244,12 @@ impl Run {
     }
 
     /// Makes a client at the server that the first one was directed to. That is done once.
-    fn go_elsewhere(&mut self, open: Open, server: SocketAddr, config: TurnConfig) -> Result<(), Failure> {
+    fn go_elsewhere(
+        &mut self,
+        open: Open,
+        server: SocketAddr,
+        config: TurnConfig,
+    ) -> Result<(), Failure> {
         self.say(format_args!("goes on with {server}"));
         (self.follows, self.elsewhere, self.has_heard) = (false, None, false);
         self.line = open(server)?;
@@ -306,14 +319,20 @@ impl Run {
     /// Waits for what comes, and takes it: whether more may come.
     fn receive(&mut self, until: Duration) -> Result<bool, Failure> {
         let mut bytes = [0; IN_MAX];
-        let wait = self.due(until).saturating_sub(self.now()).clamp(PAUSE, LONGEST);
+        let wait = self
+            .due(until)
+            .saturating_sub(self.now())
+            .clamp(PAUSE, LONGEST);
         let Some(size) = self.line.receive(&mut bytes, wait)? else {
             return Ok(true);
         };
         self.feed(bytes.get(..size).unwrap_or_default())?;
         let is_over = size == 0 && self.client.transport() == TransportType::Tcp;
         if is_over && !self.is_deleted {
-            return Err(Failure::new(FAILED, "the server closed the connection".to_string()));
+            return Err(Failure::new(
+                FAILED,
+                "the server closed the connection".to_string(),
+            ));
         }
         Ok(!is_over)
     }

@@ -92,7 +92,9 @@ impl<I: Iterator<Item = String>> Reader<I> {
     }
 
     fn value(&mut self, option: &str) -> Result<String, String> {
-        self.words.next().ok_or_else(|| format!("{option} wants a value"))
+        self.words
+            .next()
+            .ok_or_else(|| format!("{option} wants a value"))
     }
 
     fn first_line(&mut self, option: &str) -> Result<String, String> {
@@ -137,7 +139,8 @@ impl<I: Iterator<Item = String>> Reader<I> {
     }
 
     fn finish(self) -> Result<Options, String> {
-        let (Some(server), Some(user), Some(password)) = (self.server, self.user, self.password) else {
+        let (Some(server), Some(user), Some(password)) = (self.server, self.user, self.password)
+        else {
             return Err("a server, a user and a password are wanted".to_string());
         };
         let peer = match (self.at, self.has_echo) {

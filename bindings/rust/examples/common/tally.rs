@@ -54,7 +54,10 @@ impl Tally {
 
     /// Bytes came: whether they are a payload that is awaited.
     pub fn comes(&mut self, bytes: &[u8], now: Duration) -> bool {
-        let Some(number) = bytes.first_chunk::<NUMBER>().map(|it| u32::from_be_bytes(*it)) else {
+        let Some(number) = bytes
+            .first_chunk::<NUMBER>()
+            .map(|it| u32::from_be_bytes(*it))
+        else {
             return false;
         };
         let Some(sent_at) = self.sent_at.get_mut(number as usize) else {
@@ -63,7 +66,9 @@ impl Tally {
         if bytes != payload(number, self.size) {
             return false;
         }
-        let Some(went) = sent_at.take() else { return false };
+        let Some(went) = sent_at.take() else {
+            return false;
+        };
         self.back += 1;
         self.trips.push(now.saturating_sub(went));
         true

@@ -1,5 +1,5 @@
-//! Exchanges of a client with a server, as steps: what each call is given, and what is wanted of it. `samples.py`
-//! writes `samples.rs` of what `tests/c/samples.py` works out by the RFCs.
+//! Exchanges of a client with a server, as steps: what each call is given, and what is wanted of
+//! it. `samples.py` writes `samples.rs` of what `tests/c/samples.py` works out by the RFCs.
 #![allow(dead_code)] // each test takes what it needs
 
 pub mod walker;
@@ -66,7 +66,8 @@ pub struct Step {
     /// In nanoseconds.
     pub now: u64,
     pub transport: &'static str,
-    /// Of a connection; of getters which of what they hold is looked at; of `fingerprint` whether it is to be there.
+    /// Of a connection; of getters which of what they hold is looked at; of `fingerprint` whether
+    /// it is to be there.
     pub number: u32,
     pub from: &'static str,
     /// Where one address alone is given this is it, but for the own one of a socket.

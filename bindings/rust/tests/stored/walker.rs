@@ -1,4 +1,5 @@
-//! Makes the calls of an exchange by the crate, and tells what each answered by the names of `turn_client.h`.
+//! Makes the calls of an exchange by the crate, and tells what each answered by the names of
+//! `turn_client.h`.
 
 use std::borrow::Cow;
 use std::fmt::{Debug, Display};
@@ -6,8 +7,9 @@ use std::net::SocketAddr;
 use std::time::Duration;
 
 use turn_client::{
-    AddressFamily, BindChannelError, Feature, IntegrityAlgorithm, Transmit, TransportType, TurnCause, TurnClientApi,
-    TurnClientTcp, TurnClientUdp, TurnConfig, TurnCredentials, TurnEvent, TurnPeerData, TurnPollRet, TurnRecvRet,
+    AddressFamily, BindChannelError, Feature, IntegrityAlgorithm, Transmit, TransportType,
+    TurnCause, TurnClientApi, TurnClientTcp, TurnClientUdp, TurnConfig, TurnCredentials, TurnEvent,
+    TurnPeerData, TurnPollRet, TurnRecvRet,
 };
 
 use super::{Exchange, Part, Step, Told, PASSWORD, SEED, TOLD, USER};
@@ -27,7 +29,8 @@ fn kept(shown: impl Display) -> &'static str {
 }
 
 pub fn address(text: &str) -> SocketAddr {
-    text.parse().unwrap_or_else(|_| panic!("no address: {text:?}"))
+    text.parse()
+        .unwrap_or_else(|_| panic!("no address: {text:?}"))
 }
 
 pub fn transport(text: &str) -> TransportType {
@@ -102,20 +105,27 @@ fn config(exchange: &Exchange) -> TurnConfig {
         _ => {}
     }
     if exchange.sends > 0 {
-        let [first, most, last] =
-            [exchange.first_wait, exchange.most_wait, exchange.last_wait].map(Duration::from_millis);
+        let [first, most, last] = [exchange.first_wait, exchange.most_wait, exchange.last_wait]
+            .map(Duration::from_millis);
         config.set_request_retransmits(first, most, exchange.sends, last);
     }
-    config.set_short_lifetimes(exchange.ignore_short_lifetimes == 0);
     config
 }
 
 /// A client with the settings of an exchange.
 pub fn open(exchange: &Exchange) -> Box<dyn TurnClientApi> {
-    let (local, server, config) = (address(exchange.local), address(exchange.server), config(exchange));
+    let (local, server, config) = (
+        address(exchange.local),
+        address(exchange.server),
+        config(exchange),
+    );
     match transport(exchange.transport) {
-        TransportType::Udp => Box::new(TurnClientUdp::allocate(local, server, config, SEED).unwrap()),
-        TransportType::Tcp => Box::new(TurnClientTcp::allocate(local, server, config, SEED).unwrap()),
+        TransportType::Udp => {
+            Box::new(TurnClientUdp::allocate(local, server, config, SEED).unwrap())
+        }
+        TransportType::Tcp => {
+            Box::new(TurnClientTcp::allocate(local, server, config, SEED).unwrap())
+        }
     }
 }
 
@@ -135,15 +145,21 @@ fn tell_message(sent: Transmit<&[u8]>) -> Told {
 
 fn tell_event(event: TurnEvent) -> Told {
     let (kind, transport, peer) = match event {
-        TurnEvent::AllocationCreated(by, it) => ("TURN_ALLOCATION_CREATED", shown(by), it.to_string()),
+        TurnEvent::AllocationCreated(by, it) => {
+            ("TURN_ALLOCATION_CREATED", shown(by), it.to_string())
+        }
         TurnEvent::AllocationCreateFailed(AddressFamily::IPV4) => {
             ("TURN_ALLOCATION_FAILED", "", ANY_ADDRESS.to_string())
         }
         TurnEvent::AllocationCreateFailed(AddressFamily::IPV6) => panic!("no exchange has this"),
         TurnEvent::PermissionCreated(by, it) => ("TURN_PERMISSION_CREATED", shown(by), host(it)),
-        TurnEvent::PermissionCreateFailed(by, it) => ("TURN_PERMISSION_FAILED", shown(by), host(it)),
+        TurnEvent::PermissionCreateFailed(by, it) => {
+            ("TURN_PERMISSION_FAILED", shown(by), host(it))
+        }
         TurnEvent::ChannelCreated(by, it) => ("TURN_CHANNEL_CREATED", shown(by), it.to_string()),
-        TurnEvent::ChannelCreateFailed(by, it) => ("TURN_CHANNEL_FAILED", shown(by), it.to_string()),
+        TurnEvent::ChannelCreateFailed(by, it) => {
+            ("TURN_CHANNEL_FAILED", shown(by), it.to_string())
+        }
         TurnEvent::TcpConnected(it) => ("TURN_TCP_CONNECTED", "tcp", it.to_string()),
         TurnEvent::TcpConnectFailed(it) => ("TURN_TCP_FAILED", "tcp", it.to_string()),
     };
@@ -214,7 +230,11 @@ fn tell_poll(answer: TurnPollRet) -> Told {
                 ..TOLD
             }
         }
-        TurnPollRet::AllocateTcpSocket { id, socket, peer_addr } => Told {
+        TurnPollRet::AllocateTcpSocket {
+            id,
+            socket,
+            peer_addr,
+        } => Told {
             answer: "TURN_OPEN_SOCKET",
             number: id,
             transport: shown(socket.transport),
@@ -377,11 +397,13 @@ impl Walker {
                 _ => tell_text(None),
             },
             "domain" => tell_text(domain),
-            _ => client.mapped_address().map_or(answer("TURN_NOTHING"), |it| Told {
-                answer: "TURN_OK",
-                peer: kept(it),
-                ..TOLD
-            }),
+            _ => client
+                .mapped_address()
+                .map_or(answer("TURN_NOTHING"), |it| Told {
+                    answer: "TURN_OK",
+                    peer: kept(it),
+                    ..TOLD
+                }),
         }
     }
 
@@ -418,7 +440,8 @@ impl Walker {
                 })
             }
             "is_permitted" => {
-                let is_permitted = client.have_permission(transport(step.transport), address(step.to).ip());
+                let is_permitted =
+                    client.have_permission(transport(step.transport), address(step.to).ip());
                 answer(if is_permitted { "1" } else { "0" })
             }
             "channels" => held(client.channels(), which, |it| Told {
@@ -445,7 +468,10 @@ impl Walker {
         let by = || transport(step.transport);
         match step.call {
             "delete" => done(self.client().delete(now)),
-            "permit" => done(self.client().create_permission(by(), address(step.to).ip(), now)),
+            "permit" => done(
+                self.client()
+                    .create_permission(by(), address(step.to).ip(), now),
+            ),
             "bind" => self.bind(step, now),
             "connect" => done(self.client().tcp_connect(address(step.to), now)),
             "socket" => {
@@ -455,7 +481,10 @@ impl Walker {
                         .allocated_tcp_socket(step.number, address(step.to), local, now),
                 )
             }
-            "closed" => done(self.client().tcp_closed(address(step.from), address(step.to), now)),
+            "closed" => done(
+                self.client()
+                    .tcp_closed(address(step.from), address(step.to), now),
+            ),
             _ => self.get(step),
         }
     }
@@ -481,19 +510,19 @@ impl Walker {
                 .unwrap()
                 .map_or(answer("TURN_NOTHING"), tell_message),
             "send" => {
-                let sent = self
-                    .client()
-                    .send_to(transport(step.transport), address(step.to), step.bytes, now);
+                let sent = self.client().send_to(
+                    transport(step.transport),
+                    address(step.to),
+                    step.bytes,
+                    now,
+                );
                 sent.map_or_else(refused, tell_message)
             }
             "poll" => tell_poll(self.client().poll(now).unwrap()),
-            "event" => self.client().poll_event().map_or(answer("TURN_NOTHING"), tell_event),
-            "expired" => self.client().poll_expired().map_or(answer("TURN_NOTHING"), |it| Told {
-                answer: "TURN_OK",
-                transport: shown(it.transport),
-                peer: kept(it.relayed),
-                ..TOLD
-            }),
+            "event" => self
+                .client()
+                .poll_event()
+                .map_or(answer("TURN_NOTHING"), tell_event),
             "cause" | "reason" | "domain" | "mapped" => self.note(step),
             "credentials" | "software" | "fingerprint" => self.introduce(step),
             _ => self.ask(step, now),
@@ -504,14 +533,20 @@ impl Walker {
     pub fn walk(&mut self, (title, steps): &Part) {
         for (i, step) in steps.iter().enumerate() {
             let told = self.call(step);
-            assert_eq!(told, step.want, "{title}, step {i}: {} {}", step.call, step.name);
+            assert_eq!(
+                told, step.want,
+                "{title}, step {i}: {} {}",
+                step.call, step.name
+            );
         }
     }
 
     /// Walks the first parts of an exchange.
     pub fn walked(exchange: &'static Exchange, parts: usize) -> Self {
         let mut walker = Self::new(exchange);
-        exchange.parts[..parts].iter().for_each(|part| walker.walk(part));
+        exchange.parts[..parts]
+            .iter()
+            .for_each(|part| walker.walk(part));
         walker
     }
 }

@@ -1,0 +1,1 @@
+../../../../../dist/x86_64-linux-gnu/turn_client.h
