@@ -112,12 +112,21 @@ pub struct TurnConfig {
     is_hardened: bool,
     max_connection_attempts: usize,
     short_lifetimes: bool,
+    requested_lifetime: u32,
+    relayed_port: RelayedPort,
+    pace: Duration,
 }
+
+/// The lifetime that is asked for at first, in seconds, and the least time between two messages, in
+/// milliseconds.
+const LIFETIME: u32 = 1800;
+const PACE: u64 = 50;
 
 impl TurnConfig {
     /// An address of IPv4 over UDP is asked for, HMAC-SHA1 and HMAC-SHA256 are supported, of which
     /// the server's strongest is taken, the name is hidden where the server can, requests are sent
-    /// again as RFC 8489 says, the client is hardened, and a REFRESH may shorten an allocation.
+    /// again as RFC 8489 says, the client is hardened, a REFRESH may shorten an allocation, half an
+    /// hour and any port are asked for, and two messages are at least 50 ms apart.
     pub fn new(credentials: TurnCredentials) -> Self {
         Self {
             allocation_transport: TransportType::Udp,
@@ -129,6 +138,9 @@ impl TurnConfig {
             is_hardened: true,
             max_connection_attempts: 0,
             short_lifetimes: true,
+            requested_lifetime: LIFETIME,
+            relayed_port: RelayedPort::Any,
+            pace: Duration::from_millis(PACE),
         }
     }
 
@@ -229,6 +241,40 @@ impl TurnConfig {
         self.short_lifetimes
     }
 
+    /// Sets the lifetime, in seconds, that each ALLOCATE and each REFRESH that renews an allocation
+    /// asks for (RFC 8656, sections 7.1 and 8.1): 1800 at first, and 0 stands for that. The server
+    /// decides.
+    pub fn set_requested_lifetime(&mut self, seconds: u32) {
+        self.requested_lifetime = seconds;
+    }
+
+    /// The lifetime that is asked for, as it was set.
+    pub fn requested_lifetime(&self) -> u32 {
+        self.requested_lifetime
+    }
+
+    /// Sets the port that is asked for the relayed address: any at first. A server that can't give
+    /// it rejects the allocation with 508, one that doesn't know the attribute with 420.
+    pub fn set_relayed_port(&mut self, port: RelayedPort) {
+        self.relayed_port = port;
+    }
+
+    /// The port that is asked for.
+    pub fn relayed_port(&self) -> RelayedPort {
+        self.relayed_port
+    }
+
+    /// Sets the least time between two messages that the client sends, in milliseconds, rounded up:
+    /// 50 at first. What is sent again, and responses to the server, don't wait for it.
+    pub fn set_pace(&mut self, pace: Duration) {
+        self.pace = pace;
+    }
+
+    /// The least time between two messages.
+    pub fn pace(&self) -> Duration {
+        self.pace
+    }
+
     /// Sets how requests are sent again over UDP: the wait behind the first, which each next one
     /// doubles, the longest wait between two, how often a request is sent in all, and the wait
     /// behind the last. Where `retransmits` is 0, all of it is as RFC 8489 says. Waits count in
@@ -274,6 +320,10 @@ impl TurnConfig {
             compatible: u32::from(!self.is_hardened),
             max_connection_attempts: self.max_connection_attempts,
             ignore_short_lifetimes: u32::from(!self.short_lifetimes),
+            lifetime: self.requested_lifetime,
+            pace: told_pace(self.pace),
+            port: told_port(self.relayed_port),
+            reservation: told_reservation(self.relayed_port),
             ..sys::turn_settings::default()
         };
         if let Some(waits) = self.retransmits {
@@ -301,12 +351,52 @@ fn bit_of_integrity(integrity: IntegrityAlgorithm) -> u32 {
     }
 }
 
+/// Of C, 0 is the default, and the greatest number no time.
+fn told_pace(pace: Duration) -> u32 {
+    match told_wait(pace) {
+        0 => sys::TURN_NO_PACE,
+        millis => millis.min(sys::TURN_NO_PACE - 1),
+    }
+}
+
+fn told_port(port: RelayedPort) -> u32 {
+    match port {
+        RelayedPort::Any => sys::TURN_PORT_ANY,
+        RelayedPort::Even => sys::TURN_PORT_EVEN,
+        RelayedPort::EvenAndNextReserved => sys::TURN_PORT_EVEN_AND_NEXT,
+        RelayedPort::Reserved(_) => sys::TURN_PORT_RESERVED,
+    }
+}
+
+fn told_reservation(port: RelayedPort) -> u64 {
+    match port {
+        RelayedPort::Reserved(token) => token,
+        _ => 0,
+    }
+}
+
 fn told_feature(feature: Feature) -> u32 {
     match feature {
         Feature::Auto => sys::TURN_ANONYMOUS_AUTO,
         Feature::Required => sys::TURN_ANONYMOUS_REQUIRED,
         Feature::Disabled => sys::TURN_ANONYMOUS_DISABLED,
     }
+}
+
+/// The port that is asked for the relayed address (RFC 8656, section 7.1).
+#[derive(Clone, Copy, Debug, PartialEq, Eq)]
+pub enum RelayedPort {
+    /// Any port.
+    Any,
+    /// An even port, by EVEN-PORT (section 18.7).
+    Even,
+    /// An even port, and that the server reserve the next one for another client. Servers refuse it
+    /// beside two families.
+    EvenAndNextReserved,
+    /// The port that the server reserved under this token
+    /// ([`reservation_token`](crate::TurnClientApi::reservation_token); section 18.10). The families
+    /// are not sent then, as the server has chosen the address already.
+    Reserved(u64),
 }
 
 /// Bytes between two addresses: what came, or what is to be sent.

@@ -9,8 +9,8 @@ use std::time::Duration;
 
 use crate::address::{read, read_transport, told, told_ip, told_moment, told_transport};
 use crate::api::{
-    Channel, Connection, Transmit, TransportType, TurnCause, TurnConfig, TurnCredentials,
-    TurnEvent, TurnPeerData, TurnPollRet, TurnRecvRet,
+    AllocationExpired, Channel, Connection, Transmit, TransportType, TurnCause, TurnConfig,
+    TurnCredentials, TurnEvent, TurnPeerData, TurnPollRet, TurnRecvRet,
 };
 use crate::error::{
     AllocateError, BindChannelError, CreatePermissionError, CredentialsError, DeleteError,
@@ -585,6 +585,20 @@ pub trait TurnClientApi: HasHandle {
         }
     }
 
+    /// Takes the allocation that has waited longest of those that [`poll`](Self::poll) removed
+    /// because their time was over (RFC 8656, section 6), where short lifetimes are believed
+    /// ([`TurnConfig::set_short_lifetimes`]). Ask it after `poll`, until it is `None`: no event
+    /// tells the end of an allocation. What goes after `delete` isn't told.
+    fn poll_expired(&mut self) -> Option<AllocationExpired> {
+        let mut expired = sys::turn_relayed::default();
+        // SAFETY: both pointers are of values that live as long as the call.
+        let status = unsafe { sys::turn_client_expired(self.handle_mut().at(), &mut expired) };
+        (status == sys::TURN_OK).then(|| AllocationExpired {
+            transport: read_transport(expired.transport),
+            relayed: read(&expired.address),
+        })
+    }
+
     /// Takes the event that has waited longest, as [`poll_event`](Self::poll_event) does, with its
     /// cause: `None` for one that reports no failure.
     fn poll_event_with_cause(&mut self) -> Option<(TurnEvent, Option<TurnCause>)> {
@@ -613,6 +627,18 @@ pub trait TurnClientApi: HasHandle {
         // SAFETY: both pointers are of values that live as long as the call.
         let status = unsafe { sys::turn_client_mapped(self.handle().at(), &mut mapped) };
         (status == sys::TURN_OK).then(|| read(&mapped))
+    }
+
+    /// Returns the token of the port that the server reserved beside the relayed one: the
+    /// RESERVATION-TOKEN of the signed response that allocated (RFC 8656, section 18.10). `None`
+    /// before that, or if the response had none. A server gives one for
+    /// [`RelayedPort::EvenAndNextReserved`](crate::RelayedPort), and holds the port for at least 30
+    /// seconds; another client asks for it by `RelayedPort::Reserved`.
+    fn reservation_token(&self) -> Option<u64> {
+        let mut token = 0;
+        // SAFETY: both pointers are of values that live as long as the call.
+        let status = unsafe { sys::turn_client_reservation(self.handle().at(), &mut token) };
+        (status == sys::TURN_OK).then_some(token)
     }
 
     /// Returns the server that a response 300 named which ended the client (RFC 8489, section 10);

@@ -141,9 +141,9 @@ mod sys;
 mod uri;
 
 pub use api::{
-    AddressFamily, Channel, Connection, Feature, IntegrityAlgorithm, Socket5Tuple, Transmit,
-    TransportType, TurnCause, TurnConfig, TurnCredentials, TurnEvent, TurnPeerData, TurnPollRet,
-    TurnRecvRet,
+    AddressFamily, AllocationExpired, Channel, Connection, Feature, IntegrityAlgorithm,
+    RelayedPort, Socket5Tuple, Transmit, TransportType, TurnCause, TurnConfig, TurnCredentials,
+    TurnEvent, TurnPeerData, TurnPollRet, TurnRecvRet,
 };
 pub use client::{TurnClientApi, TurnClientTcp, TurnClientUdp};
 pub use driver::{ConnectError, SocketError, TurnSocket, TurnStream};

@@ -32,6 +32,7 @@ pub struct Told {
     pub is_signed: bool,
     pub icmp_type: u8,
     pub icmp_code: u8,
+    /// Or the token of a reserved port.
     pub until: u64,
 }
 
@@ -112,6 +113,10 @@ pub struct Exchange {
     pub most_wait: u64,
     pub last_wait: u64,
     pub ignore_short_lifetimes: u32,
+    pub lifetime: u32,
+    pub pace: u32,
+    pub port: &'static str,
+    pub reservation: u64,
     pub parts: &'static [Part],
 }
 
@@ -129,6 +134,10 @@ const EXCHANGE: Exchange = Exchange {
     most_wait: 0,
     last_wait: 0,
     ignore_short_lifetimes: 0,
+    lifetime: 1800,
+    pace: 0,
+    port: "",
+    reservation: 0,
     parts: &[],
 };
 

@@ -197,6 +197,19 @@ const TEXT_190: &[u8] = &[1, 12, 0, 36, 33, 18, 164, 66, 1, 1, 1, 1, 1, 1, 1, 1,
 const TEXT_191: &[u8] = &[0, 11, 0, 172, 33, 18, 164, 66, 32, 97, 103, 81, 22, 215, 138, 99, 57, 169, 194, 103, 0, 42, 0, 4, 0, 0, 0, 12, 128, 34, 0, 14, 80, 97, 107, 104, 118, 105, 122, 104, 101, 32, 116, 101, 115, 116, 0, 0, 0, 30, 0, 32, 67, 91, 121, 51, 9, 106, 48, 77, 60, 115, 76, 251, 131, 62, 201, 7, 91, 212, 122, 177, 192, 22, 3, 33, 174, 211, 28, 6, 168, 199, 0, 158, 0, 20, 0, 11, 101, 120, 97, 109, 112, 108, 101, 46, 111, 114, 103, 0, 0, 21, 0, 22, 111, 98, 77, 97, 116, 74, 111, 115, 50, 119, 65, 65, 65, 32, 97, 110, 100, 32, 109, 111, 114, 101, 0, 0, 128, 2, 0, 8, 0, 1, 0, 0, 0, 2, 0, 0, 0, 29, 0, 4, 0, 2, 0, 0, 0, 28, 0, 32, 100, 9, 228, 199, 173, 64, 171, 35, 189, 223, 21, 120, 151, 255, 165, 54, 117, 57, 103, 63, 19, 190, 99, 177, 28, 247, 76, 231, 71, 195, 101, 214, 128, 40, 0, 4, 187, 255, 187, 167];
 const TEXT_192: &[u8] = &[1, 3, 0, 56, 33, 18, 164, 66, 161, 28, 105, 105, 19, 252, 163, 167, 128, 152, 20, 79, 0, 22, 0, 8, 0, 1, 226, 66, 234, 18, 213, 71, 0, 13, 0, 4, 0, 0, 2, 88, 0, 32, 0, 8, 0, 1, 50, 154, 225, 18, 166, 67, 0, 8, 0, 20, 12, 201, 15, 177, 20, 84, 37, 75, 56, 200, 0, 197, 47, 157, 54, 187, 157, 59, 171, 224];
 const TEXT_193: &[u8] = &[0, 4, 0, 88, 33, 18, 164, 66, 93, 43, 187, 232, 3, 225, 101, 35, 124, 231, 106, 15, 0, 13, 0, 4, 0, 0, 0, 0, 0, 6, 0, 5, 97, 108, 105, 99, 101, 0, 0, 0, 0, 20, 0, 11, 101, 120, 97, 109, 112, 108, 101, 46, 111, 114, 103, 0, 0, 21, 0, 24, 97, 32, 110, 111, 110, 99, 101, 32, 111, 102, 32, 111, 114, 100, 105, 110, 97, 114, 121, 32, 116, 101, 120, 116, 0, 8, 0, 20, 223, 178, 211, 180, 91, 133, 240, 151, 250, 148, 128, 179, 129, 37, 28, 105, 1, 231, 255, 231];
+const TEXT_194: &[u8] = &[0, 3, 0, 28, 33, 18, 164, 66, 159, 126, 105, 177, 25, 30, 70, 198, 207, 49, 209, 131, 0, 13, 0, 4, 0, 0, 14, 16, 0, 25, 0, 4, 17, 0, 0, 0, 0, 26, 0, 0, 0, 24, 0, 1, 128, 0, 0, 0];
+const TEXT_195: &[u8] = &[0, 3, 0, 104, 33, 18, 164, 66, 161, 28, 105, 105, 19, 252, 163, 167, 128, 152, 20, 79, 0, 25, 0, 4, 17, 0, 0, 0, 0, 13, 0, 4, 0, 0, 14, 16, 0, 24, 0, 1, 128, 0, 0, 0, 0, 6, 0, 5, 97, 108, 105, 99, 101, 0, 0, 0, 0, 20, 0, 11, 101, 120, 97, 109, 112, 108, 101, 46, 111, 114, 103, 0, 0, 21, 0, 24, 97, 32, 110, 111, 110, 99, 101, 32, 111, 102, 32, 111, 114, 100, 105, 110, 97, 114, 121, 32, 116, 101, 120, 116, 0, 8, 0, 20, 146, 60, 125, 197, 119, 54, 175, 119, 215, 67, 56, 184, 73, 36, 236, 30, 197, 223, 137, 217];
+const TEXT_196: &[u8] = &[1, 3, 0, 56, 33, 18, 164, 66, 161, 28, 105, 105, 19, 252, 163, 167, 128, 152, 20, 79, 0, 22, 0, 8, 0, 1, 226, 66, 234, 18, 213, 71, 0, 13, 0, 4, 0, 0, 14, 16, 0, 34, 0, 8, 255, 0, 1, 2, 3, 4, 5, 6, 0, 8, 0, 20, 157, 95, 26, 128, 204, 49, 40, 152, 33, 174, 126, 101, 15, 139, 159, 81, 57, 132, 147, 14];
+const TEXT_197: &[u8] = &[0, 4, 0, 88, 33, 18, 164, 66, 93, 43, 187, 232, 3, 225, 101, 35, 124, 231, 106, 15, 0, 13, 0, 4, 0, 0, 14, 16, 0, 6, 0, 5, 97, 108, 105, 99, 101, 0, 0, 0, 0, 20, 0, 11, 101, 120, 97, 109, 112, 108, 101, 46, 111, 114, 103, 0, 0, 21, 0, 24, 97, 32, 110, 111, 110, 99, 101, 32, 111, 102, 32, 111, 114, 100, 105, 110, 97, 114, 121, 32, 116, 101, 120, 116, 0, 8, 0, 20, 88, 170, 83, 76, 139, 197, 50, 217, 145, 194, 229, 124, 171, 226, 178, 13, 90, 15, 245, 95];
+const TEXT_198: &[u8] = &[1, 4, 0, 32, 33, 18, 164, 66, 93, 43, 187, 232, 3, 225, 101, 35, 124, 231, 106, 15, 0, 13, 0, 4, 0, 0, 14, 16, 0, 8, 0, 20, 208, 237, 190, 148, 89, 138, 135, 22, 231, 162, 25, 166, 99, 222, 53, 232, 102, 14, 198, 167];
+const TEXT_199: &[u8] = &[0, 8, 0, 92, 33, 18, 164, 66, 49, 11, 201, 77, 26, 163, 58, 7, 137, 190, 201, 148, 0, 18, 0, 8, 0, 1, 33, 18, 231, 33, 192, 67, 0, 6, 0, 5, 97, 108, 105, 99, 101, 0, 0, 0, 0, 20, 0, 11, 101, 120, 97, 109, 112, 108, 101, 46, 111, 114, 103, 0, 0, 21, 0, 24, 97, 32, 110, 111, 110, 99, 101, 32, 111, 102, 32, 111, 114, 100, 105, 110, 97, 114, 121, 32, 116, 101, 120, 116, 0, 8, 0, 20, 64, 142, 11, 103, 59, 11, 197, 17, 181, 168, 235, 185, 47, 85, 32, 43, 232, 187, 107, 103];
+const TEXT_200: &[u8] = &[0, 8, 0, 92, 33, 18, 164, 66, 112, 166, 137, 123, 201, 193, 166, 42, 34, 171, 177, 131, 0, 18, 0, 8, 0, 1, 33, 18, 231, 33, 192, 64, 0, 6, 0, 5, 97, 108, 105, 99, 101, 0, 0, 0, 0, 20, 0, 11, 101, 120, 97, 109, 112, 108, 101, 46, 111, 114, 103, 0, 0, 21, 0, 24, 97, 32, 110, 111, 110, 99, 101, 32, 111, 102, 32, 111, 114, 100, 105, 110, 97, 114, 121, 32, 116, 101, 120, 116, 0, 8, 0, 20, 78, 37, 125, 98, 28, 48, 150, 140, 233, 234, 214, 40, 139, 112, 216, 85, 3, 232, 58, 73];
+const TEXT_201: &[u8] = &[0, 3, 0, 32, 33, 18, 164, 66, 159, 126, 105, 177, 25, 30, 70, 198, 207, 49, 209, 131, 0, 13, 0, 4, 0, 0, 7, 8, 0, 25, 0, 4, 17, 0, 0, 0, 0, 26, 0, 0, 0, 34, 0, 8, 255, 0, 1, 2, 3, 4, 5, 6];
+const TEXT_202: &[u8] = &[0, 3, 0, 108, 33, 18, 164, 66, 161, 28, 105, 105, 19, 252, 163, 167, 128, 152, 20, 79, 0, 25, 0, 4, 17, 0, 0, 0, 0, 13, 0, 4, 0, 0, 7, 8, 0, 34, 0, 8, 255, 0, 1, 2, 3, 4, 5, 6, 0, 6, 0, 5, 97, 108, 105, 99, 101, 0, 0, 0, 0, 20, 0, 11, 101, 120, 97, 109, 112, 108, 101, 46, 111, 114, 103, 0, 0, 21, 0, 24, 97, 32, 110, 111, 110, 99, 101, 32, 111, 102, 32, 111, 114, 100, 105, 110, 97, 114, 121, 32, 116, 101, 120, 116, 0, 8, 0, 20, 199, 33, 11, 42, 67, 21, 62, 206, 126, 235, 113, 47, 81, 15, 162, 11, 24, 57, 59, 40];
+const TEXT_203: &[u8] = &[1, 3, 0, 56, 33, 18, 164, 66, 161, 28, 105, 105, 19, 252, 163, 167, 128, 152, 20, 79, 0, 22, 0, 20, 0, 2, 226, 67, 1, 19, 169, 250, 161, 28, 105, 105, 19, 252, 163, 167, 128, 152, 20, 74, 0, 13, 0, 4, 0, 0, 7, 8, 0, 8, 0, 20, 249, 14, 10, 45, 175, 135, 231, 156, 221, 53, 41, 37, 24, 151, 130, 175, 53, 106, 229, 51];
+const TEXT_204: &[u8] = &[0, 3, 0, 28, 33, 18, 164, 66, 159, 126, 105, 177, 25, 30, 70, 198, 207, 49, 209, 131, 0, 13, 0, 4, 0, 0, 0, 60, 0, 25, 0, 4, 17, 0, 0, 0, 0, 26, 0, 0, 0, 24, 0, 1, 0, 0, 0, 0];
+const TEXT_205: &[u8] = &[0, 3, 0, 104, 33, 18, 164, 66, 161, 28, 105, 105, 19, 252, 163, 167, 128, 152, 20, 79, 0, 25, 0, 4, 17, 0, 0, 0, 0, 13, 0, 4, 0, 0, 0, 60, 0, 24, 0, 1, 0, 0, 0, 0, 0, 6, 0, 5, 97, 108, 105, 99, 101, 0, 0, 0, 0, 20, 0, 11, 101, 120, 97, 109, 112, 108, 101, 46, 111, 114, 103, 0, 0, 21, 0, 24, 97, 32, 110, 111, 110, 99, 101, 32, 111, 102, 32, 111, 114, 100, 105, 110, 97, 114, 121, 32, 116, 101, 120, 116, 0, 8, 0, 20, 9, 29, 155, 73, 38, 212, 35, 158, 210, 62, 217, 66, 175, 47, 100, 186, 115, 57, 64, 181];
+const TEXT_206: &[u8] = &[1, 19, 0, 56, 33, 18, 164, 66, 161, 28, 105, 105, 19, 252, 163, 167, 128, 152, 20, 79, 0, 9, 0, 25, 0, 0, 5, 8, 73, 110, 115, 117, 102, 102, 105, 99, 105, 101, 110, 116, 32, 67, 97, 112, 97, 99, 105, 116, 121, 0, 0, 0, 0, 8, 0, 20, 104, 52, 157, 215, 140, 177, 4, 84, 225, 193, 118, 14, 166, 167, 231, 232, 98, 215, 204, 235];
 pub const EXCHANGES: &[Exchange] = &[
     Exchange { name: "over UDP", local: "192.0.2.1:5000", server: "192.0.2.2:3478", transport: "udp", peers: "udp", 
         parts: &[
@@ -1236,6 +1249,68 @@ pub const EXCHANGES: &[Exchange] = &[
                 Step { name: "", call: "poll", now: 39600000000, want: Told { answer: "TURN_CLOSED", ..TOLD }, ..STEP },
                 Step { name: "", call: "expired", now: 39600000000, want: Told { answer: "TURN_NOTHING", ..TOLD }, ..STEP },
                 Step { name: "", call: "close", now: 39600000000, want: Told { answer: "TURN_OK", ..TOLD }, ..STEP },
+            ]),
+        ],
+        ..EXCHANGE
+    },
+    Exchange { name: "an hour and a pair of ports", local: "192.0.2.1:5000", server: "192.0.2.2:3478", transport: "udp", peers: "udp", lifetime: 3600, pace: 4294967295, port: "TURN_PORT_EVEN_AND_NEXT", 
+        parts: &[
+            ("an hour and a pair of ports: the allocation", &[
+                Step { name: "", call: "open", now: 0, want: Told { answer: "TURN_OK", ..TOLD }, ..STEP },
+                Step { name: "", call: "reservation", now: 0, want: Told { answer: "TURN_NOTHING", ..TOLD }, ..STEP },
+                Step { name: "", call: "draw", now: 0, want: Told { answer: "TURN_OK", bytes: TEXT_194, transport: "udp", from: "192.0.2.1:5000", to: "192.0.2.2:3478", size: 48, ..TOLD }, ..STEP },
+                Step { name: "", call: "feed", now: 0, from: "192.0.2.2:3478", to: "192.0.2.1:5000", bytes: TEXT_2, want: Told { answer: "TURN_OK", ..TOLD }, ..STEP },
+                Step { name: "", call: "draw", now: 0, want: Told { answer: "TURN_OK", bytes: TEXT_195, transport: "udp", from: "192.0.2.1:5000", to: "192.0.2.2:3478", size: 124, ..TOLD }, ..STEP },
+                Step { name: "", call: "feed", now: 0, from: "192.0.2.2:3478", to: "192.0.2.1:5000", bytes: TEXT_196, want: Told { answer: "TURN_OK", ..TOLD }, ..STEP },
+                Step { name: "", call: "event", now: 0, want: Told { answer: "TURN_OK", kind: "TURN_ALLOCATION_CREATED", transport: "udp", peer: "203.0.113.5:50000", ..TOLD }, ..STEP },
+                Step { name: "", call: "reservation", now: 0, want: Told { answer: "TURN_OK", until: 18374687587823781126, ..TOLD }, ..STEP },
+            ]),
+            ("an hour and a pair of ports: a minute before its end an hour is asked for again, and other requests are drawn at that moment", &[
+                Step { name: "", call: "draw", now: 3540000000000, want: Told { answer: "TURN_OK", bytes: TEXT_197, transport: "udp", from: "192.0.2.1:5000", to: "192.0.2.2:3478", size: 108, ..TOLD }, ..STEP },
+                Step { name: "", call: "feed", now: 3540000000000, from: "192.0.2.2:3478", to: "192.0.2.1:5000", bytes: TEXT_198, want: Told { answer: "TURN_OK", ..TOLD }, ..STEP },
+                Step { name: "", call: "permit", now: 3540000000000, transport: "udp", to: "198.51.100.1:9000", want: Told { answer: "TURN_OK", ..TOLD }, ..STEP },
+                Step { name: "", call: "permit", now: 3540000000000, transport: "udp", to: "198.51.100.2:9001", want: Told { answer: "TURN_OK", ..TOLD }, ..STEP },
+                Step { name: "", call: "draw", now: 3540000000000, want: Told { answer: "TURN_OK", bytes: TEXT_199, transport: "udp", from: "192.0.2.1:5000", to: "192.0.2.2:3478", size: 112, ..TOLD }, ..STEP },
+                Step { name: "", call: "draw", now: 3540000000000, want: Told { answer: "TURN_OK", bytes: TEXT_200, transport: "udp", from: "192.0.2.1:5000", to: "192.0.2.2:3478", size: 112, ..TOLD }, ..STEP },
+                Step { name: "", call: "close", now: 3540000000000, want: Told { answer: "TURN_OK", ..TOLD }, ..STEP },
+            ]),
+        ],
+        ..EXCHANGE
+    },
+    Exchange { name: "a reserved port", local: "192.0.2.1:5000", server: "192.0.2.2:3478", transport: "udp", peers: "udp", families: 2, port: "TURN_PORT_RESERVED", reservation: 18374687587823781126, 
+        parts: &[
+            ("a reserved port: the allocation", &[
+                Step { name: "", call: "open", now: 0, want: Told { answer: "TURN_OK", ..TOLD }, ..STEP },
+                Step { name: "", call: "draw", now: 0, want: Told { answer: "TURN_OK", bytes: TEXT_201, transport: "udp", from: "192.0.2.1:5000", to: "192.0.2.2:3478", size: 52, ..TOLD }, ..STEP },
+                Step { name: "", call: "feed", now: 0, from: "192.0.2.2:3478", to: "192.0.2.1:5000", bytes: TEXT_2, want: Told { answer: "TURN_OK", ..TOLD }, ..STEP },
+                Step { name: "", call: "draw", now: 50000000, want: Told { answer: "TURN_OK", bytes: TEXT_202, transport: "udp", from: "192.0.2.1:5000", to: "192.0.2.2:3478", size: 128, ..TOLD }, ..STEP },
+                Step { name: "", call: "feed", now: 50000000, from: "192.0.2.2:3478", to: "192.0.2.1:5000", bytes: TEXT_203, want: Told { answer: "TURN_OK", ..TOLD }, ..STEP },
+                Step { name: "", call: "event", now: 50000000, want: Told { answer: "TURN_OK", kind: "TURN_ALLOCATION_CREATED", transport: "udp", peer: "[2001:db8::5]:50001", ..TOLD }, ..STEP },
+                Step { name: "", call: "reservation", now: 50000000, want: Told { answer: "TURN_NOTHING", ..TOLD }, ..STEP },
+                Step { name: "", call: "close", now: 50000000, want: Told { answer: "TURN_OK", ..TOLD }, ..STEP },
+            ]),
+        ],
+        ..EXCHANGE
+    },
+    Exchange { name: "an even port", local: "192.0.2.1:5000", server: "192.0.2.2:3478", transport: "udp", peers: "udp", port: "TURN_PORT_EVEN", pace: 90, lifetime: 60, 
+        parts: &[
+            ("an even port: the allocation", &[
+                Step { name: "", call: "open", now: 0, want: Told { answer: "TURN_OK", ..TOLD }, ..STEP },
+                Step { name: "", call: "draw", now: 0, want: Told { answer: "TURN_OK", bytes: TEXT_204, transport: "udp", from: "192.0.2.1:5000", to: "192.0.2.2:3478", size: 48, ..TOLD }, ..STEP },
+                Step { name: "", call: "feed", now: 0, from: "192.0.2.2:3478", to: "192.0.2.1:5000", bytes: TEXT_2, want: Told { answer: "TURN_OK", ..TOLD }, ..STEP },
+                Step { name: "", call: "draw", now: 89000000, want: Told { answer: "TURN_NOTHING", ..TOLD }, ..STEP },
+                Step { name: "", call: "draw", now: 90000000, want: Told { answer: "TURN_OK", bytes: TEXT_205, transport: "udp", from: "192.0.2.1:5000", to: "192.0.2.2:3478", size: 124, ..TOLD }, ..STEP },
+                Step { name: "", call: "feed", now: 90000000, from: "192.0.2.2:3478", to: "192.0.2.1:5000", bytes: TEXT_206, want: Told { answer: "TURN_OK", ..TOLD }, ..STEP },
+                Step { name: "", call: "event", now: 90000000, want: Told { answer: "TURN_OK", kind: "TURN_ALLOCATION_FAILED", transport: "", peer: "0.0.0.0:0", ..TOLD }, ..STEP },
+                Step { name: "", call: "cause", now: 90000000, want: Told { answer: "TURN_OK", kind: "TURN_REJECTED", code: 508, is_signed: true, size: 21, ..TOLD }, ..STEP },
+                Step { name: "", call: "reason", now: 90000000, want: Told { answer: "TURN_OK", bytes: TEXT_122, size: 21, ..TOLD }, ..STEP },
+                Step { name: "", call: "domain", now: 90000000, want: Told { answer: "TURN_NOTHING", ..TOLD }, ..STEP },
+                Step { name: "", call: "mapped", now: 90000000, want: Told { answer: "TURN_NOTHING", ..TOLD }, ..STEP },
+                Step { name: "", call: "event", now: 90000000, want: Told { answer: "TURN_NOTHING", ..TOLD }, ..STEP },
+                Step { name: "", call: "poll", now: 90000000, want: Told { answer: "TURN_CLOSED", ..TOLD }, ..STEP },
+                Step { name: "", call: "draw", now: 90000000, want: Told { answer: "TURN_NOTHING", ..TOLD }, ..STEP },
+                Step { name: "", call: "delete", now: 90000000, want: Told { answer: "TURN_NO_ALLOCATION", ..TOLD }, ..STEP },
+                Step { name: "", call: "close", now: 90000000, want: Told { answer: "TURN_OK", ..TOLD }, ..STEP },
             ]),
         ],
         ..EXCHANGE

@@ -7,9 +7,9 @@ use std::net::SocketAddr;
 use std::time::Duration;
 
 use turn_client::{
-    AddressFamily, BindChannelError, Feature, IntegrityAlgorithm, Transmit, TransportType,
-    TurnCause, TurnClientApi, TurnClientTcp, TurnClientUdp, TurnConfig, TurnCredentials, TurnEvent,
-    TurnPeerData, TurnPollRet, TurnRecvRet,
+    AddressFamily, AllocationExpired, BindChannelError, Feature, IntegrityAlgorithm, RelayedPort,
+    Transmit, TransportType, TurnCause, TurnClientApi, TurnClientTcp, TurnClientUdp, TurnConfig,
+    TurnCredentials, TurnEvent, TurnPeerData, TurnPollRet, TurnRecvRet,
 };
 
 use super::{Exchange, Part, Step, Told, PASSWORD, SEED, TOLD, USER};
@@ -109,6 +109,19 @@ fn config(exchange: &Exchange) -> TurnConfig {
             .map(Duration::from_millis);
         config.set_request_retransmits(first, most, exchange.sends, last);
     }
+    config.set_short_lifetimes(exchange.ignore_short_lifetimes == 0);
+    config.set_requested_lifetime(exchange.lifetime);
+    config.set_pace(match exchange.pace {
+        0 => Duration::from_millis(50),
+        u32::MAX => Duration::ZERO,
+        millis => Duration::from_millis(millis.into()),
+    });
+    config.set_relayed_port(match exchange.port {
+        "TURN_PORT_EVEN" => RelayedPort::Even,
+        "TURN_PORT_EVEN_AND_NEXT" => RelayedPort::EvenAndNextReserved,
+        "TURN_PORT_RESERVED" => RelayedPort::Reserved(exchange.reservation),
+        _ => RelayedPort::Any,
+    });
     config
 }
 
@@ -139,6 +152,15 @@ fn tell_message(sent: Transmit<&[u8]>) -> Told {
         to: kept(sent.to),
         bytes: sent.data.to_vec().leak(),
         size: sent.data.len(),
+        ..TOLD
+    }
+}
+
+fn tell_expired(it: AllocationExpired) -> Told {
+    Told {
+        answer: "TURN_OK",
+        transport: shown(it.transport),
+        peer: kept(it.relayed),
         ..TOLD
     }
 }
@@ -397,6 +419,13 @@ impl Walker {
                 _ => tell_text(None),
             },
             "domain" => tell_text(domain),
+            "reservation" => client
+                .reservation_token()
+                .map_or(answer("TURN_NOTHING"), |token| Told {
+                    answer: "TURN_OK",
+                    until: token,
+                    ..TOLD
+                }),
             _ => client
                 .mapped_address()
                 .map_or(answer("TURN_NOTHING"), |it| Told {
@@ -523,7 +552,11 @@ impl Walker {
                 .client()
                 .poll_event()
                 .map_or(answer("TURN_NOTHING"), tell_event),
-            "cause" | "reason" | "domain" | "mapped" => self.note(step),
+            "expired" => self
+                .client()
+                .poll_expired()
+                .map_or(answer("TURN_NOTHING"), tell_expired),
+            "cause" | "reason" | "domain" | "mapped" | "reservation" => self.note(step),
             "credentials" | "software" | "fingerprint" => self.introduce(step),
             _ => self.ask(step, now),
         }

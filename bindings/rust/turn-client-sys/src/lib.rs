@@ -125,6 +125,18 @@ pub const TURN_ANONYMOUS_AUTO: u32 = 0;
 pub const TURN_ANONYMOUS_REQUIRED: u32 = 1;
 /// The name isn't hidden.
 pub const TURN_ANONYMOUS_DISABLED: u32 = 2;
+/// Any port is asked for.
+pub const TURN_PORT_ANY: u32 = 0;
+/// An even port is asked for (EVEN-PORT; RFC 8656, section 18.7).
+pub const TURN_PORT_EVEN: u32 = 1;
+/// An even port is asked for, and that the next one be reserved (EVEN-PORT with the bit R). Servers
+/// refuse it beside two families.
+pub const TURN_PORT_EVEN_AND_NEXT: u32 = 2;
+/// The reserved port is asked for (RESERVATION-TOKEN; RFC 8656, section 18.10). The families are
+/// not sent then, as the server has chosen the address already.
+pub const TURN_PORT_RESERVED: u32 = 3;
+/// No time between two messages.
+pub const TURN_NO_PACE: u32 = u32::MAX;
 
 /// Address: the relayed one.
 pub const TURN_ALLOCATION_CREATED: u32 = 1;
@@ -182,8 +194,9 @@ pub struct turn_address {
 
 /// The settings of a client, which begin as TURN_SETTINGS_INIT. With all numbers zero except size
 /// and addresses: over UDP, one IPv4 address over UDP, HMAC-SHA1 and HMAC-SHA256, the name is
-/// hidden if the server supports it, requests wait as RFC 8489 says, the client is hardened, and a
-/// REFRESH may shorten an allocation.
+/// hidden if the server supports it, requests wait as RFC 8489 says, the client is hardened, a
+/// REFRESH may shorten an allocation, half an hour and any port are asked for, and two messages are
+/// at least 50 ms apart.
 #[repr(C)]
 #[derive(Clone, Copy, Debug, Default)]
 pub struct turn_settings {
@@ -226,6 +239,16 @@ pub struct turn_settings {
     /// 8.3), unless compatible is 1. 1: such a response changes nothing, so the allocation may
     /// outlast the server's. What the response to the ALLOCATE says is believed either way.
     pub ignore_short_lifetimes: u32,
+    /// In seconds: what each ALLOCATE and each REFRESH that renews asks for; 0 is 1800. The server
+    /// decides.
+    pub lifetime: u32,
+    /// The least time between two messages that draw gives, in milliseconds; 0 is 50, and
+    /// TURN_NO_PACE none. What is sent again, and responses to the server, don't wait for it.
+    pub pace: u32,
+    /// The port that is asked for the relayed address (RFC 8656, section 7.1); 0 is TURN_PORT_ANY.
+    pub port: u32,
+    /// For TURN_PORT_RESERVED: what turn_client_reservation reported of another client.
+    pub reservation: u64,
 }
 
 /// 32 random bytes, from the system's source of random bytes and from nowhere else.
@@ -462,6 +485,9 @@ extern "C" {
     pub fn turn_client_poll(client: *mut turn_client, now: u64, wait: *mut turn_wait) -> i32;
     /// Takes the oldest queued event.
     pub fn turn_client_event(client: *mut turn_client, event: *mut turn_event) -> i32;
+    /// Takes the oldest allocation whose time was over, and which was not reported yet. What goes
+    /// after turn_client_delete isn't reported.
+    pub fn turn_client_expired(client: *mut turn_client, expired: *mut turn_relayed) -> i32;
     /// Reports why the event happened that turn_client_event wrote last, until it writes another.
     pub fn turn_client_cause(client: *mut turn_client, cause: *mut turn_cause) -> i32;
     /// Copies the reason phrase of the error response to the start of `out`, a buffer of at least
@@ -477,6 +503,9 @@ extern "C" {
     /// Reports the client's own address as the server saw it: the XOR-MAPPED-ADDRESS of the signed
     /// response that allocated (RFC 8656, section 7.3).
     pub fn turn_client_mapped(client: *mut turn_client, mapped: *mut turn_address) -> i32;
+    /// Reports the token of the port that the server reserved beside the relayed one: the
+    /// RESERVATION-TOKEN of the signed response that allocated (RFC 8656, section 18.10).
+    pub fn turn_client_reservation(client: *mut turn_client, token: *mut u64) -> i32;
 
     /// Requests a permission for a peer's address, whose port does not count (RFC 8656, section 9).
     /// It is valid for 300 seconds, and the client renews it.
