@@ -42,7 +42,7 @@ use Rattle.turn_client_proto_progress_laws.proofs.Asking.Stored.{Keeps}
 
 -- What the client asks the server for, and the least time between two messages.
 abbrev pub asked_of : Protocol → List AddressFamily × (AllocateOptions × ℕ)
-asked_of p = (p.families, p.options, pace_of p)
+asked_of p = (p.families, (p.options, pace_of p))
 
 pub record Same (p q : Protocol) : Type 0 where
   pub server : q.server ≡ p.server

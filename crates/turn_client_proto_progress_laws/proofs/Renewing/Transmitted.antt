@@ -21,7 +21,7 @@ use Rattle.turn_client_proto_handshake_laws.specs.Choosing.{Choice}
 use Rattle.turn_client_proto_step_laws.specs.Timers.Drawing.{Again, Fresh, IsAnswerSent, IsStarted, IsTransmitted, IsFreshSent, IsNextSent, IsQueuedSent, IsRefreshSent, IsRenewed, IsStill, after_sending, first_refreshed, is_resting, sent_at_once}
 use Rattle.turn_client_proto_messages.specs.Api.Sent.{Sent}
 use Rattle.turn_client_proto_step_laws.specs.Timers.Polling.{pace_of}
-use Rattle.turn_client_proto_messages.specs.Api.Options.{allocation_lifetime}
+use Rattle.turn_client_proto_messages.specs.Api.Options.{allocation_lifetime, cadence}
 use Rattle.turn_client_proto_messages.specs.Api.declared.options.AllocateOptions.{AllocateOptions}
 use Rattle.turn_client_proto_messages.specs.Requests.{request_text}
 use Rattle.turn_client_proto_messages.specs.declared.request.TurnRequest.TheVariants.{Refresh}
