@@ -459,9 +459,9 @@ module _ (c : goal.After-stages_are_unserved) (plan : Plan) (old new : World) (p
   first = first_of plan core
 
   begins_new : (transport : TransportType) → old.client ≡ Some (over (control_at transport []) core) → BeginsNew plan.client.transport plan.client.here plan.client.server plan.client.config plan.client.seed core old
-  begins_new Udp there = c.new_clients_begin_new.ensures.udp plan.client.transport plan.client.here plan.client.server plan.client.config plan.client.seed (over Datagrams core) old there fresh.client.is fresh.room.0 fresh.room.1 refl
+  begins_new Udp there = c.new_clients_begin_new.ensures.udp plan.client.transport plan.client.here plan.client.server plan.client.config plan.client.seed (over Datagrams core) old there fresh.client.is fresh.room.0 fresh.room.1.few refl
   begins_new Tcp there =
-      c.new_clients_begin_new.ensures.tcp plan.client.transport plan.client.here plan.client.server plan.client.config plan.client.seed (over (Open (alive [])) core) old there fresh.client.is fresh.room.0 fresh.room.1 refl
+      c.new_clients_begin_new.ensures.tcp plan.client.transport plan.client.here plan.client.server plan.client.config plan.client.seed (over (Open (alive [])) core) old there fresh.client.is fresh.room.0 fresh.room.1.few refl
 
   reported_unforged : IsRun old pairs new → IsScript plan Start pairs progress → AllByRecursion IsFair pairs → IsReportedUnforged plan old pairs new
   reported_unforged run script fair =
