@@ -13,9 +13,8 @@
 //! response. [`keeping_clients_are_polled`] says what `poll` returns while no REFRESH is
 //! outstanding, and [`challenged_refreshes_are_reported`] what is reported and listed while one is.
 
-ghost use Rattle.std.specs.Prelude.{◌≡◌, ◌≢◌, ◌⊎◌, ◌≤◌, ◌<◌, ◌+◌, ◌++◌, ℕ, Bool, true, false};
-ghost use Rattle.std.specs.Prelude.{List, [], ◌∷◌, Option, Some, None, find, length};
-ghost use Rattle.std.specs.Prelude.{option_to_list};
+ghost use Rattle.std.specs.Prelude.{◌≡◌, ◌≢◌, ◌⊎◌, ◌≤◌, ◌<◌, ◌+◌, ◌++◌, ℕ, Bool, true, false, List};
+ghost use Rattle.std.specs.Prelude.{[], ◌∷◌, Option, Some, None, find, length, option_to_list};
 ghost use Rattle.std.specs.List.{list_any};
 ghost use Rattle.std.specs.declared.net.socket_addr.SocketAddr.{SocketAddr};
 ghost use Rattle.turn_client_proto_messages.specs.StunTypesWire.declared.algorithm.IntegrityAlgorithm.{IntegrityAlgorithm};

@@ -8,8 +8,7 @@
 //! - `specs/RenewalStages.antt` has the state of the simulation at each position. For each event
 //!   that leads from one position to another there is a theorem here.
 
-ghost use Rattle.std.specs.Prelude.{◌≡◌, ◌≤◌, ◌<◌, ◌++◌, ℕ, false, List, []};
-ghost use Rattle.std.specs.Prelude.{Some, Vec};
+ghost use Rattle.std.specs.Prelude.{◌≡◌, ◌≤◌, ◌<◌, ◌++◌, ℕ, false, List, [], Some, Vec};
 ghost use Rattle.std.specs.declared.alloc.Global.{Global};
 ghost use Rattle.std.specs.declared.net.socket_addr.SocketAddr.{SocketAddr};
 ghost use Rattle.turn_desk_core.specs.StunTypesWire.Attributes.{kind_at};

@@ -132,8 +132,7 @@ pub fn unanswered_worlds_end()
 pub fn unanswered_events_lead_on()
     ensures { (plan : Plan) (w v : World) (reported : List TurnEvent) (sendings : List Sending)
         (position next : Position) (event : Event) (ret : Answer)
-        → HasRoom plan.client.config
-        → IsUsual plan.client.config
+        → HasRoom plan.client.config → IsUsual plan.client.config
         → Goes plan position event ret next
         → IsAtPosition plan reported sendings position w
         → IsStep event w ret v
@@ -149,8 +148,7 @@ pub fn unanswered_events_lead_on()
 pub fn unanswered_clients_ask_again()
     ensures asks { (plan : Plan) (w v : World) (reported : List TurnEvent) (request : RequestState)
         (t : Timing) (head : List ℕ) (now : ℕ) (ret : Answer)
-        → HasRoom plan.client.config
-        → IsUsual plan.client.config
+        → HasRoom plan.client.config → IsUsual plan.client.config
         → IsStageOf plan reported request t head w
         → MayDraw plan request now
         → now ≤ client_end
@@ -160,8 +158,7 @@ pub fn unanswered_clients_ask_again()
     ensures sends { (plan : Plan) (w v : World) (reported : List TurnEvent)
         (sendings : List Sending) (request : RequestState) (t : Timing) (head : List ℕ) (now : ℕ)
         (ret : Answer)
-        → HasRoom plan.client.config
-        → IsUsual plan.client.config
+        → HasRoom plan.client.config → IsUsual plan.client.config
         → IsStageOf plan reported request t head w
         → MayDraw plan request now
         → now ≤ client_end
