@@ -1,6 +1,6 @@
 -- What a client that keeps an allocation returns when it is polled at any time before the end, by the contract of
 -- `poll` alone.
-use Rattle.std.proofs.Common.{◌≡◌, ℕ, zero, ◌<◌, ◌≤◌, arith, false, List, [], ◌∷◌, ◌++◌, Option, None, refl, sym, ap, ◌∙◌, subst, inl, inr, append-nil, map as map_list}
+use Rattle.std.proofs.Common.{◌≡◌, ℕ, zero, ◌<◌, ◌≤◌, arith, false, List, [], ◌∷◌, ◌++◌, Option, Some, None, refl, sym, ap, ◌∙◌, subst, inl, inr, append-nil, map as map_list}
 use Rattle.std.specs.Prelude.{max, min, MatchOption}
 use Rattle.std.specs.List.{list_any}
 use Rattle.std.specs.declared.net.socket_addr.SocketAddr.{SocketAddr}
@@ -84,7 +84,8 @@ module _ (b : Beginning) (c : Choice) (address : SocketAddr) (t : Term) (last : 
 
   walked : Bounds → (until : ℕ) → now < until → AreAllocationsPolled None (min pause until) p now ret q → WaitsOn t last queue now p ret q
   walked bounds until after st =
-      let ready : ready_after (pace_of p) p.last_send now ≡ max (time_after last cadence) now = ap (λ (l : Option ℕ). ready_after l now) w.last_send in
+      let ready : ready_after (pace_of p) p.last_send now ≡ max (time_after last cadence) now = ap (λ (l : Option ℕ). ready_after (pace_of p) l now) w.last_send
+      ∙ ap (λ (n : ℕ). ready_after n (Some last) now) (w.settings.pace ∙ w.settings.usual.pace) in
       let list : nexts None (ready_after (pace_of p) p.last_send now) now (stored None now p.allocations) ≡ bound ∷ [] =
       ap (λ (l : List Allocation). nexts None (ready_after (pace_of p) p.last_send now) now (stored None now l)) w.allocations
       ∙ (nexts_are b address t is now before (ready_after (pace_of p) p.last_send now) ∙ ap (λ (r : ℕ). max (due_of t) r ∷ []) ready) in
@@ -167,7 +168,8 @@ bounds b c address t last [] events p w unanswered is now in_range lasts ret q =
 bounds b c address t last (one ∷ rest) events p w unanswered is now in_range lasts ret q =
     let pause_is : wait_to_send (pace_of p) p.last_send p.queue now (time_after now longest_pause) ≡ min (time_after now longest_pause) (time_after last cadence) =
     ap (λ (l : List Queued). wait_to_send (pace_of p) p.last_send l now (time_after now longest_pause)) w.queue_is
-    ∙ ap (λ (l : Option ℕ). wait_to_send l (one ∷ rest) now (time_after now longest_pause)) w.last_send in
+    ∙ (ap (λ (l : Option ℕ). wait_to_send (pace_of p) l (one ∷ rest) now (time_after now longest_pause)) w.last_send
+    ∙ ap (λ (n : ℕ). wait_to_send n (Some last) (one ∷ rest) now (time_after now longest_pause)) (w.settings.pace ∙ w.settings.usual.pace)) in
     record {
       by_next = λ next first two. omega (arith, first, pause_is);
     }
