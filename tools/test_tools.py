@@ -42,6 +42,7 @@ release, replay, layout, architecture = (
 )
 version = script(TOP / "tools/version")
 words = script(TOP / "tools/words")
+lints = script(TOP / "tools/lints")
 index = script(TOP / "tools/index")
 bench, c_calls = (script(TOP / it) for it in ("bench/run", "bench/c_calls.py"))
 
@@ -337,6 +338,32 @@ class Words(unittest.TestCase):
         marked = [(path, text.replace("texts_fit", "proof_texts_fit")) for path, text in found]
         self.assertEqual([*words.unmarked(marked)], [])
         self.assertEqual([*words.unmarked([found[0], ("crates/a_laws/src/c.rt", found[1][1])])], [])
+
+
+class Lints(unittest.TestCase):
+    """What linters see in a folder."""
+
+    def linted(self, text):
+        with tempfile.TemporaryDirectory() as room, contextlib.redirect_stdout(io.StringIO()) as told:
+            Path(room, "check").write_text(text)
+            subprocess.run(["git", "init", "-q", room], check=True)
+            subprocess.run(["git", "-C", room, "add", "check"], check=True)
+            status = lints.main(Path(room))
+        return status, told.getvalue()
+
+    @unittest.skipUnless(shutil.which("shellcheck"), "shellcheck isn't installed")
+    def test_a_planted_fault_is_seen(self):
+        status, told = self.linted("#!/bin/sh\nrm $1\n")
+        self.assertEqual((status, "SC2086" in told, told.splitlines()[-1]), (1, True, "0 passed, 1 failed"))
+        status, told = self.linted('#!/bin/sh\nrm "$1"\n')
+        self.assertEqual((status, told.splitlines()[-1]), (0, "1 passed, 0 failed"))
+
+    def test_scripts_are_told_by_their_first_line(self):
+        with tempfile.TemporaryDirectory() as room:
+            heads = {"a": "#!/usr/bin/env bash", "b": "#!/usr/bin/env python3", "c.py": "import os", "d": "fish sh"}
+            for name, head in heads.items():
+                Path(room, name).write_text(f"{head}\n")
+            self.assertEqual(lints.scripts(Path(room), [*heads, "gone"]), (["a"], ["b", "c.py"]))
 
 
 class Version(unittest.TestCase):

@@ -394,7 +394,7 @@ def longest_sends():
     t = holding(PEER_1)
     now = 100 * MS
     # bytes that are long enough: sixteen, and four times twelve of each
-    line, size = indicates(t, now, 3, AT_1, bytes(16)), 48
+    line = indicates(t, now, 3, AT_1, bytes(16))
     part, k = f"@{line}:40:52+@{line}:4:8", 4
     sixteen = bytes(12) + struct.pack(">I", MAGIC)
     value = sixteen * 16
