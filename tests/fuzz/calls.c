@@ -45,6 +45,7 @@ static const uint32_t statuses[CALLS] = {
     [CALL_REASON] = BIT(TURN_OK) | BIT(TURN_NOTHING) | BIT(TURN_SMALL_BUFFER) | BIT(TURN_NO_CLIENT),
     [CALL_DOMAIN] = BIT(TURN_OK) | BIT(TURN_NOTHING) | BIT(TURN_SMALL_BUFFER) | BIT(TURN_NO_CLIENT),
     [CALL_MAPPED] = BIT(TURN_OK) | BIT(TURN_NOTHING) | BIT(TURN_NO_CLIENT),
+    [CALL_RESERVATION] = BIT(TURN_OK) | BIT(TURN_NOTHING) | BIT(TURN_NO_CLIENT),
 };
 
 /* Whether a call that was refused memory leaves a client that has failed. */
@@ -55,7 +56,7 @@ static bool is_fatal(enum call call)
 
 bool is_note(enum call call)
 {
-    return call >= CALL_CAUSE && call <= CALL_MAPPED;
+    return call >= CALL_CAUSE && call <= CALL_RESERVATION;
 }
 
 /* Whether a call changes how the client introduces itself in its requests. */
@@ -236,6 +237,10 @@ static int32_t call_noting(turn_client *c, const struct step *s, struct walker *
         turn_address *mapped = GIVE(turn_address);
         answer = turn_client_mapped(c, mapped);
         w->mapped = *mapped;
+    } else if (s->call == CALL_RESERVATION) {
+        uint64_t *token = GIVE(uint64_t);
+        answer = turn_client_reservation(c, token);
+        w->reservation = *token;
     } else {
         uint8_t *out = room_give(ROOM_OUT, room);
         answer = s->call == CALL_REASON ? turn_client_reason(c, out, room) : turn_client_domain(c, out, room);
@@ -588,7 +593,7 @@ static bool are_good(const turn_settings *s)
     const bool is_to = s->transport == 0 || is_transport(s->transport);
     const bool is_between = s->peers == 0 || s->peers == TURN_UDP || (s->peers == TURN_TCP && s->transport == TURN_TCP);
     return s->size == sizeof *s && is_family(&s->local) && is_family(&s->server) && is_to && is_between
-        && s->families <= 3
+        && s->families <= 3 && s->port <= TURN_PORT_RESERVED && s->ignore_short_lifetimes <= 1
         && s->integrity <= 7 && s->anonymous <= TURN_ANONYMOUS_DISABLED && s->compatible <= 1;
 }
 

@@ -401,7 +401,9 @@ static void open_any(void)
                             .most_wait = next_number(4), .last_wait = next_number(4),
                             .compatible = kind & 0x20 ? next() % 3 : 0,
                             .max_connection_attempts = kind & 0x10 ? next() : 0,
-                            .ignore_short_lifetimes = kind & 0x20 ? next() % 3 : 0};
+                            .ignore_short_lifetimes = kind & 0x20 ? next() % 3 : 0,
+                            .lifetime = kind & 0x10 ? next_number(4) : 0, .pace = kind & 0x20 ? next_number(4) : 0,
+                            .port = next() % 5, .reservation = next_number(4)};
     if (kind & 2)
         s.families = 3;
     const struct bytes any = {letters, kind & 8 ? TURN_NAME_MAX + (kind >> 4) % 2 : next()};
