@@ -58,7 +58,8 @@
  * bindings/c/turn_client.c does all this.
  *
  * WHAT MAY SURPRISE:
- *   - New requests are sent at least 50 ms apart. So a request may be ready to draw only at the time that poll returns.
+ *   - New requests are sent at least 50 ms apart (`pace`). So a request may be ready to draw only at the time that poll
+ *     returns.
  *   - While an event is queued, or a response to the server that draw gives, poll returns TURN_OK, to wait until now,
  *     and does nothing else. It does so for a client that has ended, too. If turns at one time do nothing, wait some
  *     milliseconds.
@@ -74,7 +75,8 @@
  *   - A server may reject one family of two. Then the client goes on with the other.
  *   - If a server grants less than 600 s at a renewal, the allocation ends by that, and is renewed in time. If
  *     compatible or ignore_short_lifetimes is 1, it still ends when it would have ended without the renewal.
- *   - No event reports that an allocation has expired, or what turn_client_delete ends: look at turn_client_relayed.
+ *   - No event reports that an allocation has expired, or what turn_client_delete ends: look at turn_client_relayed, or
+ *     call turn_client_expired.
  *   - A client that has ended or failed returns TURN_CLOSED from poll once no event is queued, and TURN_NO_ALLOCATION
  *     from the calls that request something. Close the sockets that are still open: poll no longer names them. One that
  *     failed holds nothing, and draw returns TURN_NOTHING. One that ended still lists what it held, and draw may give
@@ -157,11 +159,16 @@ enum turn_status {
 #define TURN_SEND_EXTRA 64                    /* bytes of the buffer of turn_client_send beside the payload */
 #define TURN_PAYLOAD_MAX 65504                /* bytes of a payload over UDP between server and peers */
 #define TURN_MOMENT_MAX (UINT64_C(1) << 62)   /* the latest time, in nanoseconds */
+#define TURN_NO_PACE UINT32_MAX               /* no time between two messages */
 
 enum { TURN_TCP = 6, TURN_UDP = 17 };                       /* transports, by their protocol numbers in IP */
 enum { TURN_IPV4 = 1, TURN_IPV6 = 2 };                                   /* bits of families */
 enum { TURN_SHA1 = 1, TURN_SHA256 = 2, TURN_SHA512 = 4 };                /* bits of integrity */
 enum { TURN_ANONYMOUS_AUTO = 0, TURN_ANONYMOUS_REQUIRED = 1, TURN_ANONYMOUS_DISABLED = 2 };
+/* Ports of a relayed address: any; an even one (EVEN-PORT); an even one, and the next one reserved (EVEN-PORT with the
+ * bit R, which servers refuse beside two families); the one that was reserved (RESERVATION-TOKEN: the families are not
+ * sent then, as the server has chosen the address already) */
+enum { TURN_PORT_ANY = 0, TURN_PORT_EVEN = 1, TURN_PORT_EVEN_AND_NEXT = 2, TURN_PORT_RESERVED = 3 };
 
 /* An address and a port. An IPv6 address has no flow information and no scope. */
 typedef struct turn_address {
@@ -172,7 +179,8 @@ typedef struct turn_address {
 
 /* The settings of a client, which begin as TURN_SETTINGS_INIT. With all numbers zero except size and addresses: over
  * UDP, one IPv4 address over UDP, HMAC-SHA1 and HMAC-SHA256, the name is hidden if the server supports it, requests
- * wait as RFC 8489 says, the client is hardened, and a REFRESH may shorten an allocation. */
+ * wait as RFC 8489 says, the client is hardened, a REFRESH may shorten an allocation, half an hour and any port are
+ * asked for, and two messages are at least 50 ms apart. */
 typedef struct turn_settings {
     size_t size;             /* sizeof(turn_settings), as the program was compiled: another size is refused */
     turn_address local;      /* the client's own address. It need not be the system's, but turn_client_feed has to name
@@ -201,10 +209,18 @@ typedef struct turn_settings {
                               * section 8.3), unless compatible is 1. 1: such a response changes nothing, so the
                               * allocation may outlast the server's. What the response to the ALLOCATE says is
                               * believed either way */
+    uint32_t lifetime;       /* in seconds: what each ALLOCATE and each REFRESH that renews asks for; 0 is 1800. The
+                              * server decides */
+    uint32_t pace;           /* the least time between two messages that draw gives, in milliseconds; 0 is 50, and
+                              * TURN_NO_PACE none. What is sent again, and responses to the server, don't wait for it */
+    uint32_t port;           /* the port that is asked for the relayed address (RFC 8656, section 7.1); 0 is
+                              * TURN_PORT_ANY */
+    uint64_t reservation;    /* for TURN_PORT_RESERVED: what turn_client_reservation reported of another client */
 } turn_settings;
 
 /* Settings of this size, and otherwise zero: turn_settings settings = TURN_SETTINGS_INIT; */
-#define TURN_SETTINGS_INIT {sizeof(turn_settings), {{0}, 0, 0}, {{0}, 0, 0}, 0, 0, 0, 0, 0, 0, 0, 0, 0, 0, 0, 0}
+#define TURN_SETTINGS_INIT \
+    {sizeof(turn_settings), {{0}, 0, 0}, {{0}, 0, 0}, 0, 0, 0, 0, 0, 0, 0, 0, 0, 0, 0, 0, 0, 0, 0, 0}
 
 /* 32 random bytes, see above. */
 typedef struct turn_seed {
@@ -526,6 +542,18 @@ int32_t turn_client_poll(turn_client *client, uint64_t now, turn_wait *wait);
  *   TURN_NO_CLIENT        the handle is not open */
 int32_t turn_client_event(turn_client *client, turn_event *event);
 
+/* Takes the oldest allocation that turn_client_poll removed because its time was over (RFC 8656, section 6), unless
+ * the settings' `ignore_short_lifetimes` is 1 or `compatible` is: then nothing is stored of it. What goes after
+ * turn_client_delete was called is not reported; what expired before is. No event reports an allocation's end: call
+ * this one after turn_client_poll, until it returns TURN_NOTHING.
+ *
+ *   TURN_OK               *expired has it
+ *   TURN_NOTHING          none has expired that was not reported yet
+ *
+ *   Refused:
+ *   TURN_NO_CLIENT        the handle is not open */
+int32_t turn_client_expired(turn_client *client, turn_relayed *expired);
+
 /* Reports why the event happened that turn_client_event wrote last, until it writes another.
  *
  *   TURN_OK               *cause has it; its kind is TURN_CAUSE_NONE if the event reports no failure
@@ -570,6 +598,17 @@ int32_t turn_client_domain(turn_client *client, uint8_t *out, size_t out_len);
  *   Refused:
  *   TURN_NO_CLIENT        the handle is not open */
 int32_t turn_client_mapped(turn_client *client, turn_address *mapped);
+
+/* Reports the token of the port that the server reserved beside the relayed one: the RESERVATION-TOKEN of the signed
+ * response that allocated (RFC 8656, section 18.10). A server gives one for TURN_PORT_EVEN_AND_NEXT, and holds the port
+ * for at least 30 seconds; another client asks for it with TURN_PORT_RESERVED and this number as `reservation`.
+ *
+ *   TURN_OK               *token has it
+ *   TURN_NOTHING          the server has allocated nothing yet, or its response had no token
+ *
+ *   Refused:
+ *   TURN_NO_CLIENT        the handle is not open */
+int32_t turn_client_reservation(turn_client *client, uint64_t *token);
 
 /* ---- requests to the server
  *
