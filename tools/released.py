@@ -36,6 +36,13 @@ COPIES = {
 FILES = (*LIBRARIES, *COPIES, *PROGRAMS)
 # what is made without what was proved: of C, of files that are copied, and of the released archive
 DERIVED = ("libturn_client.so", "turn_client.h", "turn_driver.h", "turn_driver.pc", "libturn_driver.a")
+# what packages of Rust have of files elsewhere, each with that file: a package has no file from outside its folder, and
+# `rt` takes no repository with links
+RUST = ("bindings/rust", "bindings/rust/turn-client-sys", "bindings/rust/turn-client-tokio")
+PACKAGED = {
+    **{f"{RUST[1]}/lib/{PLATFORM}/{it}": f"dist/{PLATFORM}/{it}" for it in ("libturn_client.a", "turn_client.h")},
+    **{f"{package}/{it}": it for package in RUST for it in ("LICENSE-APACHE", "LICENSE-MIT")},
+}
 
 
 def digest_of(path):
