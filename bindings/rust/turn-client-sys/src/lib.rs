@@ -18,8 +18,8 @@
 //! The build script takes the first of these that there is:
 //!
 //! 1. the folder that the variable `TURN_CLIENT_LIB` names by its whole path;
-//! 2. the library in the package, for x86-64 Linux with glibc. In the repository it is a link into
-//!    `dist/`, in a package that `cargo package` made a copy;
+//! 2. the library in the package, for x86-64 Linux with glibc: a copy of that in `dist/` of the
+//!    repository;
 //! 3. what `pkg-config turn_client` names, unless the build is for another platform than it runs
 //!    on.
 //!
