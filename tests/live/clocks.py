@@ -30,6 +30,7 @@ class Clocks:
         """The variables of a process whose clock runs so many times as fast."""
         if pace == 1:
             return {}
-        # a sanitizer that is a shared library wants to be the first one, unless it is told otherwise
+        # a sanitizer that is a shared library wants to be the first one, unless it is told otherwise; one that gives
+        # memory back reads the clock while it allocates, which libfaketime answers by allocating: both wait for ever
         return {"LD_PRELOAD": ":".join(self._preloaded), "FAKETIME": f"+0 x{pace}",
-                "ASAN_OPTIONS": "verify_asan_link_order=0"}
+                "ASAN_OPTIONS": "verify_asan_link_order=0:allocator_release_to_os_interval_ms=-1"}
