@@ -107,7 +107,7 @@ def packages(shared: bytes) -> dict[str, bytes]:
     driver = {f"{DRIVER}/{it.name}": it.read_bytes()
               for it in [*sorted((HERE / DRIVER).glob("*.py")), HERE / DRIVER / "py.typed"]}
     client = (HERE / f"{NAME}.py").read_bytes()
-    return {f"{NAME}/__init__.py": client, f"{NAME}/{SHARED}": shared, f"{NAME}/py.typed": b"", **driver}
+    return {f"{NAME}/__init__.py": client, f"{NAME}/{SHARED}": shared, f"{NAME}/py.typed": driver[f"{DRIVER}/py.typed"], **driver}
 
 
 def record(given: dict[str, bytes], path: str) -> bytes:

@@ -462,3 +462,21 @@ class Exchange:
         for i, (title, steps) in enumerate(self.parts):
             yield f'    {{"{title}", {name}_{i}, {len(steps)}}},'
         yield "};"
+
+
+# ---- sockets to the server, which connections to peers want
+
+FIRST, SECOND_SOCKET = "192.0.2.1:5001", "192.0.2.1:5002"
+
+
+def asks_socket(t, connection, peer):
+    want = {"number": connection, "transport": "tcp", "from": OWN, "to": SERVER, "peer": peer}
+    t.step("poll", {}, want, "TURN_OPEN_SOCKET")
+
+
+def opens_socket(t, connection, peer, local, answer="TURN_OK"):
+    t.reaches("socket", peer, answer, number=connection, **{"from": local})
+
+
+def closes_socket(t, local):
+    t.step("poll", {}, {"from": local, "to": SERVER}, "TURN_CLOSE_SOCKET")

@@ -22,7 +22,7 @@
 //! a driver for another runtime needs.
 //!
 //! Not there: connections that peers open, TLS below a [`TurnStream`], DTLS to the server, look-ups
-//! of SRV and NAPTR records (RFC 5928), names of peers, and a lost address that is requested again.
+//! of SRV and NAPTR records (RFC 5928), host names of peers, and a new allocation after one was lost.
 
 mod connection;
 mod error;

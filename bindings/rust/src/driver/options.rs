@@ -55,8 +55,9 @@ impl ConnectOptions {
         }
     }
 
-    /// Sets how long it may take until there is a relayed address, the look-up of a name left out. Without it a server that doesn't
-    /// respond is given up after 39.5 seconds, and a TCP connection after 30.
+    /// Sets how long it may take until there is a relayed address, the look-up of a name left out.
+    /// Without it a server that doesn't respond is given up after 39.5 seconds, and a TCP connection
+    /// after 30.
     pub fn timeout(&mut self, timeout: Duration) -> &mut Self {
         self.timeout = Some(timeout);
         self

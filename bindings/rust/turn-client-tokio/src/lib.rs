@@ -21,7 +21,7 @@
 //! [`ConnectOptions::connect_over`] over any stream, as one over TLS.
 //!
 //! Not there: DTLS to the server, look-ups of SRV and NAPTR records (RFC 5928), connections to
-//! peers over TCP (RFC 6062), and a lost address that is requested again.
+//! peers over TCP (RFC 6062), and a new allocation after one was lost.
 
 #![forbid(unsafe_code)]
 #![deny(missing_docs, missing_debug_implementations)]
