@@ -38,6 +38,7 @@ import turn_client  # noqa: E402
 
 samples: Any = importlib.import_module("samples")
 base: Any = importlib.import_module("samples_base")
+others: Any = importlib.import_module("samples_settings")
 
 INCLUDE = ROOT / "bindings" / "c" / "include"
 HEADER = (INCLUDE / "turn_client.h").read_text()
@@ -493,7 +494,7 @@ class Refusals(unittest.TestCase):
         """Nothing that is refused changes what the first request has."""
         client = opened(turn_client, samples.Exchange("refusals").settings)
         client.set_credentials("a" * turn_client.NAME_MAX, "\u20ac")
-        client.set_software(samples.PROGRAM[1].decode())
+        client.set_software(others.PROGRAM[1].decode())
         client.set_fingerprint(True)
         long = "a" * (turn_client.SOFTWARE_MAX + 1)
         cases: list[tuple[type[turn_client.TurnError], Callable[[], object]]] = [
@@ -506,7 +507,7 @@ class Refusals(unittest.TestCase):
         for kind, call in cases:
             with self.subTest(kind.__name__), self.assertRaises(kind):
                 call()
-        self.assertEqual(client.poll_transmit(0).data, base.fingerprinted(base.first(base.UDP, samples.PROGRAM)))
+        self.assertEqual(client.poll_transmit(0).data, base.fingerprinted(base.first(base.UDP, others.PROGRAM)))
         client.set_software(long[:-1])
         client.set_software("")
         client.close()

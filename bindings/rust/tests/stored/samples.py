@@ -16,6 +16,7 @@ HERE = Path(__file__).resolve().parent
 sys.path.insert(0, str(HERE.parents[3] / "tests" / "c"))
 
 import samples  # noqa: E402
+import samples_settings  # noqa: E402
 
 HEAD = "// Written by samples.py: change that. It is included by mod.rs alone.\n"
 ADDRESSES = "from", "to", "peer", "local", "server"
@@ -79,7 +80,7 @@ class Exchange(samples.Exchange):
 
 
 def main():
-    samples.Exchange = Exchange
+    samples.Exchange = samples_settings.Exchange = Exchange
     exchanges = [line for make in samples.EXCHANGES for line in make().rust_lines()]
     texts = [f"const {name}: &[u8] = &{list(value)};" for value, name in TEXTS.items()]
     constants = [
