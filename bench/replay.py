@@ -12,7 +12,6 @@ ends with 1 where a bound is missed. --results writes a section of results/speed
 """
 
 import argparse
-import os
 import subprocess
 import sys
 import tempfile

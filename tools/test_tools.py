@@ -343,11 +343,12 @@ class Words(unittest.TestCase):
 class Lints(unittest.TestCase):
     """What linters see in a folder."""
 
-    def linted(self, text):
+    def linted(self, text, name="check"):
         with tempfile.TemporaryDirectory() as room, contextlib.redirect_stdout(io.StringIO()) as told:
-            Path(room, "check").write_text(text)
+            Path(room, name).parent.mkdir(parents=True, exist_ok=True)
+            Path(room, name).write_text(text)
             subprocess.run(["git", "init", "-q", room], check=True)
-            subprocess.run(["git", "-C", room, "add", "check"], check=True)
+            subprocess.run(["git", "-C", room, "add", name], check=True)
             status = lints.main(Path(room))
         return status, told.getvalue()
 
@@ -357,6 +358,21 @@ class Lints(unittest.TestCase):
         self.assertEqual((status, "SC2086" in told, told.splitlines()[-1]), (1, True, "0 passed, 1 failed"))
         status, told = self.linted('#!/bin/sh\nrm "$1"\n')
         self.assertEqual((status, told.splitlines()[-1]), (0, "1 passed, 0 failed"))
+
+    @unittest.skipUnless(shutil.which("mypy"), "mypy isn't installed")
+    def test_a_wrong_type_is_seen(self):
+        """In bindings/python alone; what has no type is wrong there, too."""
+        name = f"{lints.TYPED}/a/b.py"
+        for wrong in ("def f() -> int:\n    return ''\n", "def f(a):\n    return a\n"):
+            status, told = self.linted(wrong, name)
+            self.assertEqual((status, f"failed: {name}:" in told, told.count(" failed")), (1, True, 1), told)
+            self.assertEqual(self.linted(wrong)[0], 0)
+        self.assertEqual(self.linted("def f(a: int) -> int:\n    return a\n", name)[0], 0)
+
+    def test_what_is_not_installed_is_said(self):
+        with mock.patch.object(lints.shutil, "which", return_value=None):
+            status, told = self.linted("A = 1\n", f"{lints.TYPED}/b.py")
+        self.assertEqual((status, f"skipped: the types of 1 files of {lints.TYPED}: mypy " in told), (0, True), told)
 
     def test_scripts_are_told_by_their_first_line(self):
         with tempfile.TemporaryDirectory() as room:
@@ -372,6 +388,7 @@ class Version(unittest.TestCase):
     HEADER, CARGO = "bindings/c/include/turn_client.h", "bindings/rust/Cargo.toml"
     CARGO_SYS, CARGO_TOKIO = (f"bindings/rust/turn-client-{it}/Cargo.toml" for it in ("sys", "tokio"))
     LIBRARY = "crates/turn_client_c/src/lib.rt"
+    PROGRAMS = tuple(f"crates/{it}/src/arguments.rt" for it in version.PROGRAMS)
     WHEEL, CHANGES = "bindings/python/make_wheel.py", "CHANGELOG.md"
     MODULE = "bindings/python/turn_client.py"
     DIST = "dist/x86_64-linux-gnu"
@@ -382,7 +399,7 @@ class Version(unittest.TestCase):
         self.top = Path(room.name)
         files = ("MANIFEST", "turn_client.pc", "turn_client.h")
         copied = ("VERSION", "bindings/c/build", self.HEADER, self.CARGO, self.CARGO_SYS, self.CARGO_TOKIO,
-                  self.LIBRARY, self.WHEEL, self.MODULE, self.CHANGES)
+                  self.LIBRARY, *self.PROGRAMS, self.WHEEL, self.MODULE, self.CHANGES)
         for file in (*copied, *(f"{self.DIST}/{it}" for it in files)):
             self.top.joinpath(file).parent.mkdir(parents=True, exist_ok=True)
             shutil.copy(TOP / file, self.top / file)
@@ -418,6 +435,8 @@ class Version(unittest.TestCase):
             *((self.HEADER, f"_{it} {parts[it]}", f"_{it} 9", f"TURN_CLIENT_VERSION_{it} states 9") for it in parts),
             (self.HEADER, f"_NUMBER {number}", "_NUMBER 90807", "TURN_CLIENT_VERSION_NUMBER states 90807"),
             (self.LIBRARY, f"VERSION: u32 = {number};", "VERSION: u32 = 90807;", "turn_client_c: VERSION states 90807"),
+            *((it, f'VERSION: &str = "{stands}"', 'VERSION: &str = "9.8.7"', f"{it.split('/')[1]}: VERSION states 9.8.7")
+              for it in self.PROGRAMS),
             (self.LIBRARY, f"result ≡ {number} }}", "result ≡ 90807 }", "turn_client_version states 90807"),
             (self.CARGO, f'\nversion = "{stands}"', '\nversion = "9.8.7"', f"{self.CARGO} states 9.8.7"),
             (self.CARGO, f'version = "={stands}"', 'version = "=9.8.7"', "of the other package states 9.8.7"),

@@ -9,7 +9,7 @@
 #include <stdlib.h>
 #include <string.h>
 
-enum { SERVER_PORT = 3478, PASSWORD_MAX = 1000 };
+enum { SERVER_PORT = 3478, PASSWORD_MAX = 1000, TOKEN_DIGITS = 16 };
 
 /* ---- values */
 
@@ -53,6 +53,14 @@ static bool read_address(const char *text, uint32_t port, turn_address *address)
     return address->family != 0 && port != 0;
 }
 
+/* An IP address alone. */
+static bool read_ip(const char *text, turn_address *address)
+{
+    const bool is_read = port_of(text) == NULL && read_address(text, 1, address);
+    address->port = 0;
+    return is_read;
+}
+
 /* The first line of a file, without its end; NULL where there is none, or it is too long. */
 static const char *read_password(const char *file)
 {
@@ -68,6 +76,13 @@ static const char *read_password(const char *file)
     return line;
 }
 
+/* The token of a reserved port. */
+static bool read_token(const char *text, uint64_t *token)
+{
+    *token = strtoull(text, NULL, 16);
+    return strlen(text) == TOKEN_DIGITS && strspn(text, "0123456789abcdefABCDEF") == TOKEN_DIGITS;
+}
+
 /* ---- options */
 
 static const char usage[] =
@@ -77,6 +92,9 @@ static const char usage[] =
     "  --password-file FILE  its first line; or of\n"
     "  --password TEXT       which other users of the machine can see while the program runs\n"
     "  --family 4|6|both     of the address that is asked for; without it 4\n"
+    "  --even-port           asks for an even port of the address\n"
+    "  --reserve             the same, and that the server reserve the next port; tells the token for that\n"
+    "  --token HEX           asks for the port that is reserved under this token, of 16 digits\n"
     "  --algorithms sha1|sha256|sha512|both|all   that are supported, both of the first two; without it both\n"
     "  --tcp                 a connection over TCP to the server; peers are reached over UDP\n"
     "  --peer ADDRESS        the peer, which is to send back what it gets\n"
@@ -88,22 +106,29 @@ static const char usage[] =
     "  --indications         no channel: each payload goes in an indication\n"
     "  --follow              goes on at the server that this one names by an error 300, once\n"
     "  --ignore-short-lifetimes   ignores a renewal that grants less than 600 s\n"
+    "  --accept IP           in place of a peer: waits until one at IP opens a connection (RFC 6062), prints its bytes and\n"
+    "                        sends them back, until it closes that; for --seconds N at most. Needs --tcp\n"
+    "  --attempt-indications such a connection may be announced by an indication, as coturn does, which nobody signs\n"
     "  --quiet               tells errors and the result alone\n"
     "  --help\n"
+    "  --version\n"
     "Exit status: 0 all came back, or nothing was to be sent; 1 something was lost; 2 options that can't be read;\n"
     "3 the server refused something, or the client failed; 4 no answer\n";
 
 static const struct option names[] = {
     {"server", required_argument, NULL, 's'},   {"user", required_argument, NULL, 'u'},
     {"password", required_argument, NULL, 'p'}, {"password-file", required_argument, NULL, 'w'},
-    {"family", required_argument, NULL, 'f'},
+    {"family", required_argument, NULL, 'f'},   {"even-port", no_argument, NULL, 'v'},
+    {"reserve", no_argument, NULL, 'z'},        {"token", required_argument, NULL, 'k'},
     {"algorithms", required_argument, NULL, 'a'}, {"tcp", no_argument, NULL, 't'},
     {"peer", required_argument, NULL, 'r'},     {"echo", no_argument, NULL, 'e'},
     {"count", required_argument, NULL, 'c'},    {"size", required_argument, NULL, 'b'},
     {"interval", required_argument, NULL, 'i'}, {"seconds", required_argument, NULL, 'n'},
     {"indications", no_argument, NULL, 'x'},    {"quiet", no_argument, NULL, 'q'},
     {"follow", no_argument, NULL, 'o'},        {"ignore-short-lifetimes", no_argument, NULL, 'l'},
-    {"help", no_argument, NULL, 'h'},           {NULL, 0, NULL, 0},
+    {"accept", required_argument, NULL, 'g'},   {"attempt-indications", no_argument, NULL, 'm'},
+    {"help", no_argument, NULL, 'h'},           {"version", no_argument, NULL, 'V'},
+    {NULL, 0, NULL, 0},
 };
 
 /* Words, and what bits they are; behind the last one comes none. */
@@ -129,6 +154,14 @@ static bool read_bits(const char *text, const struct word *words, uint32_t *bits
     return *bits != 0;
 }
 
+/* Takes an option that says which port is asked for. */
+static bool take_port(struct options *o, uint32_t port)
+{
+    o->ports++;
+    o->port = port;
+    return true;
+}
+
 /* Takes an option with its value: whether that can be read. */
 static bool take_option(struct options *o, int option, const char *value)
 {
@@ -138,6 +171,9 @@ static bool take_option(struct options *o, int option, const char *value)
     case 'p': o->password = value; return true;
     case 'w': return (o->password = read_password(value)) != NULL;
     case 'f': return read_bits(value, families, &o->families);
+    case 'v': return take_port(o, TURN_PORT_EVEN);
+    case 'z': return take_port(o, TURN_PORT_EVEN_AND_NEXT);
+    case 'k': return take_port(o, TURN_PORT_RESERVED) && read_token(value, &o->token);
     case 'a': return read_bits(value, algorithms, &o->integrity);
     case 't': return o->is_over_tcp = true;
     case 'r': return read_address(value, 0, &o->peer);
@@ -150,6 +186,8 @@ static bool take_option(struct options *o, int option, const char *value)
     case 'q': return o->is_quiet = true;
     case 'o': return o->follows = true;
     case 'l': return o->ignores_short_lifetimes = true;
+    case 'g': return read_ip(value, &o->accept);
+    case 'm': return o->accepts_indications = true;
     default: return false;
     }
 }
@@ -163,6 +201,12 @@ static const char *wrong_with(const struct options *o)
         return "a peer or an echo, and not both";
     if (o->peer.family != 0 && (o->families & (o->peer.family == 4 ? TURN_IPV4 : TURN_IPV6)) == 0)
         return "an address of the peer's family is to be asked for";
+    if (o->accept.family != 0 && (!o->is_over_tcp || o->has_echo || o->peer.family != 0))
+        return "--accept needs --tcp, and neither --peer nor --echo";
+    if (o->accept.family != 0 && o->families != (o->accept.family == 4 ? TURN_IPV4 : TURN_IPV6))
+        return "an address of the family of --accept alone is to be asked for";
+    if (o->ports > 1)
+        return "one of --even-port, --reserve and --token, and once";
     return NULL;
 }
 
@@ -176,8 +220,14 @@ int read_options(int argc, char **argv, struct options *options)
             fputs(usage, stdout);
             return ALL_BACK;
         }
-        if (option == '?')
-            return BAD_USAGE; /* getopt_long has told */
+        if (option == 'V') {
+            puts("turn_client " TURN_CLIENT_VERSION);
+            return ALL_BACK;
+        }
+        if (option == '?') {
+            fprintf(stderr, "%s: --help tells the options\n", argv[0]); /* getopt_long has told which one */
+            return BAD_USAGE;
+        }
         if (!take_option(options, option, optarg)) {
             fprintf(stderr, "%s: %s can't be read; --help tells more\n", argv[0], optarg);
             return BAD_USAGE;

@@ -16,6 +16,10 @@ struct options {
     bool is_over_tcp, has_echo, has_no_channel, is_quiet;
     bool follows;                   /* goes on at the server that a response 300 names, once */
     bool ignores_short_lifetimes;   /* as turn_settings */
+    turn_address accept;            /* whose connection is accepted, with port 0; family 0 if nobody's is */
+    bool accepts_indications;       /* attempt_indications of turn_settings */
+    uint32_t port, ports;           /* as turn_settings; how many options say which one */
+    uint64_t token;                 /* for TURN_PORT_RESERVED */
     uint32_t count, size;           /* of payloads */
     uint32_t interval, seconds;     /* milliseconds between two of them; how long the address is kept */
 };

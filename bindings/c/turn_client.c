@@ -11,6 +11,7 @@
  * are here, in one loop around poll. */
 #define _GNU_SOURCE
 #include <errno.h>
+#include <inttypes.h>
 #include <poll.h>
 #include <stdarg.h>
 #include <stdio.h>
@@ -37,6 +38,10 @@ struct run {
     int echo;                           /* a socket; -1 where there is none */
     uint64_t began, until;              /* the client wants no turn before that */
     uint64_t next, keeps_until;         /* when the next payload goes, and until when the address is kept */
+    struct line data;                   /* to the server, of the connection that a peer opened */
+    turn_address data_peer, data_own;   /* whose it is, and its own address; family 0 if there is none */
+    turn_address relayed;
+    bool has_accepted, has_ended;       /* whether it was bound, and whether it is over */
     bool has_address, is_ready, is_deleted, is_over, has_heard;
     turn_address elsewhere;             /* the server that is gone on with; family 0 if none is */
     struct tally tally;
@@ -89,6 +94,23 @@ static void is_written(struct run *run, int error)
     }
 }
 
+static bool is_same(const turn_address *one, const turn_address *other)
+{
+    return one->family == other->family && one->port == other->port && memcmp(one->ip, other->ip, sizeof one->ip) == 0;
+}
+
+/* Sends a message that was drawn over the line that it names: the one of a peer's connection, or the client's own. */
+static void write_drawn(struct run *run, const turn_transmit *transmit)
+{
+    if (run->data_own.family == 0 || !is_same(&transmit->from, &run->data_own)) {
+        is_written(run, line_write(&run->line, transmit->size));
+        return;
+    }
+    memcpy(run->data.out, run->line.out, transmit->size);
+    if (line_write(&run->data, transmit->size) != 0)
+        say(run, "the connection of %s broke", text_of(&run->data_peer));
+}
+
 /* Sends what the client has to send now, as far as the line takes it: whether there was something. */
 static bool draw_all(struct run *run)
 {
@@ -101,7 +123,7 @@ static bool draw_all(struct run *run)
         if (status != TURN_OK)
             break;
         has_drawn = true;
-        is_written(run, line_write(&run->line, transmit.size));
+        write_drawn(run, &transmit);
     }
     if (status < 0)
         fail(run, FAILED, "no message can be drawn: status %d", status);
@@ -192,6 +214,80 @@ static void receive(struct run *run)
     }
 }
 
+/* ---- a connection that a peer opens */
+
+static bool waits_for_peer(const struct run *run)
+{
+    return run->options.accept.family != 0;
+}
+
+/* Opens the socket that the client asks for, of the first connection of the peer that is waited for, or says that there
+ * is none. A driver for more than one peer would not wait here until it is connected. */
+static void open_data(struct run *run, const turn_wait *wait)
+{
+    static const turn_address no_address;
+    turn_address ip = wait->peer;
+    ip.port = 0;
+    const bool is_wanted = waits_for_peer(run) && run->data.fd < 0 && !run->has_ended
+        && is_same(&ip, &run->options.accept) && line_open(&run->data, &run->options.server, true) == 0;
+    if (is_wanted) {
+        run->data_own = own_address(run->data.fd);
+        run->data_peer = wait->peer;
+        say(run, "opens a socket for the connection of %s", text_of(&wait->peer));
+    }
+    turn_client_socket(&run->client, wait->id, &wait->peer, is_wanted ? &run->data_own : &no_address, clock_now());
+}
+
+static void close_data(struct run *run)
+{
+    if (run->data.fd >= 0)
+        close(run->data.fd);
+    run->has_ended = run->has_ended || (run->data.fd >= 0 && run->has_accepted);
+    run->data.fd = -1;
+    run->data_own.family = 0;
+}
+
+/* Prints bytes of the peer, with a question mark for each that isn't printable ASCII, and sends them back. */
+static void return_bytes(struct run *run, const uint8_t *bytes, size_t len)
+{
+    turn_transmit transmit;
+    if (!run->options.is_quiet)
+        printf("%zu bytes of %s: ", len, text_of(&run->data_peer));
+    for (size_t i = 0; i < len && !run->options.is_quiet; i++)
+        putchar(bytes[i] >= 0x20 && bytes[i] < 0x7f ? bytes[i] : '?');
+    if (!run->options.is_quiet)
+        putchar('\n');
+    const int32_t status = turn_client_send(&run->client, TURN_TCP, &run->data_peer, bytes, len, clock_now(),
+                                            run->data.out, sizeof run->data.out, &transmit);
+    if (status != TURN_OK)
+        fail(run, FAILED, "%zu bytes can't be sent back: status %d", len, status);
+    else if (line_write(&run->data, transmit.size) != 0)
+        say(run, "the connection of %s broke", text_of(&run->data_peer));
+}
+
+/* Reads what came over the peer's connection, once what goes back was written. */
+static void receive_data(struct run *run)
+{
+    static uint8_t in[IN_MAX / 2], joined[IN_MAX];
+    turn_payload payload;
+    const ssize_t size = recv(run->data.fd, in, sizeof in, 0);
+    if (size < 0 && (errno == EAGAIN || errno == EINTR))
+        return;
+    const size_t len = size > 0 ? (size_t)size : 0;
+    int32_t status = turn_client_feed(&run->client, &run->settings.server, &run->data_own, in, len, clock_now(),
+                                      &payload);
+    for (; status == TURN_PAYLOAD || status == TURN_OK; status = turn_client_pull(&run->client, clock_now(), &payload)) {
+        if (status == TURN_PAYLOAD && !payload.is_joined)
+            return_bytes(run, in + payload.start, payload.size);
+        else if (status == TURN_PAYLOAD && turn_client_read(&run->client, joined, sizeof joined) == TURN_OK)
+            return_bytes(run, joined, payload.size);
+    }
+    if (len == 0) {
+        say(run, "the connection of %s is closed", text_of(&run->data_peer));
+        close_data(run);
+    }
+}
+
 /* ---- why something failed */
 
 typedef int32_t copy_text(turn_client *client, uint8_t *out, size_t out_len);
@@ -265,6 +361,28 @@ static void say_public_address(struct run *run)
         say(run, "public address: %s", text_of(&mapped));
 }
 
+static void say_token(struct run *run)
+{
+    uint64_t token;
+    if (turn_client_reservation(&run->client, &token) == TURN_OK)
+        say(run, "reservation token: %016" PRIx64, token);
+}
+
+/* Begins with the address that the server gave: asks for the permissions, and tells what else was given. */
+static void begin_with_address(struct run *run, const turn_address *relayed, uint64_t now)
+{
+    const turn_address *peer = &run->options.peer;
+    run->keeps_until = now + run->options.seconds * SECOND;
+    run->has_address = true;
+    say_public_address(run);
+    say_token(run);
+    if (waits_for_peer(run) && turn_client_permit(&run->client, TURN_TCP, &run->options.accept, now) != TURN_OK)
+        fail(run, FAILED, "can't ask for a permission for %s", text_of(&run->options.accept));
+    run->relayed = *relayed;
+    if (relayed->family == peer->family)
+        ask(run, turn_client_permit(&run->client, TURN_UDP, peer, now), "a permission for");
+}
+
 /* What follows an event. */
 static void follow(struct run *run, const turn_event *event, const turn_cause *cause)
 {
@@ -273,19 +391,24 @@ static void follow(struct run *run, const turn_event *event, const turn_cause *c
     uint64_t until;
     switch (event->kind) {
     case TURN_ALLOCATION_CREATED:
-        run->keeps_until = now + run->options.seconds * SECOND;
-        run->has_address = true;
-        say_public_address(run);
-        if (event->address.family == peer->family)
-            ask(run, turn_client_permit(&run->client, TURN_UDP, peer, now), "a permission for");
+        begin_with_address(run, &event->address, now);
         return;
     case TURN_PERMISSION_CREATED:
+        if (waits_for_peer(run)) {
+            say(run, "waits for a connection to %s", text_of(&run->relayed));
+            return;
+        }
         run->is_ready = run->options.has_no_channel;
         if (!run->is_ready)
             ask(run, turn_client_bind(&run->client, TURN_UDP, peer, now, &until), "a channel to");
         return;
     case TURN_CHANNEL_CREATED:
         run->is_ready = true;
+        return;
+    case TURN_TCP_CONNECTED:
+        run->has_accepted = true;
+        return;
+    case TURN_TCP_FAILED: /* it was announced, and the server didn't bind it: another one is waited for */
         return;
     case TURN_ALLOCATION_FAILED:
         if (goes_elsewhere(run, cause))
@@ -319,7 +442,6 @@ static void tell(struct run *run, const turn_event *event)
 /* Takes turns until there is nothing to do: false where the client has ended. */
 static bool take_turns(struct run *run)
 {
-    static const turn_address no_address;
     turn_wait wait;
     turn_event event;
     for (int idle = 0;;) {
@@ -327,14 +449,17 @@ static bool take_turns(struct run *run)
         const int32_t status = turn_client_poll(&run->client, clock_now(), &wait);
         for (; turn_client_event(&run->client, &event) == TURN_OK; has_done = true)
             tell(run, &event);
-        if (status == TURN_OPEN_SOCKET) { /* for connections to peers, which aren't asked for here */
-            turn_client_socket(&run->client, wait.id, &wait.peer, &no_address, clock_now());
+        if (status == TURN_OPEN_SOCKET) {
+            open_data(run, &wait);
+        } else if (status == TURN_CLOSE_SOCKET) {
+            if (is_same(&wait.from, &run->data_own))
+                close_data(run);
         } else if (status == TURN_OK) {
             idle = has_done ? 0 : idle + 1;
             run->until = wait.until;
             if (!has_done && (wait.until > clock_now() || idle > 1))
                 return true;
-        } else if (status != TURN_CLOSE_SOCKET) {
+        } else {
             if (status < 0)
                 fail(run, FAILED, "the client failed: status %d", status);
             return false;
@@ -346,6 +471,8 @@ static bool take_turns(struct run *run)
 static bool is_done(const struct run *run, uint64_t now)
 {
     const struct tally *t = &run->tally;
+    if (waits_for_peer(run))
+        return run->has_ended || (run->options.seconds > 0 && run->has_address && now >= run->keeps_until);
     const bool has_sent = !has_peer(run) || (run->is_ready && t->sent == t->count);
     return run->has_address && now >= run->keeps_until && has_sent && (t->back == t->sent || now >= t->last + PATIENCE);
 }
@@ -386,16 +513,19 @@ static uint64_t due(const struct run *run, uint64_t now)
 /* Waits until something comes, or is to be done. */
 static void wait_for_more(struct run *run, uint64_t now)
 {
-    struct pollfd waits[2] = {{.fd = run->line.fd, .events = POLLIN}, {.fd = run->echo, .events = POLLIN}};
+    struct pollfd waits[3] = {{.fd = run->line.fd, .events = POLLIN}, {.fd = run->echo, .events = POLLIN},
+                              {.fd = run->data.fd, .events = line_is_free(&run->data) ? POLLIN : POLLOUT}};
     const uint64_t until = due(run, now);
     if (!line_is_free(&run->line))
         waits[0].events |= POLLOUT;
-    if (poll(waits, 2, until > now ? (int)((until - now + MILLISECOND - 1) / MILLISECOND) : 0) <= 0)
+    if (poll(waits, 3, until > now ? (int)((until - now + MILLISECOND - 1) / MILLISECOND) : 0) <= 0)
         return;
     if (waits[0].revents & ~POLLOUT)
         receive(run);
     if (waits[1].revents)
         echo(run->echo);
+    if (waits[2].revents && line_go_on(&run->data) == 0 && line_is_free(&run->data))
+        receive_data(run);
 }
 
 static void loop(struct run *run)
@@ -447,8 +577,11 @@ static bool open_client(struct run *run)
     }
     run->settings = (turn_settings){.size = sizeof run->settings, .local = own_address(run->line.fd),
                                     .server = o->server, .transport = o->is_over_tcp ? TURN_TCP : TURN_UDP,
+                                    .peers = waits_for_peer(run) ? TURN_TCP : TURN_UDP,
                                     .families = o->families, .integrity = o->integrity,
-                                    .ignore_short_lifetimes = o->ignores_short_lifetimes};
+                                    .attempt_indications = o->accepts_indications,
+                                    .ignore_short_lifetimes = o->ignores_short_lifetimes,
+                                    .port = o->port, .reservation = o->token};
     const int32_t status = turn_client_open(&run->client, &run->settings, o->user, strlen(o->user), o->password,
                                             strlen(o->password), &seed);
     if (status == TURN_BAD_TEXT || status == TURN_LONG_NAME)
@@ -475,7 +608,7 @@ static bool open_elsewhere(struct run *run)
 
 int main(int argc, char **argv)
 {
-    static struct run run = {.client = TURN_CLIENT_INIT, .line = {.fd = -1}, .echo = -1, .outcome = -1};
+    static struct run run = {.client = TURN_CLIENT_INIT, .line = {.fd = -1}, .data = {.fd = -1}, .echo = -1, .outcome = -1};
     const int status = read_options(argc, argv, &run.options);
     if (status >= 0)
         return status;
@@ -494,7 +627,10 @@ int main(int argc, char **argv)
         close(run.echo);
     if (run.line.fd >= 0)
         close(run.line.fd);
+    close_data(&run);
     if (run.outcome >= 0)
         return run.outcome;
+    if (waits_for_peer(&run) && !run.has_accepted)
+        return SOME_LOST;
     return has_peer(&run) && run.tally.back < run.tally.count ? SOME_LOST : ALL_BACK;
 }

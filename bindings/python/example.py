@@ -3,8 +3,8 @@
 
     TURN_PASSWORD=secret python3 bindings/python/example.py --server 127.0.0.1:3478 --user alice --echo
 
-With --connect the address is one over TCP (RFC 6062), and the payloads go over a connection to the peer. `--help` tells
-the options and the exit status. The client itself does no input or output: its sockets and its clock are of asyncio.
+With --connect the address is one over TCP (RFC 6062), and the payloads go over a connection to the peer. With --accept
+a peer opens the connection, and gets back what it sends. `--help` tells the options and the exit status. The client itself does no input or output: its sockets and its clock are of asyncio.
 """
 
 from __future__ import annotations
@@ -15,6 +15,7 @@ import contextlib
 import ipaddress
 import os
 import statistics
+import string
 import sys
 import time
 from collections.abc import Callable, Coroutine
@@ -24,8 +25,9 @@ from typing import Any, Protocol
 from turn_client import (
     Address, AllocateTcpSocket, AllocationCreated, AllocationCreateFailed, BadIntegrity, BadText, CauseLost,
     ChannelCreated, Deleted, Expired, Families, Handled, Integrity, LongName, NoAllocation, NoCommonAlgorithm,
-    OtherFamily, PeerData, PeerIcmp, PermissionCreated, Rejected, SocketClosed, TcpClose, TcpConnected, Transmit,
-    Transport, TurnCause, TurnClient, TurnConfig, TurnError, TurnEvent, TurnRecvRet, Unanswered, Unusable, WaitUntil,
+    OtherFamily, PeerData, PeerIcmp, PermissionCreated, Rejected, RelayedPort, SocketClosed, TcpClose, TcpConnected,
+    TcpConnectFailed, Transmit, Transport, TurnCause, TurnClient, TurnConfig, TurnError, TurnEvent, TurnRecvRet,
+    Unanswered, Unusable, WaitUntil,
 )
 
 ALL_BACK, SOME_LOST, BAD_USAGE, FAILED, NO_ANSWER = range(5)
@@ -41,6 +43,7 @@ READ_MAX = 65536      # bytes that are read at once
 NUMBER = 4            # bytes of the number at the front of a payload
 STRIDE, BYTES = 31, 256  # from each of its other bytes to the next, and how many different ones there are
 LEAST_SIZE, MOST_SIZE, MOST_COUNT = NUMBER, 60000, 1_000_000
+TOKEN_DIGITS = 16
 MOST_INTERVAL = 0xFFFFFFFF
 
 
@@ -240,6 +243,9 @@ class Session:
         self.changed = asyncio.Event()
         self.timer: asyncio.TimerHandle | None = None
         self.has_heard = self.is_deleted = self.is_over = False
+        self.accepts: str | None = None  # the address of peers whose connections are accepted
+        self.accepted: Address | None = None  # the first of them, once it is bound
+        self.has_ended = False  # whether that is over
         self.began = time.monotonic_ns()
         line.listen(self)
         self.take_turns()
@@ -311,7 +317,10 @@ class Session:
             self.follow(*happened)
             has_done = True
         if isinstance(answer, AllocateTcpSocket):
-            self.start(self.open_socket(answer))
+            if self.accepts is None or (answer.peer[0] == self.accepts and self.accepted is None):
+                self.start(self.open_socket(answer))
+            else:
+                self.client.allocated_tcp_socket(answer.id, answer.peer, None, time.monotonic_ns())
         elif isinstance(answer, TcpClose):
             self.lose(answer.local)
         elif isinstance(answer, WaitUntil):
@@ -335,7 +344,11 @@ class Session:
             self.say(f"cause: {text_of(cause)}")
         if isinstance(event, AllocationCreated) and (mapped := self.client.mapped_address()) is not None:
             self.say(f"public address: {shown(mapped)}")
-        if self.is_deleted or cause is None:
+        if self.accepts and isinstance(event, TcpConnected):
+            self.accepted = self.accepted or event.peer
+        if isinstance(event, AllocationCreated) and (token := self.client.reservation_token()) is not None:
+            self.say(f"reservation token: {token.hex()}")
+        if self.is_deleted or cause is None or (self.accepts and isinstance(event, TcpConnectFailed)):
             return
         if isinstance(event, AllocationCreateFailed):
             self.failure = self.failure or self.failed_allocation(cause)
@@ -379,6 +392,8 @@ class Session:
         self.has_heard |= isinstance(came, Handled)
         if isinstance(came, PeerData) and came.peer == self.peer:
             self.take_payload(bytes(came.data))
+        elif isinstance(came, PeerData) and self.accepts:
+            self.send_back(came.peer, bytes(came.data))
         elif isinstance(came, PeerData):
             self.say(f"{len(came.data)} bytes of {shown(came.peer)}, which nobody waits for")
         elif isinstance(came, PeerIcmp):
@@ -402,7 +417,16 @@ class Session:
         if stream is not None:
             stream.listen(self)
 
+    def send_back(self, peer: Address, data: bytes) -> None:
+        """Bytes came over a connection that a peer opened: they are printed, with a question mark for each that isn't
+        printable ASCII, and sent back."""
+        text = "".join(chr(it) if chr(it).isascii() and chr(it).isprintable() else "?" for it in data)
+        print(f"{len(data)} bytes of {shown(peer)}: {text}", flush=True)
+        if data:
+            self.send_payload(Transport.TCP, peer, data)
+
     def lose(self, local: Address) -> None:
+        self.has_ended |= self.accepted is not None
         line = self.lines.pop(local, None)
         if line is not None:
             line.close()
@@ -512,23 +536,40 @@ async def send_all(session: Session, options: argparse.Namespace, peer: Address,
     await session.until(tally.is_back, PATIENCE)
 
 
+async def accept(session: Session, options: argparse.Namespace) -> None:
+    """Waits until a peer has opened a connection and closed it, for --seconds at most."""
+    relayed = next(it.relayed for it in session.events if isinstance(it, AllocationCreated))
+    session.ask(session.client.create_permission, Transport.TCP, options.accept)
+    await session.event(PermissionCreated)
+    session.say(f"waits for a connection to {shown(relayed)}")
+    await session.until(lambda: session.has_ended, options.seconds or None)
+
+
 async def opened(options: argparse.Namespace, peer: Address | None, tally: Tally) -> Session:
-    family = Families.IPV6 if ":" in (peer or options.server)[0] else Families.IPV4
+    family = Families.IPV6 if ":" in (options.accept or (peer or options.server)[0]) else Families.IPV4
     config = TurnConfig(options.user, options.password, options.between, family,
                         Integrity.SHA256 if options.sha256 else Integrity.SHA1 | Integrity.SHA256,
-                        short_lifetimes=not options.ignore_short_lifetimes)
+                        short_lifetimes=not options.ignore_short_lifetimes,
+                        attempt_indications=options.attempt_indications, relayed_port=options.port,
+                        reservation_token=options.token)
     line = await open_line(options.server, options.tcp)
     try:
         client = TurnClient(line.own, options.server, config, Transport.TCP if options.tcp else Transport.UDP)
     except (BadText, LongName) as error:
         line.close()
         raise Failure(BAD_USAGE, str(error)) from error
-    return Session(client, line, peer, tally.flows if options.is_connection else tally.comes)
+    session = Session(client, line, peer, tally.flows if options.is_connection else tally.comes)
+    session.accepts = options.accept
+    return session
 
 
 async def use(session: Session, options: argparse.Namespace, peer: Address | None, tally: Tally) -> None:
     """All from the allocation to the end of the time that the address is kept."""
     await session.event(AllocationCreated)
+    if options.accept:
+        await accept(session, options)
+        options.has_accepted = session.accepted is not None
+        return
     keeps_until = time.monotonic() + options.seconds
     if peer is not None:
         await reach(session, options, peer)
@@ -571,7 +612,7 @@ async def run(options: argparse.Namespace) -> int:
         tally.print()
     if failed is not None:
         return failed
-    return ALL_BACK if tally.is_back() else SOME_LOST
+    return ALL_BACK if tally.is_back() and (options.has_accepted or not options.accept) else SOME_LOST
 
 
 # ---- options
@@ -593,6 +634,12 @@ def bounded(least: int, most: int) -> Callable[[str], int]:
     return number
 
 
+def read_token(text: str) -> bytes:
+    if len(text) != TOKEN_DIGITS or set(text) - set(string.hexdigits):
+        raise argparse.ArgumentTypeError(f"{text} isn't {TOKEN_DIGITS} hexadecimal digits")
+    return bytes.fromhex(text)
+
+
 def first_line(file: str) -> str:
     try:
         return Path(file).read_text(encoding="utf-8").partition("\n")[0].rstrip("\r")
@@ -612,6 +659,11 @@ def read_options() -> argparse.Namespace:
     add("--peer", type=read_address, metavar="IP:PORT", help="the peer, which is to send back what it gets")
     add("--connect", type=read_address, metavar="IP:PORT",
         help="the peer, over a connection over TCP (RFC 6062); wants --tcp")
+    add("--accept", type=lambda it: str(ipaddress.ip_address(it)), metavar="IP",
+        help="in place of a peer: waits until one at IP opens a connection (RFC 6062), prints its bytes and sends them "
+        "back, until it closes that; for --seconds at most. Wants --tcp")
+    add("--attempt-indications", action="store_true", help="such a connection may be announced by an indication, as "
+        "coturn does, which nobody signs")
     add("--echo", action="store_true", help="the peer is one of this program's own: on loopback, or where --peer or "
         "--connect says; a port 0 is a free one")
     add("--count", type=bounded(0, MOST_COUNT), default=10, help="how many payloads; without it 10")
@@ -620,6 +672,13 @@ def read_options() -> argparse.Namespace:
         "without it 0")
     add("--interval", type=bounded(0, MOST_INTERVAL), metavar="MS", help="between two payloads; without it they are "
         "spread over the time that the address is kept, at least 1 ms apart")
+    port = parser.add_mutually_exclusive_group().add_argument
+    port("--even-port", dest="port", action="store_const", const=RelayedPort.EVEN, default=RelayedPort.ANY,
+         help="asks for an even port of the address")
+    port("--reserve", dest="port", action="store_const", const=RelayedPort.EVEN_AND_NEXT,
+         help="the same, and that the server reserve the next port; tells the token for that")
+    port("--token", type=read_token, metavar="HEX",
+         help=f"asks for the port that is reserved under this token, of {TOKEN_DIGITS} digits")
     add("--indications", action="store_true", help="no channel: each payload goes in an indication")
     add("--follow", action="store_true", help="goes on at the server that this one names by an error 300, once")
     add("--ignore-short-lifetimes", action="store_true", help="ignores a renewal that grants less than 600 s")
@@ -632,7 +691,10 @@ def read_options() -> argparse.Namespace:
     if options.password is None:
         parser.error("a password is wanted: TURN_PASSWORD, --password-file or --password")
     options.is_connection = options.connect is not None
-    options.between = Transport.TCP if options.is_connection else Transport.UDP
+    options.between = Transport.TCP if options.is_connection or options.accept else Transport.UDP
+    options.has_accepted = False
+    if options.accept and (not options.tcp or options.peer or options.connect or options.echo):
+        parser.error("--accept wants --tcp, and none of --peer, --connect and --echo")
     if options.is_connection and (not options.tcp or options.peer or options.indications):
         parser.error("--connect wants --tcp, and neither --peer nor --indications")
     if not options.echo and any(it and it[1] == 0 for it in (options.peer, options.connect)):

@@ -17,7 +17,7 @@ import sys
 import time
 from typing import Any
 
-from turn_client import Address, Families, Rejected, Transport, TurnCause, TurnConfig, Unanswered
+from turn_client import Address, Families, Rejected, TurnCause, TurnConfig, Unanswered
 from turn_client_asyncio import (
     AllocationFailed, AllocationLost, PeerRefused, TurnTransport, create_turn_endpoint, open_turn_connection,
 )
@@ -77,7 +77,7 @@ async def use(transport: TurnTransport, protocol: Payloads, options: argparse.Na
 
 async def connect(options: argparse.Namespace, config: TurnConfig, context: ssl.SSLContext | None) -> None:
     """Sends the payloads over a connection to the peer."""
-    reader, writer = await open_turn_connection(options.server, config, options.connect, ssl=context,
+    reader, writer = await open_turn_connection(uri_of(options), config, options.connect, ssl=context,
                                                 follow=options.redirects)
     sent = b"".join(payloads(options.count, options.size))
 
@@ -102,8 +102,8 @@ async def run(options: argparse.Namespace) -> None:
         return
     began = time.monotonic()
     transport, protocol = await create_turn_endpoint(
-        lambda: Payloads(options.count, options.size), options.server, config, options.peer, ssl=context,
-        transport=Transport.TCP if options.tcp else None, channels=not options.indications, follow=options.redirects)
+        lambda: Payloads(options.count, options.size), uri_of(options), config, options.peer, ssl=context,
+        channels=not options.indications, follow=options.redirects)
     for name in ("server_address", "relayed_address", "mapped_address"):
         said = {"mapped_address": "public address"}.get(name, name.replace("_", " "))
         print(f"{said}: {shown(transport.get_extra_info(name))}", flush=True)
@@ -124,6 +124,11 @@ def shown(address: Address | None) -> str:
     if address is None:
         return "none"
     return f"[{address[0]}]:{address[1]}" if ":" in address[0] else f"{address[0]}:{address[1]}"
+
+
+def uri_of(options: argparse.Namespace) -> str:
+    """The server (RFC 7065)."""
+    return f"{'turns' if options.tls else 'turn'}:{shown(options.server)}{'?transport=tcp' if options.tcp else ''}"
 
 
 def text_of(cause: TurnCause | None) -> str:

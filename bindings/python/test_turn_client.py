@@ -143,7 +143,8 @@ def opened(module: Any, settings: dict[str, Any]) -> Any:
         base.NAME.decode(), base.SECRET.decode(), transport_of(settings["peers"]),
         settings.get("families", NUMBERS["TURN_IPV4"]), settings.get("integrity", NUMBERS["TURN_SHA1"]),
         NUMBERS[anonymous], module.RequestRetransmits(*waits) if waits else None,
-        short_lifetimes=not settings.get("ignore_short_lifetimes"), **asked(settings))
+        short_lifetimes=not settings.get("ignore_short_lifetimes"),
+        attempt_indications=bool(settings.get("attempt_indications")), **asked(settings))
     return module.TurnClient(read(settings["local"]), read(settings["server"]), config,
                              transport_of(settings["transport"]), seed=base.SEED)
 

@@ -14,6 +14,7 @@ import contextlib
 import errno
 import io
 import logging
+import os
 import shutil
 import ssl
 import subprocess
@@ -496,6 +497,28 @@ class Tls(Case):
         with self.assertRaises(ssl.SSLCertVerificationError):
             await over.create_turn_endpoint(Notes, self.at, USER, ssl=True, server_hostname="localhost")
 
+    async def test_a_uri(self) -> None:
+        for server in (f"turns:localhost:{self.at[1]}", f"TURNS:LocalHost.:{self.at[1]}?transport=tcp"):
+            transport, _ = await over.create_turn_endpoint(Notes, server, USER, ssl=self.trusting)
+            self.opened.append(transport)
+            self.assertIsNotNone(transport.get_extra_info("ssl_object"))
+        _, writer = await over.open_turn_connection(f"turns:localhost:{self.at[1]}", USER, PEER, ssl=self.trusting)
+        self.assertIsNotNone(writer.get_extra_info("ssl_object"))
+        writer.close()
+        await writer.wait_closed()
+
+    async def test_a_uri_alone(self) -> None:
+        """The authorities are those of the system, and the certificate is to be valid for the URI's host."""
+        asyncio.get_running_loop().set_exception_handler(lambda loop, context: None)  # of the server
+        with self.assertRaises(ssl.SSLCertVerificationError):
+            await over.create_turn_endpoint(Notes, f"turns:localhost:{self.at[1]}", USER)
+        with mock.patch.dict(os.environ, {"SSL_CERT_FILE": f"{self.folder}/cert"}):  # which the system's default is
+            transport, _ = await over.create_turn_endpoint(Notes, f"turns:localhost:{self.at[1]}", USER)
+            self.opened.append(transport)
+            self.assertIsNotNone(transport.get_extra_info("ssl_object"))
+            with self.assertRaises(ssl.SSLCertVerificationError):
+                await over.create_turn_endpoint(Notes, f"turns:127.0.0.1:{self.at[1]}", USER)
+
 
 class Readme(Case):
     async def test_its_program(self) -> None:
@@ -504,9 +527,9 @@ class Readme(Case):
         page = (HERE / "README.md").read_text(encoding="utf-8")
         program = next(it for it in page.split("```python\n") if "create_turn_endpoint(" in it and "import" in it[:6])
         text, _, _ = program.partition("\nasyncio.run(main())\n```")
-        self.assertEqual(text.count('("127.0.0.1", 3478)'), 1)
+        self.assertEqual(text.count("turn:127.0.0.1:3478"), 1)
         names: dict[str, Any] = {}
-        exec(text.replace('("127.0.0.1", 3478)', repr(at)), names)  # noqa: S102
+        exec(text.replace("turn:127.0.0.1:3478", "turn:{}:{}".format(*at)), names)  # noqa: S102
         with contextlib.redirect_stdout(io.StringIO()) as printed:
             await names["main"]()
         self.assertEqual(printed.getvalue(), f"{RELAYED} b'hello'\n")

@@ -255,6 +255,12 @@ class TurnConfig:
     so that it shortens the allocation, unless the client isn't hardened. Without, such a response changes nothing, and
     the allocation may outlast the server's. What the response to the ALLOCATE says is always believed.
 
+    With attempt_indications, a CONNECTION_ATTEMPT indication announces a connection that a peer opens (RFC 6062,
+    section 4.4), as coturn sends it; without, only a signed request of the server does. An indication has no signature,
+    so whoever can write into the control connection can make one, with any ID and any peer (see
+    TurnClient.allocated_tcp_socket). If as many connections wait for their socket as max_connection_attempts allows, or
+    64 if there is no limit, one more is ignored.
+
     requested_lifetime is asked for by each ALLOCATE and each REFRESH that renews, in seconds; 0 would delete, and is
     refused. The server decides. Two messages that the client sends are at least `pace` milliseconds apart; 0: no time.
     relayed_port is asked for the relayed address; with a reservation_token of another client
@@ -274,6 +280,7 @@ class TurnConfig:
     pace: int = 50
     relayed_port: RelayedPort = RelayedPort.ANY
     reservation_token: bytes | None = field(default=None, repr=False)
+    attempt_indications: bool = False
 
 
 # ---- answers
@@ -513,7 +520,7 @@ class _Settings(ctypes.Structure):
         ("most_wait", ctypes.c_uint32), ("last_wait", ctypes.c_uint32), ("compatible", ctypes.c_uint32),
         ("max_connection_attempts", ctypes.c_size_t), ("ignore_short_lifetimes", ctypes.c_uint32),
         ("lifetime", ctypes.c_uint32), ("pace", ctypes.c_uint32), ("port", ctypes.c_uint32),
-        ("reservation", ctypes.c_uint64),
+        ("reservation", ctypes.c_uint64), ("attempt_indications", ctypes.c_uint32),
     ]
 
 
@@ -803,7 +810,8 @@ class TurnClient:
             sends=_word(waits.sends), first_wait=_word(waits.first_wait), most_wait=_word(waits.most_wait),
             last_wait=_word(waits.last_wait), compatible=int(not config.hardened),
             max_connection_attempts=_size(config.max_connection_attempts),
-            ignore_short_lifetimes=int(not config.short_lifetimes), **_asked(config))
+            ignore_short_lifetimes=int(not config.short_lifetimes),
+            attempt_indications=int(config.attempt_indications), **_asked(config))
         name, password = (it.encode("utf-8", "surrogatepass") for it in (config.username, config.password))
         self._status("open", settings, name, len(name), password, len(password), _Seed.from_buffer_copy(seed))
 
@@ -1021,8 +1029,10 @@ class TurnClient:
     # ---- what the program did
 
     def allocated_tcp_socket(self, id: int, peer: Address, local: Address | None, now: int) -> None:
-        """Tells the own address of the socket that was opened for a connection, or that none was. NoAllocation: no such
-        connection waits; AlreadyExists: another has that own address; NoMemory."""
+        """Tells the own address of the socket that was opened for a connection, or that none was. Of a connection that
+        a peer opens the server gets a response, if a signed request announced it; none if an indication did. An
+        announced peer may be refused by None. NoAllocation: no such connection waits; AlreadyExists: another has that
+        own address; NoMemory."""
         own = _Address() if local is None else _to_c(local)
         self._status("socket", _word(id), _to_c(peer), own, _moment(now))
 

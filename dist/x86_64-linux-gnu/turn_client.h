@@ -75,6 +75,10 @@
  *   - A server may reject one family of two. Then the client goes on with the other.
  *   - If a server grants less than 600 s at a renewal, the allocation ends by that, and is renewed in time. If
  *     compatible or ignore_short_lifetimes is 1, it still ends when it would have ended without the renewal.
+ *   - With attempt_indications, poll may ask for a socket for a connection that no peer opened: an indication has no
+ *     signature. TURN_TCP_CONNECTED comes only once the server's signed response to CONNECTION_BIND has accepted the ID
+ *     of the connection; that its peer is the one that was named, isn't known. To refuse one, report family 0 to
+ *     turn_client_socket: no error is sent to the server then, which ends the connection by itself.
  *   - No event reports that an allocation has expired, or what turn_client_delete ends: look at turn_client_relayed, or
  *     call turn_client_expired.
  *   - A client that has ended or failed returns TURN_CLOSED from poll once no event is queued, and TURN_NO_ALLOCATION
@@ -216,11 +220,17 @@ typedef struct turn_settings {
     uint32_t port;           /* the port that is asked for the relayed address (RFC 8656, section 7.1); 0 is
                               * TURN_PORT_ANY */
     uint64_t reservation;    /* for TURN_PORT_RESERVED: what turn_client_reservation reported of another client */
+    uint32_t attempt_indications;
+                             /* 0: only a signed request of the server announces a connection that a peer opens. 1: so
+                              * does a CONNECTION_ATTEMPT indication (RFC 6062, section 4.4), which coturn sends. It has
+                              * no signature, so whoever can write into the control connection can make one, with any ID
+                              * and any peer. If as many connections wait for their socket as max_connection_attempts
+                              * allows, or 64 if there is no limit, one more is ignored */
 } turn_settings;
 
 /* Settings of this size, and otherwise zero: turn_settings settings = TURN_SETTINGS_INIT; */
 #define TURN_SETTINGS_INIT \
-    {sizeof(turn_settings), {{0}, 0, 0}, {{0}, 0, 0}, 0, 0, 0, 0, 0, 0, 0, 0, 0, 0, 0, 0, 0, 0, 0, 0}
+    {sizeof(turn_settings), {{0}, 0, 0}, {{0}, 0, 0}, 0, 0, 0, 0, 0, 0, 0, 0, 0, 0, 0, 0, 0, 0, 0, 0, 0}
 
 /* 32 random bytes, see above. */
 typedef struct turn_seed {

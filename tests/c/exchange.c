@@ -262,6 +262,8 @@ static void refuse_numbers(const turn_settings *good)
         {offsetof(turn_settings, ignore_short_lifetimes), UINT32_MAX},
         {offsetof(turn_settings, port), 4},
         {offsetof(turn_settings, port), UINT32_MAX},
+        {offsetof(turn_settings, attempt_indications), 2},
+        {offsetof(turn_settings, attempt_indications), UINT32_MAX},
     };
     for (size_t i = 0; i < sizeof wrong / sizeof *wrong; i++) {
         turn_settings settings = *good;
@@ -310,7 +312,9 @@ static void open_names(const turn_settings *good)
 /* Sizes that the settings do not have. They are checked before the rest of the settings. */
 static void refuse_sizes(const turn_settings *good)
 {
-    static const size_t sizes[] = {0, 1, sizeof(turn_settings) - 1, sizeof(turn_settings) + 8, SIZE_MAX};
+    static const size_t sizes[] = {
+        0, 1, sizeof(turn_settings) - 8, sizeof(turn_settings) - 1, sizeof(turn_settings) + 8, SIZE_MAX,
+    };
     for (size_t i = 0; i < sizeof sizes / sizeof *sizes; i++) {
         turn_settings settings = *good;
         settings.size = sizes[i];

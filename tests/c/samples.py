@@ -21,9 +21,10 @@ from samples_base import (  # noqa: E402
     permit, refresh, success,
 )
 from samples_settings import (  # noqa: E402
-    another_password, asked_otherwise, binds, both, even, expired, expired_behind_deletion, expired_untold, hidden,
-    introduced, introduced_to_peers, lapsed, none_in_common, redirected, redirected_unsigned, rejected, replaced,
-    replaced_at_first, replaced_by_stale_nonce, reserved, strongest, the_others, unanswered,
+    announced, announced_over_udp, another_password, asked_otherwise, binds, both, even, expired,
+    expired_behind_deletion, expired_untold, hidden, introduced, introduced_to_peers, lapsed, none_in_common,
+    not_announced, redirected, redirected_unsigned, rejected, replaced, replaced_at_first, replaced_by_stale_nonce,
+    reserved, strongest, the_others, unanswered,
 )
 
 
@@ -472,6 +473,7 @@ EXCHANGES = (
     redirected,
     redirected_unsigned, another_password, replaced, replaced_by_stale_nonce, replaced_at_first, introduced,
     introduced_to_peers, expired, expired_untold, expired_behind_deletion, asked_otherwise, reserved, even,
+    announced, not_announced, announced_over_udp,
 )
 
 # ---- the file

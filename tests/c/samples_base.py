@@ -145,6 +145,12 @@ def attempt(k, connection, peer, by=BY_SHA1):
     return attempted(k, identified(connection), to(peer, bytes([k]) * 12), by=by)
 
 
+def announcement(k, connection, peer):
+    """The same by an indication, which nobody signs."""
+    told = identified(connection), to(peer, bytes([k]) * 12)
+    return attempted(k, *told, kind=CONNECTION_ATTEMPT | INDICATION, by=None)
+
+
 def indication(k, peer, value):
     return message(SEND | INDICATION, number(k), [to(peer, number(k)), (DATA, value)])
 

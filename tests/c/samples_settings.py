@@ -5,10 +5,11 @@ for. samples.py writes them to samples.h.
 from samples_base import (
     A, ADDITIONAL_FAMILY, ALLOCATE, ALL_ALGORITHMS, BY_SHA1, BY_SHA256, BY_SHA512, CHANNEL_BIND, CHOSEN, CONNECT,
     CONNECTION_ATTEMPT, CONNECTION_BIND, CREATE_PERMISSION, ELSEWHERE, Exchange, FAMILY, FEATURED, FIRST, FOURTH,
-    HIDDEN, MS, NEXT, OLD, ONE, OTHER, OWN, REFRESH, RELAYED, RELAYED_6, RELAYED_KIND, SECOND, SECOND_SOCKET, SIX,
-    SOFTWARE, STRANGER, STRONGEST, SUCCESS, TCP, TWO, TWO_ALGORITHMS, UDP, V6, allocate, asks_socket, attempt,
-    attempted, bind, challenge, code, connect, data, elsewhere, fingerprinted, first, grant, host, identified,
-    indication, join, lifetime, named, number, opens_socket, permit, refresh, rejection, success, xored,
+    HIDDEN, INDICATION, MS, NEXT, NOBODY, OLD, ONE, OTHER, OWN, REFRESH, RELAYED, RELAYED_6, RELAYED_KIND, SECOND,
+    SECOND_SOCKET, SIX, SOFTWARE, STRANGER, STRONGEST, SUCCESS, TCP, TWO, TWO_ALGORITHMS, UDP, V6, allocate,
+    announcement, asks_socket, attempt, attempted, bind, challenge, closes_socket, code, connect, data, elsewhere,
+    fingerprinted, first, grant, host, identified, indication, join, lifetime, named, number, opens_socket, permit,
+    refresh, rejection, success, xored,
 )
 
 
@@ -573,4 +574,102 @@ def even():
     t.draws(allocate(UDP, (EVEN, b"\0"), seconds=60))
     t.feeds(rejection(ALLOCATE, 1, 508, b"Insufficient Capacity"))
     fails(t, "TURN_REJECTED", 508, True, b"Insufficient Capacity")
+    return t
+
+
+# ---- connections that indications announce
+
+
+def announced_one(t):
+    t.part("a peer's connection is bound, and no response to the server is due")
+    t.at(100)
+    t.feeds_cut(announcement(1, 7, ONE), 30)
+    t.draws_nothing()
+    t.tells_no_more()
+    asks_socket(t, 7, ONE)
+    t.holds_connections()
+    opens_socket(t, 7, ONE, FIRST)
+    t.holds_connections((FIRST, ONE, 7, False))
+    t.draws(join(2, 7), FIRST)
+    t.draws_nothing()
+    t.feeds(success(CONNECTION_BIND, 2) + b"hi", local=FIRST)
+    t.pulls(ONE, b"hi")
+    t.tells("TURN_TCP_CONNECTED", ONE)
+    t.tells_no_more()
+    t.gives(b"any bytes", ONE, b"any bytes", 0, local=FIRST)
+    t.sends_not(ONE, "TURN_NO_PERMISSION")
+    t.reaches("permit", ONE)
+    t.at(150)
+    t.draws(permit(3, ONE))
+    t.feeds(success(CREATE_PERMISSION, 3))
+    t.tells("TURN_PERMISSION_CREATED", host(ONE))
+    t.sends(ONE, b"hello", b"hello", FIRST)
+
+
+def announced():
+    """Indications announce connections of peers (RFC 6062, sections 4.4 and 5.4): one is bound, another one gets no
+    socket, the server rejects a third, and others change nothing."""
+    t = Exchange("connections that indications announce", "tcp", "tcp", attempt_indications=1)
+    t.begins()
+    t.challenged(TCP)
+    t.feeds(announcement(1, 7, ONE), "TURN_IGNORED", "before there is an allocation")
+    t.granted(TCP)
+    announced_one(t)
+    t.part("what changes nothing")
+    t.feeds(announcement(2, 8, ONE), name="a peer with a connection")
+    t.feeds(announcement(3, 8, SIX), name="a peer of another family")
+    t.feeds(attempted(4, identified(8), kind=CONNECTION_ATTEMPT | INDICATION, by=None), name="no peer")
+    t.draws_nothing()
+    t.holds_connections((FIRST, ONE, 7, True))
+    t.part("no socket is opened, and no response is due")
+    t.feeds(announcement(5, 8, TWO))
+    asks_socket(t, 8, TWO)
+    opens_socket(t, 8, TWO, NOBODY)
+    t.draws_nothing()
+    opens_socket(t, 8, TWO, SECOND_SOCKET, "TURN_NO_ALLOCATION")
+    t.part("the server rejects its ID")
+    t.feeds(announcement(6, 9, TWO))
+    asks_socket(t, 9, TWO)
+    opens_socket(t, 9, TWO, SECOND_SOCKET)
+    t.at(200)
+    t.draws(join(4, 9), SECOND_SOCKET)
+    t.feeds(rejection(CONNECTION_BIND, 4, 447, b"Connection Timeout or Failure"), local=SECOND_SOCKET)
+    t.tells("TURN_TCP_FAILED", TWO)
+    # any error in place of the success ends it, and isn't validated (SECURITY.md)
+    t.because("TURN_REJECTED", 447, False, b"Connection Timeout or Failure")
+    closes_socket(t, SECOND_SOCKET)
+    t.holds_connections((FIRST, ONE, 7, True))
+    t.part("the end")
+    t.at(250)
+    t.deleted(5)
+    t.feeds(announcement(7, 10, TWO), "TURN_IGNORED")
+    t.does("close")
+    return t
+
+
+def not_announced():
+    t = Exchange("indications that announce nothing", "tcp", "tcp")
+    t.begins()
+    t.challenged(TCP)
+    t.granted(TCP)
+    t.part("without the setting")
+    t.feeds(announcement(1, 7, ONE), "TURN_IGNORED")
+    t.draws_nothing()
+    t.holds_connections()
+    t.at(100)
+    t.deleted(2)
+    t.does("close")
+    return t
+
+
+def announced_over_udp():
+    t = Exchange("indications beside an allocation over UDP", "tcp", attempt_indications=1)
+    t.begins()
+    t.challenged()
+    t.granted()
+    t.part("they announce nothing")
+    t.feeds(announcement(1, 7, ONE), "TURN_IGNORED")
+    t.draws_nothing()
+    t.holds_connections()
+    t.does("close")
     return t

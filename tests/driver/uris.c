@@ -44,6 +44,7 @@ static const struct good goods[] = {
     {"turns:example.org?transport=udp", TURN_URI_TURNS, "example.org", 5349, TURN_UDP, 0, true},
     {"TURN:Example.ORG", TURN_URI_TURN, "Example.ORG", 3478, 0, 0, false},
     {"Turns:example.org?transport=TCP", TURN_URI_TURNS, "example.org", 5349, TURN_TCP, 0, true},
+    {"turn:example.org?Transport=udp", TURN_URI_TURN, "example.org", 3478, TURN_UDP, 0, false},
     {"turn:192.0.2.1", TURN_URI_TURN, "192.0.2.1", 3478, 0, 4, false},
     {"turn:192.0.2.1:1", TURN_URI_TURN, "192.0.2.1", 1, 0, 4, false},
     {"turn:[2001:db8::1]", TURN_URI_TURN, "2001:db8::1", 3478, 0, 6, false},

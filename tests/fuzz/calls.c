@@ -594,6 +594,7 @@ static bool are_good(const turn_settings *s)
     const bool is_between = s->peers == 0 || s->peers == TURN_UDP || (s->peers == TURN_TCP && s->transport == TURN_TCP);
     return s->size == sizeof *s && is_family(&s->local) && is_family(&s->server) && is_to && is_between
         && s->families <= 3 && s->port <= TURN_PORT_RESERVED && s->ignore_short_lifetimes <= 1
+        && s->attempt_indications <= 1
         && s->integrity <= 7 && s->anonymous <= TURN_ANONYMOUS_DISABLED && s->compatible <= 1;
 }
 

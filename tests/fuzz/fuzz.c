@@ -403,7 +403,8 @@ static void open_any(void)
                             .max_connection_attempts = kind & 0x10 ? next() : 0,
                             .ignore_short_lifetimes = kind & 0x20 ? next() % 3 : 0,
                             .lifetime = kind & 0x10 ? next_number(4) : 0, .pace = kind & 0x20 ? next_number(4) : 0,
-                            .port = next() % 5, .reservation = next_number(4)};
+                            .port = next() % 5, .reservation = next_number(4),
+                            .attempt_indications = kind & 0x10 ? next() % 3 : 0};
     if (kind & 2)
         s.families = 3;
     const struct bytes any = {letters, kind & 8 ? TURN_NAME_MAX + (kind >> 4) % 2 : next()};

@@ -19,7 +19,6 @@ be tested (`built` of tools/programs.py).
 """
 
 import argparse
-import os
 import re
 import subprocess
 import sys

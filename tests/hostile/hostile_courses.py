@@ -16,7 +16,7 @@ from hostile_judge import BAD, CLIENT_END, LOOKS
 from hostile_messages import BY, REQUEST, hash_of, key_of, read, written
 from hostile_spoiled import spoiled
 from traces_base import (
-    ALLOCATE, CHANNEL, ERROR, ERROR_CODE, INTEGRITY, INTEGRITY_SHA256, INTEGRITY_SHA512, LIFETIME, MS, NONCE,
+    CHANNEL, ERROR, ERROR_CODE, INTEGRITY, INTEGRITY_SHA256, INTEGRITY_SHA512, LIFETIME, MS, NONCE,
     PASSWORD_ALGORITHMS, PEER, REALM, RELAYED_KIND, SECOND, SUCCESS, UNKNOWN, USERHASH, xored,
 )
 

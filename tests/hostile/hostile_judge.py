@@ -16,7 +16,7 @@
 import re
 
 from hostile_errors import Errors
-from hostile_grants import CONNECTION_ATTEMPT, CONNECTION_ID, Grant, Grants, is_success, payload_in
+from hostile_grants import CONNECTION_ATTEMPT, CONNECTION_ID, Grant, Grants, payload_in
 from hostile_hardened import Hardened
 from hostile_messages import (
     ERROR, INDICATION, REQUEST, SUCCESS, address_in, host_of, is_drawn, is_named, is_signed, number_in, read,

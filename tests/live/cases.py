@@ -10,14 +10,17 @@ MANY = 1000  # payloads each way
 REFRESHED, STALE = r"refreshed, .*lifetime=[1-9]", "error 438"
 PERMITTED, BOUND = "CREATE_PERMISSION processed, success", "CHANNEL_BIND processed, success"
 CONNECTED = "CONNECTION_BIND processed, success"
+GRANTED = "ALLOCATE processed, success"
+
+RESERVED = "TOKEN"  # an option's value: the token that the first client tells
+WRONG_TOKEN = "0123456789abcdef"
 
 SHORT_SERVER = ("--max-allocate-lifetime=70",)  # a lifetime that clients renew after 35 seconds
 IGNORING = ("--ignore-short-lifetimes",)
 
-# An hour of lifetimes of 70 seconds, by clocks that run 40 times as fast. A nonce is stale after 600 seconds, a
-# permission is renewed after 240, a channel after 540. The last payload goes a minute before the end.
+# An hour of lifetimes of 70 seconds, by clocks that run PACE times as fast, or as --pace says. A nonce is stale after 600
+# seconds, a permission is renewed after 240, a channel after 540. The last payload goes a minute before the end.
 HOUR, PACE, PAYLOADS = 3600, 40, 61
-HOUR_LASTS = HOUR / PACE
 HOUR_RENEWALS = ((REFRESHED, 90), (STALE, 5), (PERMITTED, 14), (BOUND, 6), (r"(?m)^3[6-9]\d\d: ", 1))
 HOUR_SPENT = r"\n36\d\d\.\d{3}  gives the address back"
 
@@ -29,7 +32,7 @@ RENEWALS = ((REFRESHED, 1), (STALE, 3), (PERMITTED, 3))
 RENEWING_SECONDS, RENEWING_INTERVAL, RENEWING_PAYLOADS = 655, 10000, 62
 
 PAUSED_AFTER, PAUSED_FOR = 1.0, 3.0  # seconds: after the peer's first payload, and how long
-FIRST_WITHIN = 20  # seconds that this one may take
+FIRST_WITHIN = 60  # seconds that this one may take
 # While the server is stopped: 600 payloads of 1,200 bytes, more than its socket holds; 60 of 100, which it holds.
 STEADY = {"count": 1000, "interval": 5, "size": 1200}
 SLOW = {"count": 100, "interval": 50}
@@ -79,7 +82,9 @@ class Case:
     family: str = "4"  # of the relayed address, or `both`
     algorithms: str = "sha1"
     indications: bool = False  # no channel
-    peer: str = "run"  # who sends back: `run` (and counts), the program's own `echo`, `stream` over TCP, or `none`
+    # who sends back: `run` (and counts), the program's own `echo`, `stream` over TCP, or `none`; with `opens` a peer
+    # opens a connection, and the program sends back
+    peer: str = "run"
     options: tuple = ()  # more of them
     server: tuple = ()  # options of the server
     is_absent: bool = False  # there is no server
@@ -87,6 +92,8 @@ class Case:
     logged: tuple = ()  # what is to stand in the server's log, and how often at least
     says: tuple = ()  # what is to stand in the program's transcript
     is_occupied: bool = False  # before it another client of the same user has an address
+    first: tuple = ()  # more options of that client, in place of `options`
+    port: str = ""  # of the relayed address: `even`, or `next` to that of the first client, which is even
     is_translated: bool = False  # a translator of addresses is between it and the server
     is_redirected: bool = False  # the server names another one
     has_loop: bool = False  # which names this one in turn
@@ -131,7 +138,7 @@ def settings():
 
 
 def refusals():
-    absent = Case("no server, UDP", NO_ANSWER, is_absent=True, lasts=(39, 42), is_idle=True,
+    absent = Case("no server, UDP", NO_ANSWER, is_absent=True, lasts=(39, 60), is_idle=True,
                   says=("cause: unanswered",))
     # nine challenges are answered, and the tenth is the cause
     wrong = Case("a wrong password, UDP", FAILED, password="wrong", logged=(("error 401", 10),),
@@ -146,8 +153,22 @@ def refusals():
              is_occupied=True, logged=(("error 486", 1),), says=("cause: rejected 486 signed",)),
         Case("an option without a value", BAD_USAGE, peer="none", options=("--user",), is_absent=True),
         absent,
-        replace(absent, name="no server, TCP", transport="tcp", lasts=(0, 5), says=()),
+        replace(absent, name="no server, TCP", transport="tcp", lasts=(0, 20), says=()),
     ]
+
+
+def ports():
+    """EVEN-PORT and RESERVATION-TOKEN (RFC 8656, section 7.1): the second client gets the port that the first one had
+    reserved."""
+    even = Case("an even port", options=("--even-port",), port="even")
+    follows = Case("the port that another client reserved, UDP", is_occupied=True, first=("--reserve",), port="next",
+                   options=("--token", RESERVED), logged=(("Local reserved relay addr", 1), (GRANTED, 2)))
+    # coturn rejects it by 404; RFC 8656, section 7.2, says 508
+    wrong = Case("a token under which nothing is reserved, UDP", FAILED, peer="none", is_occupied=True,
+                 first=("--reserve",), options=("--token", WRONG_TOKEN), logged=(("error 404", 1),),
+                 says=("cause: rejected 404 signed Cannot find reserved socket",))
+    return [even, follows, replace(follows, name=follows.name.replace("UDP", "TCP"), transport="tcp"), wrong,
+            replace(wrong, name=wrong.name.replace("UDP", "TCP"), transport="tcp")]
 
 
 def redirections():
@@ -177,21 +198,21 @@ def troubles():
     ]
 
 
-def lifetimes():
+def lifetimes(pace):
     """A server that grants 70 seconds: an allocation is renewed before each end, unless that is ignored."""
     one = Case("lifetimes of 70 s, for 90 s", seconds=90, server=SHORT_SERVER, lasts=(90, 100), is_idle=True,
                logged=((REFRESHED, 2),))
-    hour = replace(one, name="lifetimes of 70 s, for an hour, UDP", pace=PACE, seconds=HOUR, count=PAYLOADS,
+    hour = replace(one, name="lifetimes of 70 s, for an hour, UDP", pace=pace, seconds=HOUR, count=PAYLOADS,
                    interval=(HOUR - 60) * 1000 // (PAYLOADS - 1), logged=HOUR_RENEWALS, says=(HOUR_SPENT,),
-                   spans=(HOUR - 61) / PACE, lasts=(HOUR_LASTS, HOUR_LASTS + 15))
+                   spans=(HOUR - 61) / pace, lasts=(HOUR / pace, HOUR / pace + 15))
     return [
         one,
-        replace(one, name="lifetimes of 70 s, ignored", want=FAILED, options=IGNORING, lasts=(69, 80),
+        replace(one, name="lifetimes of 70 s, ignored", want=FAILED, options=IGNORING, lasts=(69, 89),
                 logged=((REFRESHED, 1),)),
         hour,
         replace(hour, name="lifetimes of 70 s, for an hour, TCP", transport="tcp"),
         replace(hour, name="lifetimes of 70 s, for an hour, ignored", want=FAILED, options=IGNORING, says=(), spans=0,
-                lasts=(69 / PACE, 10), logged=((REFRESHED, 1),)),
+                lasts=(69 / pace, 70 / pace + 20), logged=((REFRESHED, 1),)),
     ]
 
 
@@ -202,7 +223,17 @@ def connections():
     return [one, replace(one, name=one.name.replace("IPv4", "IPv6"), host="::1", family="6")]
 
 
-def drivers():
+def accepted():
+    """RFC 6062: a peer opens a connection, which coturn announces by an indication; 20,000 bytes go both ways. A program
+    that isn't set to accept such waits in vain."""
+    one = Case("a peer's connection is announced and accepted, IPv4", transport="tcp", count=200, peer="opens",
+               seconds=30, options=("--attempt-indications",), logged=((CONNECTED, 1),), lasts=(0, 20))
+    return [one, replace(one, name=one.name.replace("IPv4", "IPv6"), host="::1", family="6"),
+            replace(one, name="a peer's connection is announced, and indications are not accepted", want=SOME_LOST,
+                    seconds=4, options=(), logged=(), lasts=(4, 10))]
+
+
+def drivers(pace):
     """What a driver does in place of the program: turn_client_asyncio, turn_driver.h of C, TurnSocket of Rust."""
     both = [replace(case, name=f"driver: {case.name}") for case in (*payloads(), *connections())]
     tls = [replace(case, transport="tls", name=case.name.replace(", TCP", "") + ", TLS") for case in both
@@ -219,10 +250,10 @@ def drivers():
                      is_distrusted=True, says=(r"(?i)certificate.verify.failed|UnknownIssuer",))
     # the renewal is rejected after 35 seconds, and the allocation ends after 70
     restarted = Case("driver: killed and restarted, UDP", FAILED, count=100, interval=50, seconds=90, during=restart,
-                     server=SHORT_SERVER, is_idle=True, logged=(("error 437", 1),), lasts=(69, 80),
+                     server=SHORT_SERVER, is_idle=True, logged=(("error 437", 1),), lasts=(69, 89),
                      says=("the relayed address is gone",))
     killed = Case("driver: killed, TCP", FAILED, transport="tcp", during=kill, says=("the server is closed",), **STEADY)
-    hour = next(it for it in lifetimes() if it.name == "lifetimes of 70 s, for an hour, UDP")
+    hour = next(it for it in lifetimes(pace) if it.name == "lifetimes of 70 s, for an hour, UDP")
     found = [*both, *tls, large, replace(large, name="driver: 100 of 8,000 bytes, TLS", transport="tls"), wrong, denied,
              absent, redirected, followed, untrusted, restarted, killed, replace(hour, name=f"driver: {hour.name}")]
     return [replace(it, driver=True) for it in found]
@@ -237,6 +268,6 @@ def renewals():
             replace(one, name="renewed for 655 s, indications, UDP", indications=True, logged=RENEWALS)]
 
 
-def all_of_them(is_quick):
-    return [*([] if is_quick else renewals()), *lifetimes(), *troubles(), *refusals(), *redirections(), *payloads(),
-            *settings(), *connections(), *drivers()]
+def all_of_them(is_quick, pace=PACE):
+    return [*([] if is_quick else renewals()), *lifetimes(pace), *troubles(), *refusals(), *ports(), *redirections(),
+            *payloads(), *settings(), *connections(), *accepted(), *drivers(pace)]

@@ -1,10 +1,14 @@
 """Peers on loopback that send back what they get, and count the payloads that differ; and a translator of addresses."""
 
+import contextlib
+import re
 import socket
 import threading
 import time
 
 MOST = 65536  # bytes that are read at once
+PIECE, SILENCE = 1000, 5  # bytes that a peer sends at once; seconds without any after which it closes
+WAITS = re.compile(r"waits for a connection to (\S+):(\d+)\n")
 HELD = 1 << 22  # bytes that a socket is to hold, so that a burst isn't lost there
 
 
@@ -95,6 +99,52 @@ class StreamPeer:
         return self._bytes
 
     end = Peer.end
+
+
+class OpeningPeer:
+    """Over TCP: once the program waits for a connection, it opens one, sends bytes piece by piece, each when the one
+    before is back, and counts those that come back as they went. The first piece goes before the connection is bound.
+    It closes when all are back, or none came for a while. (Before that coturn keeps 16 reads, and drops the rest.)"""
+
+    def __init__(self, host, transcript, size):
+        self.address = host
+        self._transcript, self._size = transcript, size
+        self._bytes = 0
+        self._is_over = False
+        self._thread = threading.Thread(target=self._work, daemon=True)
+        self._thread.start()
+
+    def _relayed(self):
+        """Where the program waits for it, by its transcript."""
+        while not self._is_over:
+            with contextlib.suppress(OSError), open(self._transcript, encoding="utf-8", errors="replace") as text:
+                found = WAITS.search(text.read())
+                if found:
+                    return found.group(1).strip("[]"), int(found.group(2))
+            time.sleep(0.05)
+        return None
+
+    def _work(self):
+        relayed = self._relayed()
+        if relayed is None:
+            return
+        sent = bytes(33 + number % 90 for number in range(self._size))
+        with contextlib.suppress(OSError), socket.create_connection(relayed, timeout=SILENCE) as one:
+            while self._bytes < self._size and not self._is_over:
+                if self._bytes % PIECE == 0:
+                    one.sendall(sent[self._bytes : self._bytes + PIECE])
+                came = one.recv(MOST)
+                if not came or came != sent[self._bytes : self._bytes + len(came)]:
+                    return
+                self._bytes += len(came)
+
+    def count(self):
+        """How many bytes came back."""
+        return self._bytes
+
+    def end(self):
+        self._is_over = True
+        self._thread.join()
 
 
 class Translator:

@@ -10,7 +10,8 @@ from dataclasses import dataclass
 
 ROOT = os.path.abspath(os.path.join(os.path.dirname(__file__), "..", ".."))
 LIBRARY = os.path.join(ROOT, "dist", "x86_64-linux-gnu")  # the folder of the released library
-PEERS = {"run": ["--peer"], "stream": ["--connect"], "echo": ["--echo"], "none": []}  # by which it learns its peer
+UNPROVED = "libturn_client_unproved"  # as bindings/c/try names it
+PEERS = {"run": ["--peer"], "stream": ["--connect"], "opens": ["--accept"], "echo": ["--echo"], "none": []}  # by which it learns its peer
 DEBIAN_CRATES = "/usr/share/cargo/registry"
 C_FILES = ("turn_client.c", "options.c", "sockets.c", "tally.c")
 C_DRIVER_FILES = ("example_driver.c", *(f"driver/{it}.c" for it in (
@@ -30,6 +31,10 @@ class Program:
 
     def options(self, case):
         """The options of a case, in those words that the program has. Lacks tells that it has none."""
+        if case.peer == "opens":  # it sends what it gets, and no payloads of its own
+            given = ["--tcp"] if len(self.transports) > 1 else []
+            given += ["--family", case.family] if "--family" in self.takes else []
+            return [*given, "--seconds", str(case.seconds), *case.options]
         given = ["--count", str(case.count), "--size", str(case.size)]
         if case.seconds:
             given += ["--seconds", str(case.seconds)]
@@ -85,11 +90,17 @@ def _build(command, cwd, log):
                               check=False).returncode == 0
 
 
+def _library(archive):
+    """The static library of a folder: one that is proved, or of bindings/c/try."""
+    unproved = os.path.join(archive, UNPROVED + ".a")
+    return unproved if os.path.exists(unproved) else os.path.join(archive, "libturn_client.a")
+
+
 def of_c(archive, folder):
     """bindings/c/turn_client.c under sanitizers. The archive is proved code, and isn't instrumented."""
     name, made = "bindings/c/turn_client.c", os.path.join(folder, "turn_client")
     compiler = os.environ.get("CC") or shutil.which("clang") or "cc"
-    library = os.path.join(archive, "libturn_client.a")
+    library = _library(archive)
     if not os.path.exists(library):
         return [Absent(name, f"there is no {library}")]
     command = [compiler, "-std=c11", *SANITIZERS, "-Wall", "-Wextra", "-I" + archive, *C_FILES, library, "-o", made]
@@ -102,7 +113,7 @@ def of_c_driver(archive, folder):
     """bindings/c/example_driver.c with the sources of the driver, under sanitizers."""
     name, made = "bindings/c/example_driver.c", os.path.join(folder, "example_driver")
     compiler = os.environ.get("CC") or shutil.which("clang") or "cc"
-    library = os.path.join(archive, "libturn_client.a")
+    library = _library(archive)
     if not os.path.exists(library):
         return [Absent(name, f"there is no {library}")]
     command = [compiler, "-std=c11", *SANITIZERS, "-Wall", "-Wextra", "-Iinclude", *C_DRIVER_FILES, library, "-lssl",
@@ -116,7 +127,7 @@ def of_rust(archive, folder):
     """The examples of bindings/rust/: each with a loop of its own over one transport; over the driver socket.rs, and
     example-rustls."""
     source = os.path.join(ROOT, "bindings", "rust")
-    transports = {"udp": ("udp",), "tcp": ("tcp",), "socket": ("udp", "tcp")}
+    transports = {"udp": ("udp",), "tcp": ("tcp",), "accept": ("tcp",), "socket": ("udp", "tcp")}
     names = {kind: f"bindings/rust/examples/{kind}.rs" for kind in transports}
     if not os.path.isdir(source) or shutil.which("cargo") is None:
         return [Absent(name, "no folder bindings/rust/, or no cargo") for name in names.values()]
@@ -158,11 +169,13 @@ def of_python(archive, folder):
         return [Absent(f"bindings/python/{name}", "no folder bindings/python/") for name in names]
     copy = os.path.join(folder, "python")
     shutil.copytree(source, copy, dirs_exist_ok=True, ignore=shutil.ignore_patterns(".*", "__pycache__"))
-    library = os.path.join(archive, "libturn_client.a")
-    if not _build([os.path.join(source, "build"), library, copy], source, os.path.join(folder, "build-python.log")):
+    python, library = [sys.executable], _library(archive)
+    if UNPROVED in library:
+        python = ["env", "TURN_CLIENT_LIB=" + archive, *python]
+    elif not _build([os.path.join(source, "build"), library, copy], source, os.path.join(folder, "build-python.log")):
         return [Absent(f"bindings/python/{name}", "it isn't built: see build-python.log") for name in names]
     transports = ("udp", "tcp"), ("udp", "tcp", "tls")
-    return [_made(f"bindings/python/{name}", [sys.executable, os.path.join(copy, name)], by, driver="tls" in by)
+    return [_made(f"bindings/python/{name}", [*python, os.path.join(copy, name)], by, driver="tls" in by)
             for name, by in zip(names, transports)]
 
 

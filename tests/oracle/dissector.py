@@ -1,5 +1,5 @@
 #!/usr/bin/env python3
-"""Prints what stun-inspect is to print for the lines of standard input (docs/INSPECT.md).
+"""Prints what stun-inspect is to print for the lines of standard input (docs/INSPECT.md), with --json as JSON.
 
 It is written apart from the library, from the RFCs, over Python's hmac, hashlib, zlib, ipaddress and
 unicodedata, and makes the stored output of crates/stun_inspect, which the gate holds against what the
@@ -10,6 +10,7 @@ program prints:
 import hashlib
 import hmac
 import ipaddress
+import json
 import re
 import sys
 import unicodedata
@@ -220,6 +221,46 @@ def attribute(kind, value, mask):
         return f"{line}refused {why} of {in_hex(value)}"
 
 
+def refusal(why):
+    """A refusal as an object: its name and its numbers."""
+    name, *rest = str(why).split(" ")
+    if len(rest) == 1:
+        return {"name": name, "type": int(rest[0], 16)}
+    return {"name": name, **{word: int(size) for word, size in zip(rest[::2], rest[1::2])}}
+
+
+def value_in_json(kind, value, mask):
+    told = in_words(kind, value, mask)
+    if kind in TEXTS:
+        return value.decode()
+    if kind in (0x0009, 0x8001):
+        families = {"family": family(value)} if kind == 0x8001 else {}
+        return {**families, "code": 100 * value[2] + value[3], "reason": value[4:].decode()}
+    if kind == 0x000A:
+        return [number(value[i:i + 2]) for i in range(0, len(value), 2)]
+    if kind == 0x8002:
+        return [ALGORITHMS[number(value[i:i + 2])] for i in range(0, len(value), 4)]
+    if kind in (0x000D, 0x002A, 0x0024):
+        return number(value)
+    if kind == 0x000C:
+        return number(value[:2])
+    if kind == 0x0019:
+        return {"protocol": value[0], "name": {17: "UDP", 6: "TCP"}.get(value[0], "unknown")}
+    if kind == 0x8004:
+        return {"type": value[2], "code": value[3], "data": number(value[4:])}
+    if kind in (0x001A, 0x0025):
+        return None
+    return told if value else ""
+
+
+def attribute_in_json(kind, value, mask):
+    known = {"type": kind, "name": NAMES.get(kind, "unknown")}
+    try:
+        return {**known, "value": value_in_json(kind, value, mask)}
+    except Refused as why:
+        return {**known, "refused": refusal(why), "bytes": value.hex()}
+
+
 def rank(kind):
     return {0x0008: 1, 0x001C: 2, 0x3F12: 3, 0x8028: 4}.get(kind, 0)
 
@@ -309,6 +350,39 @@ def message(data, credentials):
     return lines
 
 
+def verdict_in_json(told):
+    """A verdict as an object: what validated it, or the refusal."""
+    word, _, rest = told.partition(" ")
+    return {"valid": rest} if word == "valid" else {"refused": refusal(rest)}
+
+
+def message_in_json(data, credentials):
+    known = {"kind": "message", "size": len(data)}
+    try:
+        shown, end = parsed(data)
+    except Refused as why:
+        return {**known, "refused": refusal(why)}
+    kind, mask = number(data[:2]), COOKIE + data[8:20]
+    method = kind & 0xF | kind >> 1 & 0x70 | kind >> 2 & 0xF80
+    known |= {
+        "class": CLASSES[kind >> 4 & 1 | kind >> 7 & 2],
+        "method": {"type": method, "name": METHODS.get(method, "unknown")},
+        "transaction_id": "0x" + data[8:20].hex(),
+        "attributes": [attribute_in_json(kind, value, mask) for _, kind, value in shown],
+        "behind": data[end:].hex(),
+        "fingerprint": any(kind == 0x8028 for _, kind, _ in shown),
+        "validation": None,
+    }
+    if credentials is not None:
+        last, known["integrity"] = "refused MissingAttribute 0x0008", []
+        for at, kind, value in shown:
+            if kind in INTEGRITY:
+                last = verdict(data, at, kind, value, credentials)
+                known["integrity"].append({"name": NAMES[kind], **verdict_in_json(last)})
+        known["validation"] = verdict_in_json(last)
+    return known
+
+
 def raw(data):
     start = f"raw {len(data)} bytes"
     if len(data) < 4:
@@ -333,24 +407,69 @@ def frame(data):
     return [start, *told]
 
 
-def stream(data, credentials):
-    """The messages and the padded channel frames at the front of a stream (RFC 8656, section 12.5)."""
-    lines, at = [f"stream {len(data)} bytes"], 0
+def raw_in_json(data):
+    known, told = {"kind": "raw", "size": len(data)}, raw(data)[1]
+    if told.startswith("refused "):
+        return {**known, "refused": refusal(told.removeprefix("refused "))}
+    size = number(data[2:4])
+    return {**known, "attribute": attribute_in_json(number(data[:2]), data[4:4 + size], COOKIE + bytes(12))}
+
+
+def frame_in_json(data):
+    known, told = {"kind": "frame", "size": len(data)}, frame(data)[1]
+    if told.startswith("refused "):
+        return {**known, "refused": refusal(told.removeprefix("refused "))}
+    end = 4 + number(data[2:4])
+    return {**known, "channel": number(data[:2]), "data": data[4:end].hex(), "behind": data[end:].hex()}
+
+
+def parts(data):
+    """The messages and the padded channel frames at the front of a stream (RFC 8656, section 12.5), each with
+    whether it is a frame; then what is left, and whether nothing can begin there."""
+    found, at = [], 0
     while True:
         rest = data[at:at + 8]
         is_frame = rest[:1] and rest[0] >> 6 == 1
         if not is_frame and not may_begin(rest):
-            return [*lines, f"broken {in_hex(data[at:])}"]
+            return found, data[at:], True
         size = 4 + padded(number(rest[2:4])) if is_frame else 20 + number(rest[2:4])
         if len(data) - at < max(size, 4 if is_frame else 20):
-            return [*lines, f"rest {in_hex(data[at:])}"]
-        whole = data[at:at + size]
-        lines += frame(whole) if is_frame else message(whole, credentials)
+            return found, data[at:], False
+        found.append((data[at:at + size], is_frame))
         at += size
 
 
+def stream(data, credentials):
+    found, left, is_broken = parts(data)
+    lines = [f"stream {len(data)} bytes"]
+    for whole, is_frame in found:
+        lines += frame(whole) if is_frame else message(whole, credentials)
+    return [*lines, f"{'broken' if is_broken else 'rest'} {in_hex(left)}"]
+
+
+def stream_in_json(data, credentials):
+    found, left, is_broken = parts(data)
+    frames = [frame_in_json(whole) if is_frame else message_in_json(whole, credentials) for whole, is_frame in found]
+    return {"kind": "stream", "size": len(data), "frames": frames, "broken" if is_broken else "rest": left.hex()}
+
+
+def in_text(known):
+    """An object on a line, as stun-inspect prints it: its members in the order of their names."""
+    return json.dumps(known, sort_keys=True, separators=(",", ":"), ensure_ascii=False)
+
+
+def described(word, data, credentials, is_json):
+    """What is printed of bytes that are read as this word says."""
+    if is_json:
+        how = {"message": message_in_json, "raw": raw_in_json, "frame": frame_in_json, "stream": stream_in_json}
+    else:
+        how = {"message": message, "raw": raw, "frame": frame, "stream": stream}
+    told = how[word](data, credentials) if word in ("message", "stream") else how[word](data)
+    return in_text(told) if is_json else "\n".join(told)
+
+
 def main():
-    credentials = None
+    credentials, is_json = None, sys.argv[1:] == ["--json"]
     for at, line in enumerate(sys.stdin.buffer.read().split(b"\n"), 1):
         if not line or line.startswith(b"#"):
             continue
@@ -368,13 +487,9 @@ def main():
             credentials = words[1:]
             continue
         if data is None:
-            print(f"bad trace: line {at}")
+            print(in_text({"refused": {"name": "BadLine", "line": at}}) if is_json else f"bad trace: line {at}")
             return 1
-        if words[0] in ("message", "stream"):
-            lines = (message if words[0] == "message" else stream)(data, credentials)
-        else:
-            lines = (raw if words[0] == "raw" else frame)(data)
-        print("\n".join(lines))
+        print(described(words[0], data, credentials, is_json))
     return 0
 
 

@@ -47,7 +47,7 @@ class Settings:
         self.account = name or "-", password or "-"
         self.transport, self.families, self.algorithms = "UDP", ("IPV4",), ("Sha1",)
         self.anonymity, self.is_hardened, self.attempts, self.waits = "Auto", False, None, None
-        self.believes_short, self.refused = False, []
+        self.believes_short, self.accepts_indications, self.refused = False, False, []
         self.lifetime, self.port, self.pace = 1800, "Any", 50 * MS
         self.words = []
         for it in changes:
@@ -63,6 +63,9 @@ class Settings:
             return
         if it in ("short", "long"):
             self.believes_short = it == "short"
+            return
+        if it in ("indications", "requests"):
+            self.accepts_indications = it == "indications"
             return
         kind, *given = it.split(" ")
         if kind in ("lifetime", "port", "pace"):
@@ -94,7 +97,8 @@ class Settings:
             self.lifetime = int(first)
 
     def told(self):
-        last = ["hardened"] * self.is_hardened + ["short"] * self.believes_short
+        last = ["indications"] * self.accepts_indications + ["hardened"] * self.is_hardened
+        last += ["short"] * self.believes_short
         last += [] if self.attempts is None else ["attempts", self.attempts]
         last += ["lifetime", self.lifetime] * (self.lifetime != 1800) + ["port", self.port] * (self.port != "Any")
         last += ["pace", self.pace] * (self.pace != 50 * MS)
@@ -478,6 +482,23 @@ def short_lived():
         row("settings", "user", "pass", *word.split(" "))("bad line")
 
 
+def announced():
+    part("settings with which indications announce connections equal their copy, and none with which they don't")
+    alone = settings("indications")
+    assert alone == [len(KEPT) - 1]
+    for others in (["hardened"], ["short"], ["attempts 64"], ["hardened", "short", "attempts 64"]):
+        assert settings("indications", *others) == [len(KEPT) - 1]
+    part("what was set last counts")
+    assert settings("requests", "indications")[:-1] == settings("indications", "indications")[:-2]
+    assert settings("indications", "requests") == settings()[:-1]
+    for others in (*([it] for it in OTHERS), OTHERS):
+        first, last = settings("indications", *others), settings(*others, "indications")
+        assert last[:-1] == first and not {*last} & {*settings(*others)}
+    part("words that mean no such change")
+    for word in ("Indications", "indications=true", "indications 1", "indication", "requests 0"):
+        row("settings", "user", "pass", *word.split(" "))("bad line")
+
+
 def asked_otherwise():
     part("settings that ask for another lifetime or port, or leave other time between messages")
     for change in ("lifetime 1", "lifetime 4294967295", "port even", "port pair", "port reserved 0",
@@ -513,7 +534,7 @@ def debugs():
 def main():
     for made in (
         no_settings, lists, kinds, agents, errors, payloads, sends, debugs, bad_lines, hardened, limited, short_lived,
-        asked_otherwise, requests,
+        announced, asked_otherwise, requests,
     ):
         made()
     write(CRATE)

@@ -20,7 +20,7 @@ import sys
 from traces_base import (
     ADDITIONAL_FAMILY, ALGORITHMS, ALLOCATE, BINDING, CLIENT, END, ERROR, FAMILY, INDICATION, MS, NAMED,
     NONCE, NONCES, OTHER, PASSWORD_ALGORITHM, PASSWORD_ALGORITHMS, REALM, REFRESH, REFUSED, RELAYED, SECOND,
-    SERVER, SHA1, SIXTH, STALE, SUCCESS, TOP, Trace, UDP, UNKNOWN, USERHASH, USERNAME, V6, challenge, code,
+    SERVER, SHA1, SIXTH, STALE, SUCCESS, TOP, Trace, UNKNOWN, USERHASH, USERNAME, V6, challenge, code,
     entries, error, first, grant, hashed, lifetime, message, number, refresh, relayed, setup, signed_allocate,
     stale, success, unsigned,
 )
@@ -568,6 +568,7 @@ def each_setting():
 def good_traces():
     # they take their words from this file
     from traces_address_limits import address_traces
+    from traces_attempt_indications import announced_traces, good_words
     from traces_attempt_limits import limited_traces
     from traces_attempt_timing import attempt_traces
     from traces_bound_connections import bound_traces
@@ -595,7 +596,8 @@ def good_traces():
         *refreshes_answered(), *short_traces(), stale_refresh(), stale_refresh_lost(), stale_deletion(),
         mismatched_deletion(), *each_setting(), *stranger_traces(), *address_traces(), *method_traces(),
         *permission_traces(), *channel_traces(), *payload_traces(), *stream_traces(), *connection_traces(),
-        *socket_traces(), *bound_traces(), *attempt_traces(), *limited_traces(), *unanswered_traces(),
+        *socket_traces(), *bound_traces(), *attempt_traces(), *limited_traces(), *announced_traces(),
+        *good_words(), *unanswered_traces(),
         *hardened_traces(honest_traces()), *cause_traces(),
     )
 
@@ -626,6 +628,8 @@ def bad_events(lines):
 
 def bad_traces():
     """A remark, lines, what is printed before the bad one, and its number."""
+    from traces_attempt_indications import bad_words
+
     rto = "rto 600 1000 3 3000\n"
     yield "An event of the client, and no client", "desk realm sha1 auto\ndraw 0\n", "", 3
     yield "An event, and no desk", MADE + "draw 0\n", "", 3
@@ -667,6 +671,8 @@ def bad_traces():
         ("behind the word that hardens it twice", "hardened hardened short"),
     ):
         yield f"A client that a REFRESH may shorten, with that word {remark}", f"{MADE[:-1]} {words}\n", "", 2
+    for remark, words in bad_words():
+        yield remark, f"{MADE[:-1]} {words}\n", "", 2
     yield "A client with the word that hardens it in the place of its seed", MADE[:-3] + " hardened\n", "", 2
     yield "A client with the word that hardens it before its seed", MADE[:-3] + " hardened 0\n", "", 2
     yield "A client over TCP with the word that hardens it twice", TCP[:-1] + " hardened hardened\n", "", 2

@@ -192,9 +192,9 @@ def unsigned(kind, k, attributes):
 
 def setup(
     families="4", algorithms="sha1", anonymity="auto", desk="sha1 auto", rto="", hardened=False, short=False,
-    attempts=None,
+    attempts=None, indications=False,
 ):
-    options = " hardened" * hardened + " short" * short + ("" if attempts is None else f" attempts {attempts}")
+    options = " indications" * indications + " hardened" * hardened + " short" * short + ("" if attempts is None else f" attempts {attempts}")
     return (
         f"desk realm {desk}\nuser user pass\n{rto}"
         f"client udp {CLIENT} {SERVER} udp {families} {algorithms} {anonymity} user pass 0{options}\n"

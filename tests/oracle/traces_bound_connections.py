@@ -391,9 +391,9 @@ def each_its_own():
     return "Three connections are bound in another order: each gives and sends its own bytes", t
 
 
-def of_both_families():
+def of_both_families(**how):
     """A client with an allocation over TCP of each family, and a permission in each, granted at 150 ms."""
-    t, both = over("tcp", families="4,6"), (ADDITIONAL_FAMILY, V6)
+    t, both = over("tcp", families="4,6", **how), (ADDITIONAL_FAMILY, V6)
     drawn = t.draw(0, message(ALLOCATE, number(0), [lifetime(1800), OVER_TCP, (DONT_FRAGMENT, b""), both]))
     t.comes(0, t.ask(0, f"@{drawn}", "refuse 400", challenge(0)), challenge(0))
     drawn = t.draw(50 * MS, message(ALLOCATE, number(1), [OVER_TCP, lifetime(1800), both, *HASHED], SHA1))

@@ -4,7 +4,7 @@
 from traces_base import (
     BINDING, CHANNEL_BIND, CREATE_PERMISSION, HASHED, MS, NAMED, OTHER, PASSWORD_ALGORITHM,
     PASSWORD_ALGORITHMS, REFRESH, RELAYED, SECOND, SHA1, SHA256, Trace, challenge, channel_bind,
-    create_permission, error, first, grant, hashed, lifetime, message, number, refresh, setup, stale,
+    create_permission, error, first, hashed, lifetime, message, number, refresh, setup, stale,
     success, unsigned,
 )
 from traces_channels import (

@@ -7,7 +7,7 @@ stands for 300 seconds, and a renewal of the channel doesn't renew it.
 
 from traces_base import (
     ADDITIONAL_FAMILY, ALLOCATE, CHANNEL_BIND, CREATE_PERMISSION, ERROR, HASHED, MS, OTHER, RELAYED, SECOND,
-    SUCCESS, Trace, V6, challenge, channel_bind, create_permission, error, first, grant, lifetime, number,
+    SUCCESS, Trace, V6, challenge, channel_bind, create_permission, error, first, grant, lifetime,
     relayed, setup, signed_allocate, success,
 )
 from traces_permissions import DUE, FORBIDDEN, LAPSE, OVER, PEER_6, RELAYED_6, RENEWAL, holding

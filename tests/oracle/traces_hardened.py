@@ -12,7 +12,7 @@ Who doesn't see the requests knows no transaction ID of theirs: what he sends is
 from traces_base import (
     ADDITIONAL_FAMILY, ALGORITHMS, ALLOCATE, CREATE_PERMISSION, ERROR, ERROR_CODE, HASHED, MS, NAMED, NONCE, NONCES,
     OTHER, PASSWORD_ALGORITHM, PASSWORD_ALGORITHMS, REALM, REFRESH, REFUSED, RELAYED, SECOND, SHA1, SHA256, STALE,
-    SUCCESS, USERNAME, V6, Trace, challenge, code, create_permission, entries, error, first, grant, hashed, lifetime,
+    SUCCESS, USERNAME, V6, Trace, challenge, code, create_permission, entries, first, grant, hashed, lifetime,
     message, number, refresh, relayed, setup, signed_allocate, stale, success, unsigned,
 )
 from traces_permissions import DUE, NAMED_ANEW, OTHER_NONCE, OVER, PEER_1, RENEWAL

@@ -10,14 +10,13 @@ import zlib
 
 from traces_base import (
     ALLOCATE, BINDING, CHANNEL_BIND, CLIENT, CREATE_PERMISSION, ERROR, INDICATION, MAGIC, MS, NONCE, PEER, REALM,
-    RELAYED, SECOND, SERVER, SHA1, SHA256, SUCCESS, UNKNOWN, USERNAME, LIFETIME, Trace, attribute, channel_bind,
+    RELAYED, SECOND, SERVER, SHA1, SHA256, SUCCESS, UNKNOWN, USERNAME, Trace, attribute, channel_bind,
     create_permission, error, lifetime, message, number, setup, success, xored,
 )
 from traces_channels import (
-    A, B, C, CHANNEL_LAPSE, ONE, ONE_IP, SIX, TWO, TWO_IP, bound, created, forbidden, lasting, of_both_families,
-    renewing,
+    A, B, C, CHANNEL_LAPSE, ONE, ONE_IP, SIX, TWO, bound, created, forbidden, lasting, of_both_families,
 )
-from traces_permissions import DUE, FORBIDDEN, LAPSE, PEER_1, PEER_2, PEER_3, PEER_6, RELAYED_6, RENEWAL, holding
+from traces_permissions import DUE, FORBIDDEN, LAPSE, PEER_1, PEER_2, PEER_3, PEER_6, RELAYED_6, holding
 
 SEND, DATA_METHOD = 0x006, 0x007
 TOLD = DATA_METHOD | INDICATION

@@ -140,7 +140,7 @@ static int32_t read_query(const char *text, turn_uri *uri)
     const bool is_turn = uri->scheme == TURN_URI_TURN || uri->scheme == TURN_URI_TURNS;
     if (text[0] == '\0')
         return TURN_URI_OK;
-    if (!is_turn || strncmp(text, name, sizeof name - 1) != 0)
+    if (!is_turn || strncasecmp(text, name, sizeof name - 1) != 0)
         return TURN_URI_BAD_QUERY;
     const char *value = text + sizeof name - 1;
     size_t size = 0;

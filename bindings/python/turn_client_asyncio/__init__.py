@@ -1,8 +1,10 @@
 """Datagrams (RFC 8656) and connections (RFC 6062) through a TURN server over asyncio, for turn_client.
 
-    transport, protocol = await create_turn_endpoint(Protocol, ("turn.example.org", 3478), ("alice", "secret"))
+    transport, protocol = await create_turn_endpoint(Protocol, "turn:turn.example.org", ("alice", "secret"))
     transport.sendto(b"hello", ("198.51.100.1", 9000))
     reader, writer = await open_turn_connection(("turn.example.org", 3478), ("alice", "secret"), ("198.51.100.1", 80))
+
+A server is a URI (RFC 7065), or a name or an IP address with a port.
 
 The transport is an asyncio.DatagramTransport, and the protocol an asyncio.DatagramProtocol: what peers send comes by
 datagram_received. There is no thread and no polling; a timer is set to when the client wants its next turn. Everything
@@ -27,6 +29,8 @@ from ._datagrams import WAITING_BYTES_MAX, WAITING_MAX, TurnTransport, create_tu
 from ._driver import CLOSE_PATIENCE
 from ._lines import UNSENT_MAX
 from ._errors import AllocationFailed, AllocationLost, PeerRefused, PeerUnreachable
+from ._uris import TurnUri, UriError, UriRefusal, UriScheme
 
 __all__ = ["CLOSE_PATIENCE", "UNSENT_MAX", "WAITING_BYTES_MAX", "WAITING_MAX", "AllocationFailed", "AllocationLost",
-           "PeerRefused", "PeerUnreachable", "TurnTransport", "create_turn_endpoint", "open_turn_connection"]
+           "PeerRefused", "PeerUnreachable", "TurnTransport", "TurnUri", "UriError", "UriRefusal", "UriScheme",
+           "create_turn_endpoint", "open_turn_connection"]

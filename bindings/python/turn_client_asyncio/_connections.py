@@ -16,7 +16,7 @@ from turn_client import (
 
 from ._driver import Credentials, Driver, reached, settings
 from ._errors import PeerRefused, why
-from ._lines import Line, Route, pair, route_to
+from ._lines import Line, Route, Server, pair, route_to
 
 CONNECT_PATIENCE = 30.0  # seconds that a connection to the server has, for one to a peer
 FLUSH_PATIENCE = 30.0    # seconds that the server has to close a connection which was closed here
@@ -221,12 +221,13 @@ class _PeerTransport(asyncio.Transport):
 
 
 async def open_turn_connection(
-    server: Address, credentials: Credentials, peer: Address, *, ssl: SSLContext | bool | None = None,
+    server: Server, credentials: Credentials, peer: Address, *, ssl: SSLContext | bool | None = None,
     server_hostname: str | None = None, local_addr: Address | None = None, follow: int = 0, limit: int = 65536,
 ) -> tuple[asyncio.StreamReader, asyncio.StreamWriter]:
     """Opens a connection over TCP to a peer through a TURN server (RFC 6062), as asyncio.open_connection does. What is
-    given, and what is raised, is as for create_turn_endpoint; PeerRefused also tells that the server can't connect to
-    the peer. `limit` is as in asyncio.open_connection.
+    given, and what is raised, is as for create_turn_endpoint; but turn:HOST is over TCP here, and a URI over UDP raises a
+    ValueError. PeerRefused also tells that the server can't connect to the peer. `limit` is as in
+    asyncio.open_connection.
 
     Each connection has a relayed address of its own, which is given back when it is closed: `await
     writer.wait_closed()` waits for that. Nobody else can connect to that address. There is no write_eof."""

@@ -17,7 +17,7 @@ from turn_client import (
 
 from ._driver import SECOND, Credentials, Driver, reached, settings
 from ._errors import PeerRefused, PeerUnreachable, why
-from ._lines import Line, Route, normal, pair, route_to
+from ._lines import Line, Route, Server, normal, pair, route_to
 
 WAITING_MAX = 256                # datagrams that wait for permissions, of all peers together
 WAITING_BYTES_MAX = 256 * 1024
@@ -291,27 +291,30 @@ class TurnTransport(Driver, asyncio.DatagramTransport):
 
 
 async def create_turn_endpoint(
-    protocol_factory: Callable[[], ProtocolT], server: Address, credentials: Credentials,
+    protocol_factory: Callable[[], ProtocolT], server: Server, credentials: Credentials,
     peer: Address | None = None, *, transport: Transport | None = None, ssl: SSLContext | bool | None = None,
     server_hostname: str | None = None, local_addr: Address | None = None, channels: bool = True, follow: int = 0,
 ) -> tuple[TurnTransport, ProtocolT]:
     """Gets a relayed address from a TURN server. Returns a transport and the protocol, whose connection_made was called
     with it, as loop.create_datagram_endpoint does.
 
-    server: its name or IP address, and its port, which for TLS often is 5349
+    server: its name or IP address, and its port, which for TLS often is 5349; or a URI (RFC 7065) as a text or a
+        TurnUri. turn:HOST is over UDP, turn:HOST?transport=tcp over TCP, turns:HOST over TLS, by default with what
+        ssl.create_default_context() returns
     credentials: the user's name and password; or a TurnConfig, which has them and more
     peer: an IP address and a port, to which alone datagrams go, and from which alone they come; for a peer of IPv6 the
         relayed address is one of IPv6. When this returns, it is permitted
-    transport: to the server, Transport.UDP or Transport.TCP; UDP unless ssl says otherwise
-    ssl, server_hostname: for TLS over TCP, as in loop.create_connection
+    transport: to the server, Transport.UDP or Transport.TCP; UDP unless ssl or a URI says otherwise
+    ssl, server_hostname: for TLS over TCP, as in loop.create_connection. Neither may contradict a URI
     local_addr: as there
     channels: False for peers to whom little is sent: then all goes in indications
     follow: how often in a row another server is asked, which a server names by a response 300. Such a response may be
         anybody's who can send from the server's address, except over TLS. A server that was asked isn't asked again
 
     AllocationFailed: the server gives no address (after 39.5 seconds, if it doesn't answer); PeerRefused: none for that
-    peer; OSError: the server can't be reached, or TLS fails; BadText, LongName, BadSetting, ValueError: what is given
-    can't be. To wait for less long, use asyncio.wait_for."""
+    peer; OSError: the server can't be reached, or TLS fails; UriError: the URI is none, or one of a STUN server or of
+    DTLS; BadText, LongName, BadSetting, ValueError: what is given can't be. To wait for less long, use
+    asyncio.wait_for."""
     to = None if peer is None else pair(peer)
     config, route = settings(credentials, to), route_to(server, transport, ssl, server_hostname, local_addr)
     if config.allocation_transport != Transport.UDP:

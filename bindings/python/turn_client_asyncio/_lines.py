@@ -6,11 +6,15 @@ import asyncio
 from dataclasses import dataclass, replace
 from functools import lru_cache
 from ssl import SSLContext
-from typing import Any, Protocol
+from typing import Any, Protocol, Union
 
 from turn_client import Address, Transport, _of_c, _to_c
 
+from ._uris import TurnUri, way_to
+
 UNSENT_MAX = 256 * 1024  # bytes that wait in a socket before the protocol is told to pause
+
+Server = Union[Address, str, TurnUri]  # a text is a URI
 
 
 # ---- addresses
@@ -143,8 +147,10 @@ class Route:
         return replace(self, server=server, server_hostname=name if self.ssl else None)
 
 
-def route_to(server: Address, transport: Transport | None, ssl: SSLContext | bool | None, server_hostname: str | None,
+def route_to(server: Server, transport: Transport | None, ssl: SSLContext | bool | None, server_hostname: str | None,
              local_addr: Address | None) -> Route:
+    if isinstance(server, (str, TurnUri)):
+        server, transport, ssl = way_to(TurnUri.parse(str(server)), transport, ssl)
     if ssl and transport == Transport.UDP:
         raise ValueError("ssl wants TCP to the server: there is no DTLS")
     if server_hostname is not None and not ssl:

@@ -112,6 +112,7 @@ pub struct TurnConfig {
     is_hardened: bool,
     max_connection_attempts: usize,
     short_lifetimes: bool,
+    attempt_indications: bool,
     requested_lifetime: u32,
     relayed_port: RelayedPort,
     pace: Duration,
@@ -138,6 +139,7 @@ impl TurnConfig {
             is_hardened: true,
             max_connection_attempts: 0,
             short_lifetimes: true,
+            attempt_indications: false,
             requested_lifetime: LIFETIME,
             relayed_port: RelayedPort::Any,
             pace: Duration::from_millis(PACE),
@@ -241,6 +243,22 @@ impl TurnConfig {
         self.short_lifetimes
     }
 
+    /// Sets whether a CONNECTION_ATTEMPT indication announces a connection that a peer opens (RFC
+    /// 6062, section 4.4), as coturn sends it. If not, which is so at first, only a signed request
+    /// of the server does. An indication has no signature, so whoever can write into the control
+    /// connection can make one, with any ID and any peer: see
+    /// [`allocated_tcp_socket`](crate::TurnClientApi::allocated_tcp_socket). If as many connections
+    /// wait for their socket as `set_max_connection_attempts` allows, or 64 if there is no limit,
+    /// one more is ignored.
+    pub fn set_attempt_indications(&mut self, are_accepted: bool) {
+        self.attempt_indications = are_accepted;
+    }
+
+    /// Whether indications announce connections of peers: not at first.
+    pub fn attempt_indications(&self) -> bool {
+        self.attempt_indications
+    }
+
     /// Sets the lifetime, in seconds, that each ALLOCATE and each REFRESH that renews an allocation
     /// asks for (RFC 8656, sections 7.1 and 8.1): 1800 at first, and 0 stands for that. The server
     /// decides.
@@ -324,6 +342,7 @@ impl TurnConfig {
             pace: told_pace(self.pace),
             port: told_port(self.relayed_port),
             reservation: told_reservation(self.relayed_port),
+            attempt_indications: u32::from(self.attempt_indications),
             ..sys::turn_settings::default()
         };
         if let Some(waits) = self.retransmits {

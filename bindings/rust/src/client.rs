@@ -443,7 +443,9 @@ pub trait TurnClientApi: HasHandle {
     }
 
     /// Tells the own address of the socket that was opened for a connection, by the number and the
-    /// peer that `poll` told; or `None`, that no socket was opened.
+    /// peer that `poll` told; or `None`, that no socket was opened. Of a connection that a peer
+    /// opens the server gets a response, if a signed request announced it; none if an indication
+    /// did. An announced peer may be refused by `None`.
     fn allocated_tcp_socket(
         &mut self,
         id: u32,

@@ -3,7 +3,7 @@
 use std::error::Error;
 use std::fmt;
 use std::io;
-use std::net::{Ipv6Addr, SocketAddr, ToSocketAddrs};
+use std::net::{Ipv4Addr, Ipv6Addr, SocketAddr, ToSocketAddrs};
 use std::str::FromStr;
 use std::vec::IntoIter;
 
@@ -14,6 +14,10 @@ pub const DEFAULT_PORT: u16 = 3478;
 
 /// The port of a server over TLS or DTLS, if a URI has none (RFC 8656, section 18).
 pub const DEFAULT_TLS_PORT: u16 = 5349;
+
+/// Bytes of a name without a dot at its end, and of one of its labels (RFC 1035, section 2.3.4).
+const HOST_MAX: usize = 253;
+const LABEL_MAX: usize = 63;
 
 /// The scheme of a URI.
 #[derive(Clone, Copy, Debug, PartialEq, Eq, Hash)]
@@ -170,7 +174,9 @@ pub enum UriError {
     UserInfo,
     /// It has no host.
     EmptyHost,
-    /// The host has a character that no name has. Names are in ASCII and not percent-encoded.
+    /// The host is no name and no IPv4 address. Names are in ASCII and not percent-encoded, have at
+    /// most 253 bytes in labels of 1 to 63, and their last label is no number: 127.1 isn't taken
+    /// for 127.0.0.1.
     Host,
     /// What is in brackets is no IPv6 address, or a bracket is missing. An address has no zone.
     Ipv6Address,
@@ -189,7 +195,7 @@ impl fmt::Display for UriError {
             Self::Slashes => "there is no // in these URIs",
             Self::UserInfo => "there is no user in these URIs",
             Self::EmptyHost => "there is no host",
-            Self::Host => "the host has a character that no name has",
+            Self::Host => "the host is no name and no IP address",
             Self::Ipv6Address => "what is in brackets is no IPv6 address",
             Self::Port => "the port is no number from 1 to 65535",
             Self::Query => "the query is no transport, or the server is a STUN server",
@@ -206,7 +212,7 @@ impl FromStr for TurnUri {
     type Err = UriError;
 
     /// Parses a URI by RFC 7065, section 3.1, or RFC 7064, section 3.1. Scheme and transport may be
-    /// in upper case. An empty port is none, as in RFC 3986.
+    /// in upper case. An empty port is none, as in RFC 3986. A dot at the end of a name is left out.
     fn from_str(text: &str) -> Result<Self, UriError> {
         let (scheme, rest) = text.split_once(':').ok_or(UriError::Scheme)?;
         let scheme = SCHEMES
@@ -253,11 +259,24 @@ fn host_and_port(authority: &str) -> Result<(String, Option<&str>), UriError> {
     if host.is_empty() {
         return Err(UriError::EmptyHost);
     }
-    let is_of_name = |it: u8| it.is_ascii_alphanumeric() || b"-._~".contains(&it);
-    if !host.bytes().all(is_of_name) {
+    let host = host.strip_suffix('.').unwrap_or(host);
+    if host.parse::<Ipv4Addr>().is_err() && !is_name(host) {
         return Err(UriError::Host);
     }
     Ok((host.to_string(), port))
+}
+
+/// Whether a text is a name. A system's resolver may take one whose last label is a number for an
+/// address.
+fn is_name(text: &str) -> bool {
+    let is_of_name = |it: u8| it.is_ascii_alphanumeric() || b"-_".contains(&it);
+    let is_label = |it: &str| (1..=LABEL_MAX).contains(&it.len()) && it.bytes().all(is_of_name);
+    let is_number = |it: &str| match it.strip_prefix("0x").or(it.strip_prefix("0X")) {
+        Some(digits) => digits.bytes().all(|it| it.is_ascii_hexdigit()),
+        None => it.bytes().all(|it| it.is_ascii_digit()),
+    };
+    let last = text.rsplit('.').next().unwrap_or_default();
+    text.len() <= HOST_MAX && text.split('.').all(is_label) && !is_number(last)
 }
 
 /// A port; `None` for an empty text.

@@ -89,6 +89,33 @@ fn hosts_and_ports_of_rfc_3986() {
     assert_eq!(parsed("turn:192.0.2.1:1").to_string(), "turn:192.0.2.1:1");
 }
 
+/// Names of 253 and 254 bytes, and labels of 63 and 64 (RFC 1035, section 2.3.4). Names that have
+/// digits, and a dot at the end.
+#[test]
+fn names() {
+    let name = format!("{}aaa", format!("{}.", "a".repeat(49)).repeat(5));
+    assert_eq!(parsed(&format!("turn:{name}")).host(), name);
+    assert_eq!(parsed(&format!("turn:{name}.")).host(), name);
+    let longer = format!("turn:{name}a").parse::<TurnUri>();
+    assert_eq!(longer, Err(UriError::Host));
+    let label = |size: usize| format!("turn:{}.org", "a".repeat(size)).parse::<TurnUri>();
+    assert!(label(63).is_ok());
+    assert_eq!(label(64), Err(UriError::Host));
+    for host in [
+        "1.example",
+        "example.org1",
+        "localhost",
+        "a_b.example",
+        "0xg",
+    ] {
+        assert_eq!(parsed(&format!("turn:{host}")).host(), host);
+    }
+    assert_eq!(
+        parsed("turn:example.org.:1").to_string(),
+        "turn:example.org:1"
+    );
+}
+
 #[test]
 fn addresses_are_resolved_with_the_port() {
     let resolved =
@@ -119,11 +146,24 @@ fn each_refusal_has_a_name() {
         ("turn:example.org/path", UriError::Host),
         ("turn:ex%61mple.org", UriError::Host),
         ("turn:bücher.example", UriError::Host),
+        ("turn:example.org#part", UriError::Host),
+        ("turn:example!org", UriError::Host),
+        ("turn:example~org", UriError::Host),
+        ("turn:.", UriError::Host),
+        ("turn:example..org", UriError::Host),
+        ("turn:.example.org", UriError::Host),
+        ("turn:256.0.2.1", UriError::Host),
+        ("turn:192.0.2", UriError::Host),
+        ("turn:127.1", UriError::Host),
+        ("turn:2130706433", UriError::Host),
+        ("turn:0x7f000001", UriError::Host),
         ("turn:[2001:db8::1", UriError::Ipv6Address),
         ("turn:[192.0.2.1]", UriError::Ipv6Address),
         ("turn:[fe80::1%25eth0]", UriError::Ipv6Address),
         ("turn:[::1]3478", UriError::Ipv6Address),
-        ("turn:2001:db8::1", UriError::Port),
+        ("turn:[v1.fe]", UriError::Ipv6Address),
+        ("turn:2001:db8::1", UriError::Host),
+        ("turn:abcd:db8::1", UriError::Port),
         ("turn:example.org:0", UriError::Port),
         ("turn:example.org:65536", UriError::Port),
         ("turn:example.org:+1", UriError::Port),

@@ -78,7 +78,7 @@ pub(crate) fn push_value(
 /// # Errors
 ///
 /// - The errors of the type's own `from_raw`. Nothing is appended then.
-fn push_read(
+pub(crate) fn push_read(
     alloc: Global,
     text: &mut String,
     raw: &RawAttribute<'_>,
@@ -116,7 +116,7 @@ fn push_text(text: &mut String, raw: &RawAttribute<'_>) -> Result<bool, StunPars
 
 /// Returns the maximum length in bytes of the text of an attribute, or `None` if its type contains
 /// no text.
-fn longest_text(atype: AttributeType) -> Option<usize> {
+pub(crate) fn longest_text(atype: AttributeType) -> Option<usize> {
     match atype {
         Username::TYPE => Some(Username::MAX_LEN),
         Realm::TYPE => Some(Realm::MAX_LEN),

@@ -27,7 +27,7 @@ impl fmt::Display for Refusal {
 }
 
 /// Returns the name of an error.
-fn error_name(error: StunParseError) -> &'static str {
+pub(crate) fn error_name(error: StunParseError) -> &'static str {
     match error {
         StunParseError::NotStun => "NotStun",
         StunParseError::Truncated { .. } => "Truncated",

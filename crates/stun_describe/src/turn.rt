@@ -138,7 +138,7 @@ fn push_family_error(
 }
 
 /// Returns the name of an address family.
-fn family_name(family: AddressFamily) -> &'static str {
+pub(crate) fn family_name(family: AddressFamily) -> &'static str {
     match family {
         AddressFamily::IPV4 => "IPv4",
         AddressFamily::IPV6 => "IPv6",

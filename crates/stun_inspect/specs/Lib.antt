@@ -1,2 +1,3 @@
 pub mod InspectLines
 pub mod Printed
+pub mod StreamParts

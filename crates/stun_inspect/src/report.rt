@@ -5,18 +5,24 @@ ghost use Rattle.std.specs.List.{AllByRecursion};
 ghost use Rattle.line_io.specs.Cut.{lines_of};
 ghost use Rattle.line_io.specs.Input.{TakesAll, TakesAtMost, TakesLines};
 ghost use Rattle.stun_inspect.specs.InspectLines.{IsReadable};
-ghost use Rattle.stun_inspect.specs.Printed.{Prints, PrintsText};
+ghost use Rattle.line_io.specs.Stop.{status_of};
+ghost use Rattle.std.specs.Io.KnownBytes.{Appends};
+ghost use Rattle.stun_inspect.specs.Printed.{Prints, PrintsText, last_text};
 
+use crate::arguments::Form;
 use crate::line::{Line, read_line};
 use crate::message::{push_message, push_raw};
-use crate::stream::{push_frame, push_stream};
+use crate::stop_object::print_stop_object;
+use crate::stream::{push_frame, push_stream, stream_object};
 use line_io::cut::{cut_line, is_skipped};
 use line_io::input::{InputError, MAX_INPUT, read_input};
 use line_io::status::Status;
 use line_io::stop::{Stop, flush, print_stop, stop_at};
+use serde_json::Value;
 use std::alloc::Global;
 use std::io::{Read, Write};
 use stun_describe::names::names;
+use stun_describe::object::{frame_object, message_object, raw_object};
 use stun_types_base::memory::NoMemory;
 use stun_types_integrity::credentials::{
     LongTermCredentials, MessageIntegrityCredentials, ShortTermCredentials,
@@ -31,8 +37,14 @@ use stun_types_wire::names::Names;
 /// - `no memory` if an allocation failed.
 /// - `read fault` if the input can't be read or is too long.
 ///
-/// After a failed write nothing more is printed.
-pub(crate) fn inspect<I: Read, O: Write>(alloc: Global, input: &mut I, output: &mut O) -> Status
+/// In JSON it is an object with the reason: `BadLine` and the line's number, `NoMemory` or
+/// `ReadFault`. After a failed write nothing more is printed.
+pub(crate) fn inspect<I: Read, O: Write>(
+    alloc: Global,
+    form: Form,
+    input: &mut I,
+    output: &mut O,
+) -> Status
     // At most one byte more than the maximum length of an input is read.
     ensures taken { TakesAtMost (MAX_INPUT + 1) (I.remaining input.old) (I.remaining input.new) }
     // If the input was read, it is everything that the reader had.
@@ -41,17 +53,31 @@ pub(crate) fn inspect<I: Read, O: Write>(alloc: Global, input: &mut I, output: &
     // If it ends well, each line can be read, or is blank or a comment.
     ensures done { result ≡ Status.Done → TakesLines IsReadable (I.remaining input.old)
         (I.remaining input.new) }
-    ensures printed { Prints result (O.contents output.old) (O.contents output.new) }
+    ensures printed { Prints (last_text form) result (O.contents output.old)
+        (O.contents output.new) }
 {
-    match inspect_input(alloc, input, output) {
+    match inspect_input(alloc, form, input, output) {
         Ok(()) => flush(output, Status::Done),
-        Err(stop) => print_stop(output, stop),
+        Err(stop) => print_last(form, output, stop),
+    }
+}
+
+/// Prints why a program stopped, and returns its status, or `Fault` if printing fails.
+fn print_last<O: Write>(form: Form, output: &mut O, stop: Stop) -> Status
+    ensures status { result ≢ Status.Fault → result ≡ status_of stop }
+    ensures printed { result ≢ Status.Fault → Appends (O.contents output.old)
+        (O.contents output.new) (last_text form stop) }
+{
+    match form {
+        Form::Text => print_stop(output, stop),
+        Form::Json => print_stop_object(output, stop),
     }
 }
 
 /// Reads a whole input, and describes the bytes of its lines.
 fn inspect_input<I: Read, O: Write>(
     alloc: Global,
+    form: Form,
     input: &mut I,
     output: &mut O,
 ) -> Result<(), Stop>
@@ -64,7 +90,7 @@ fn inspect_input<I: Read, O: Write>(
         → PrintsText (O.contents output.old) (O.contents output.new) }
 {
     match read_input(alloc, input) {
-        Ok(text) => inspect_text(alloc, text.as_slice(), output),
+        Ok(text) => inspect_text(alloc, form, text.as_slice(), output),
         Err(InputError::NoMemory) => Err(Stop::NoMemory),
         Err(InputError::Fault) => Err(Stop::Unread),
     }
@@ -74,6 +100,7 @@ fn inspect_input<I: Read, O: Write>(
 #[derive(Drop)]
 struct Inspector {
     alloc: Global,
+    form: Form,
     names: Names,
     /// The credentials of the last line that contained some.
     credentials: Option<MessageIntegrityCredentials>,
@@ -81,9 +108,10 @@ struct Inspector {
 
 impl Inspector {
     /// Returns the state before the first line.
-    fn new(alloc: Global) -> Result<Inspector, NoMemory> {
+    fn new(alloc: Global, form: Form) -> Result<Inspector, NoMemory> {
         Ok(Inspector {
             alloc,
+            form,
             names: names(alloc)?,
             credentials: None,
         })
@@ -108,18 +136,44 @@ impl Inspector {
             Line::Password(password) => {
                 self.credentials = Some(credentials_of_password(self.alloc, password)?)
             }
-            Line::Message(bytes) => {
-                let (credentials, names) = (self.credentials.as_ref(), &self.names);
-                push_message(self.alloc, text, bytes.as_slice(), credentials, names)?;
-            }
-            Line::Raw(bytes) => push_raw(self.alloc, text, bytes.as_slice(), &self.names)?,
-            Line::Frame(bytes) => push_frame(self.alloc, text, bytes.as_slice())?,
-            Line::Stream(bytes) => {
-                let (credentials, names) = (self.credentials.as_ref(), &self.names);
-                push_stream(self.alloc, text, bytes.as_slice(), credentials, names)?;
-            }
+            _ => match self.form {
+                Form::Text => self.push_text(text, line)?,
+                Form::Json => {
+                    let object = self.object(line)?.to_string(self.alloc)?;
+                    writeln!(text, "{object}")?;
+                }
+            },
         }
         Ok(())
+    }
+
+    /// Appends the description of a line's bytes, one fact a line.
+    fn push_text(&self, text: &mut String, line: &Line<'_>) -> Result<(), NoMemory> {
+        let (alloc, credentials, names) = (self.alloc, self.credentials.as_ref(), &self.names);
+        match line {
+            Line::Message(bytes) => push_message(alloc, text, bytes.as_slice(), credentials, names),
+            Line::Raw(bytes) => push_raw(alloc, text, bytes.as_slice(), names),
+            Line::Frame(bytes) => push_frame(alloc, text, bytes.as_slice()),
+            Line::Stream(bytes) => push_stream(alloc, text, bytes.as_slice(), credentials, names),
+            Line::User { .. } | Line::Password(_) => Ok(()),
+        }
+    }
+
+    /// Returns the description of a line's bytes, as an object.
+    fn object(&self, line: &Line<'_>) -> Result<Value, NoMemory> {
+        let (alloc, credentials, names) = (self.alloc, self.credentials.as_ref(), &self.names);
+        match line {
+            Line::Message(bytes) => Ok(Value::Object(message_object(
+                alloc,
+                bytes.as_slice(),
+                credentials,
+                names,
+            )?)),
+            Line::Raw(bytes) => raw_object(alloc, bytes.as_slice(), names),
+            Line::Frame(bytes) => Ok(Value::Object(frame_object(alloc, bytes.as_slice())?)),
+            Line::Stream(bytes) => stream_object(alloc, bytes.as_slice(), credentials, names),
+            Line::User { .. } | Line::Password(_) => Ok(Value::Null),
+        }
     }
 }
 
@@ -148,12 +202,17 @@ fn credentials_of_password(
 }
 
 /// Describes the bytes of the lines of a text.
-fn inspect_text<O: Write>(alloc: Global, text: &[u8], output: &mut O) -> Result<(), Stop>
+fn inspect_text<O: Write>(
+    alloc: Global,
+    form: Form,
+    text: &[u8],
+    output: &mut O,
+) -> Result<(), Stop>
     ensures read { OnOk result (AllByRecursion IsReadable (lines_of text.now)) }
     ensures printed { result ≢ Err Stop.Unwritten
         → PrintsText (O.contents output.old) (O.contents output.new) }
 {
-    let Ok(mut inspector) = Inspector::new(alloc) else {
+    let Ok(mut inspector) = Inspector::new(alloc, form) else {
         return Err(Stop::NoMemory);
     };
     let mut rest = text;

@@ -30,7 +30,7 @@ pub begins : (s : Setting) (config : Config) (w : World) (k : ClientState) → L
 begins s config w k law config_is auth_is there started open_is short =
     let l : Law (stream_config_of s) = subst Law config_is law in
     let new = subst (λ (c : Config). IsNew Tcp s.here s.server c (replicate 32 0) k.core) config_is started in
-    l Tcp s.here s.server (replicate 32 0) 0 SECOND k.core w (there ∙ ap (λ (c : Control). Some (over c k.core)) open_is) new short (record { lifetime = refl; pace = refl })
+    l Tcp s.here s.server (replicate 32 0) 0 SECOND k.core w (there ∙ ap (λ (c : Control). Some (over c k.core)) open_is) new short (record { lifetime = refl; pace = refl; indications = refl })
     (ap (λ (a : Server). map.get a.clients s.here) auth_is ∙ map.get-empty socket_addr_cmp s.here)
     (ap (λ (a : Server). map.get a.users s.name.now) auth_is ∙ put_user s.name.now s.password.now)
     (differ w.desk.auth s.name.now s.password.now (ap (λ (a : Server). a.users) auth_is))

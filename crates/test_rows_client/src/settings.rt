@@ -59,6 +59,8 @@ fn change(line: &mut Line<'_>, config: &mut TurnConfig) {
         "unlimited" => config.set_max_connection_attempts(None),
         "short" => config.set_short_lifetimes(true),
         "long" => config.set_short_lifetimes(false),
+        "indications" => config.set_attempt_indications(true),
+        "requests" => config.set_attempt_indications(false),
         "lifetime" => ask_lifetime(line, config),
         "port" => config.set_relayed_port(port(line)),
         "pace" => config.set_pace(line.duration()),
@@ -98,9 +100,9 @@ fn sign(line: &mut Line<'_>, config: &mut TurnConfig, word: &str) {
     }
 }
 
-/// Prints settings, `hardened` if they are, `short` if a REFRESH may shorten an allocation,
-/// `attempts` with the limit if they have one, and what differs of what an ALLOCATE asks for and of
-/// the pace.
+/// Prints settings, `indications` if these announce connections of peers, `hardened` if the client
+/// is, `short` if a REFRESH may shorten an allocation, `attempts` with the limit if they have one,
+/// and what differs of what an ALLOCATE asks for and of the pace.
 fn show(line: &mut Line<'_>, config: &TurnConfig) {
     line.say_text(config.credentials().username());
     line.say_text(config.credentials().password());
@@ -113,17 +115,25 @@ fn show(line: &mut Line<'_>, config: &TurnConfig) {
     }
     let anonymity = config.anonymous_username();
     let _ = write!(line.answer, " {anonymity:?}");
+    show_kinds(line, config);
+    if let Some(limit) = config.max_connection_attempts() {
+        line.say(&"attempts");
+        line.say(&limit);
+    }
+    show_options(line, config);
+}
+
+/// Prints `indications`, `hardened` and `short`, each if it is set.
+fn show_kinds(line: &mut Line<'_>, config: &TurnConfig) {
+    if config.attempt_indications() {
+        line.say(&"indications");
+    }
     if config.is_hardened() {
         line.say(&"hardened");
     }
     if config.short_lifetimes() {
         line.say(&"short");
     }
-    if let Some(limit) = config.max_connection_attempts() {
-        line.say(&"attempts");
-        line.say(&limit);
-    }
-    show_options(line, config);
 }
 
 /// Prints `lifetime`, `port` and `pace` (in nanoseconds), each if it isn't that of new settings.

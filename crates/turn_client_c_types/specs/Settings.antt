@@ -22,7 +22,7 @@ use Rattle.turn_client_c_types.specs.declared.settings.TurnSettings.{TurnSetting
 
 -- The size of the settings in bytes.
 abbrev pub settings_size : ℕ
-settings_size = 120
+settings_size = 128
 
 -- The settings state this size.
 abbrev pub has_size : TurnSettings → Bool
@@ -47,7 +47,8 @@ both_of _ _ = None
 unfoldable pub transports_of : TurnSettings → Option (TransportType × TransportType)
 transports_of s =
     if nat_lt 3 s.families || (nat_lt 7 s.integrity || (nat_lt 2 s.anonymous
-    || (nat_lt 1 s.compatible || (nat_lt 1 s.ignore_short_lifetimes || nat_lt 3 s.port)))) then None
+    || (nat_lt 1 s.compatible || (nat_lt 1 s.ignore_short_lifetimes || (nat_lt 3 s.port
+    || nat_lt 1 s.attempt_indications))))) then None
     else both_of (transport_set s.transport) (transport_set s.peers)
 
 -- The requested families, by the bits of families; by default IPv4.
@@ -140,6 +141,7 @@ config_of s peers user = record (default_config user) {
   hardened = not (s.compatible == 1);
   max_connection_attempts = attempts_of s;
   short_lifetimes = short_lifetimes_of s;
+  attempt_indications = s.attempt_indications == 1;
   options = options_of s (default_config user).options;
   pace = pace_of s (default_config user).pace;
   waits = waits_of s (default_config user).waits;

@@ -62,6 +62,9 @@ const NO_PACE: u32 = u32::MAX;
 /// The limit on connections of peers of a hardened client that states none.
 const DEFAULT_ATTEMPTS: usize = 64;
 
+/// Indications announce connections of peers.
+const ACCEPTS_INDICATIONS: u32 = 1;
+
 /// The size of the settings, in bytes.
 const SETTINGS_SIZE: usize = size_of::<TurnSettings>();
 
@@ -118,6 +121,9 @@ pub struct TurnSettings {
     pub port: u32,
     /// The token of a reserved port (RFC 8656, section 18.10).
     pub reservation: u64,
+    /// 1: CONNECTION_ATTEMPT indications announce connections of peers
+    /// (`TurnConfig::set_attempt_indications`). 0: they don't.
+    pub attempt_indications: u32,
 }
 
 /// The seed of the generator of a client's transaction IDs.
@@ -179,6 +185,7 @@ impl TurnSettings {
             || self.compatible > COMPATIBLE
             || self.ignore_short_lifetimes > IGNORES_SHORT_LIFETIMES
             || self.port > PORT_RESERVED
+            || self.attempt_indications > ACCEPTS_INDICATIONS
         {
             return None;
         }
@@ -212,6 +219,7 @@ impl TurnSettings {
         config.set_hardened(self.compatible != COMPATIBLE);
         config.set_max_connection_attempts(self.attempts());
         config.set_short_lifetimes(self.short_lifetimes());
+        config.set_attempt_indications(self.attempt_indications == ACCEPTS_INDICATIONS);
         self.set_options(&mut config);
         self.set_pace(&mut config);
         self.set_waits(&mut config);

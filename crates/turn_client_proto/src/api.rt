@@ -300,9 +300,9 @@ pub trait TurnClientApi: Debug + Send {
     /// - With a socket, the client requests over it that the connection be bound. The server may
     ///   respond within 39.5 seconds.
     /// - Without a socket, the connection is forgotten.
-    /// - If the peer began the connection, the client first responds to the server's
-    ///   CONNECTION_ATTEMPT (section 4.4): with a success, or without a socket with error 447,
-    ///   Connection Timeout or Failure.
+    /// - If a CONNECTION_ATTEMPT request of the server announced the connection (section 4.4), the
+    ///   client first responds to it: with a success, or without a socket with error 447, Connection
+    ///   Timeout or Failure.
     /// - A socket with the own address of the client's connection to the server is accepted. What
     ///   arrives there then no longer belongs to that connection.
     ///
@@ -510,6 +510,10 @@ pub trait TurnClientApi: Debug + Send {
     ///
     /// `poll_transmit` returns these responses without the pause between two messages.
     ///
+    /// A CONNECTION_ATTEMPT indication, which nobody signs, is ignored unless the settings accept
+    /// such (`TurnConfig::set_attempt_indications`). If they do, 3. applies to it without a
+    /// response, and in the other cases nothing changes.
+    ///
     /// # Out of memory
     ///
     /// `NoMemory` returns the bytes; the client has failed. Memory is needed only to store or
@@ -522,7 +526,7 @@ pub trait TurnClientApi: Debug + Send {
     ///   to close a socket.
     ///
     /// So `NoMemory` is never returned for a datagram of another host, for bytes that are no
-    /// message, for an indication, or for any message to a client that has sent nothing or has
+    /// message, for another indication, or for any message to a client that has sent nothing or has
     /// ended.
     fn recv<T: AsSlice<u8> + Debug + Drop>(
         &mut self,

@@ -28,7 +28,8 @@ pub struct Waiting {
     pub peer: SocketAddr,
     /// Whether the caller was requested to open the socket.
     pub is_requested: bool,
-    /// The transaction ID of the server's CONNECTION_ATTEMPT, if the peer initiated the connection.
+    /// The transaction ID of the server's CONNECTION_ATTEMPT request, if one announced the
+    /// connection: its response is due once there is a socket.
     pub attempt: Option<TransactionId>,
 }
 

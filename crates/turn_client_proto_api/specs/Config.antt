@@ -17,8 +17,8 @@ use Rattle.turn_client_proto_api.specs.declared.options.AllocateOptions.{Allocat
 -- The settings: the user's name and password; the transport of the requested allocation, and the families of
 -- its addresses, in order; the supported integrity algorithms, in order; whether the name is hidden; whether the
 -- client is hardened; how many connections may wait while it accepts a further one of a peer; whether a REFRESH
--- may shorten an allocation; what an ALLOCATE asks for besides; the least time between two messages, in
--- nanoseconds; and how long a request waits for its response.
+-- may shorten an allocation; whether indications may announce connections of peers; what an ALLOCATE asks for
+-- besides; the least time between two messages, in nanoseconds; and how long a request waits for its response.
 pub record Config : Type 0 where
   pub credentials : NameAndPassword
   pub transport : TransportType
@@ -28,13 +28,14 @@ pub record Config : Type 0 where
   pub hardened : Bool
   pub max_connection_attempts : Option ℕ
   pub short_lifetimes : Bool
+  pub attempt_indications : Bool
   pub options : AllocateOptions
   pub pace : ℕ
   pub waits : Waits
 
 -- The settings of a new client: an allocation over UDP, of one IPv4 address; `Sha1`; the name is hidden if the
--- server supports it; not hardened; no limit on connections of peers; no REFRESH shortens an allocation; half
--- an hour, and any port; 50 ms between two messages; the waits of a new agent.
+-- server supports it; not hardened; no limit on connections of peers, and no indication announces one; no
+-- REFRESH shortens an allocation; half an hour, and any port; 50 ms between two messages; the waits of a new agent.
 abbrev pub default_config : NameAndPassword → Config
 default_config credentials = record {
   credentials = credentials;
@@ -45,6 +46,7 @@ default_config credentials = record {
   hardened = false;
   max_connection_attempts = None;
   short_lifetimes = false;
+  attempt_indications = false;
   options = default_options;
   pace = cadence;
   waits = default_waits;

@@ -49,6 +49,7 @@ pub struct TurnConfig {
     hardened: bool,
     max_connection_attempts: Option<usize>,
     short_lifetimes: bool,
+    attempt_indications: bool,
     options: AllocateOptions,
     pace: Duration,
     waits: Option<SetWaits>,
@@ -73,6 +74,7 @@ impl Model for TurnConfig {
       hardened = c.hardened;
       max_connection_attempts = c.max_connection_attempts;
       short_lifetimes = c.short_lifetimes;
+      attempt_indications = c.attempt_indications;
       options = c.options;
       pace = as_nanos c.pace;
       waits = waits_of c.waits;
@@ -83,9 +85,9 @@ impl TurnConfig {
     /// Creates the settings of a client with these credentials, which it takes. They request an
     /// allocation over UDP of one IPv4 address, with `Sha1` as the only algorithm. The name is
     /// hidden if the server supports it. The client is not hardened, any number of connections that
-    /// peers open may wait, and no REFRESH shortens an allocation. It asks for a lifetime of half an
-    /// hour and for any port, and leaves 50 ms between two messages. The waits are those of a new
-    /// agent.
+    /// peers open may wait, indications announce none, and no REFRESH shortens an allocation. It asks
+    /// for a lifetime of half an hour and for any port, and leaves 50 ms between two messages. The
+    /// waits are those of a new agent.
     pub fn new(credentials: TurnCredentials) -> TurnConfig
         ensures { result ≡ default_config credentials }
     {
@@ -98,6 +100,7 @@ impl TurnConfig {
             hardened: false,
             max_connection_attempts: None,
             short_lifetimes: false,
+            attempt_indications: false,
             options: AllocateOptions::new(),
             pace: Duration::from_millis(PACE),
             waits: None,
@@ -123,6 +126,7 @@ impl TurnConfig {
             hardened: self.hardened,
             max_connection_attempts: self.max_connection_attempts,
             short_lifetimes: self.short_lifetimes,
+            attempt_indications: self.attempt_indications,
             options: self.options,
             pace: self.pace,
             waits: self.waits,
@@ -310,6 +314,36 @@ impl TurnConfig {
         self.short_lifetimes = is_believed;
     }
 
+    /// Returns whether connections of peers may be announced by indications
+    /// (`set_attempt_indications`).
+    pub fn attempt_indications(&self) -> bool
+        ensures { result ≡ self.now.attempt_indications }
+    {
+        self.attempt_indications
+    }
+
+    /// Sets whether a CONNECTION_ATTEMPT indication announces a connection that a peer opened (RFC
+    /// 6062, sections 4.4 and 5.4), as servers send it that follow that RFC. Off in new settings:
+    /// then only a signed CONNECTION_ATTEMPT request does.
+    ///
+    /// An indication has no signature, so anybody who can write into the control connection can
+    /// make one, with any connection ID and peer. A connection counts as bound only once the
+    /// server's signed response to CONNECTION_BIND has accepted its ID; that the server really
+    /// announced it, and that its peer is the one that was named, isn't known.
+    ///
+    /// An indication is ignored
+    ///
+    /// - if the allocation isn't over TCP, or no allocation has the peer's address family;
+    /// - if it has no CONNECTION-ID or no XOR-PEER-ADDRESS;
+    /// - if the allocation has a connection to the peer, or one that waits for its socket;
+    /// - if as many connections wait for their socket in the allocation as
+    ///   `set_max_connection_attempts` allows; without a limit, 64.
+    pub fn set_attempt_indications(&mut self, are_accepted: bool)
+        ensures { self.new ≡ record self.old { attempt_indications = are_accepted } }
+    {
+        self.attempt_indications = are_accepted;
+    }
+
     /// Returns what an ALLOCATE asks for besides transport and families.
     pub fn allocate_options(&self) -> AllocateOptions
         ensures { result ≡ self.now.options }
@@ -464,6 +498,7 @@ impl PartialEq for TurnConfig {
             && self.hardened == other.hardened
             && is_same_limit(self.max_connection_attempts, other.max_connection_attempts)
             && self.short_lifetimes == other.short_lifetimes
+            && self.attempt_indications == other.attempt_indications
             && self.options == other.options
             && self.pace.as_nanos() == other.pace.as_nanos()
             && is_same(self.waits, other.waits)

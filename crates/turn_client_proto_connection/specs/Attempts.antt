@@ -7,6 +7,7 @@ use Rattle.turn_client_proto_allocation.specs.Changes.{without_first}
 use Rattle.turn_client_proto_allocation.specs.declared.allocation.Allocation.{Allocation}
 use Rattle.turn_client_proto_allocation.specs.declared.connection.Waiting.{Waiting}
 use Rattle.turn_client_proto_connection.specs.Asking.{is_joined_to, is_waiting_for}
+use Rattle.turn_client_proto_connection.specs.Reported.{waiting_for}
 use Rattle.turn_client_proto_connection.specs.Sockets.{awaits_socket, is_socket_for}
 
 -- The allocation has a data connection to the peer or one that waits for a socket. An outstanding CONNECT
@@ -14,7 +15,7 @@ use Rattle.turn_client_proto_connection.specs.Sockets.{awaits_socket, is_socket_
 unfoldable pub is_joining : SocketAddr → Allocation → Bool
 is_joining peer a = list_any (is_joined_to peer) a.connections || list_any (is_waiting_for peer) a.waiting
 
--- A connection that a peer initiated and the server announced by a CONNECTION_ATTEMPT. Its socket is not
+-- A connection that a peer initiated and the server announced by a CONNECTION_ATTEMPT request. Its socket is not
 -- requested from the caller yet.
 abbrev pub attempt_by : (connection : ℕ) → SocketAddr → (transaction_id : ℕ) → Waiting
 attempt_by connection peer transaction_id = record { connection = connection; peer = peer; is_requested = false; attempt = Some transaction_id }
@@ -23,8 +24,13 @@ attempt_by connection peer transaction_id = record { connection = connection; pe
 abbrev pub attempted : (connection : ℕ) → SocketAddr → (transaction_id : ℕ) → Allocation → Allocation
 attempted connection peer transaction_id a = record a { waiting = a.waiting ++ attempt_by connection peer transaction_id ∷ [] }
 
--- The transaction ID of the CONNECTION_ATTEMPT that announced the waiting connection with this connection ID
--- to this peer, or `None` if the client requested it: in a list, in an allocation, and in all.
+-- The allocation with one more that an indication announced: no response to it is due.
+abbrev pub offered : (connection : ℕ) → SocketAddr → Allocation → Allocation
+offered connection peer a = record a { waiting = a.waiting ++ waiting_for connection peer ∷ [] }
+
+-- The transaction ID of the CONNECTION_ATTEMPT request that announced the waiting connection with this connection
+-- ID to this peer, or `None` if the client requested it or an indication announced it: in a list, in an
+-- allocation, and in all.
 abbrev pub attempt_among : (connection : ℕ) → SocketAddr → List Waiting → Option ℕ
 attempt_among connection peer waiting = option_and_then (λ (w : Waiting). w.attempt) (find (is_socket_for connection peer) waiting)
 

@@ -1,9 +1,9 @@
-//! Connections that peers initiate: the server announces them by CONNECTION_ATTEMPT requests (RFC
-//! 6062, section 4.4).
+//! Connections that peers initiate: the server announces them by CONNECTION_ATTEMPT requests or
+//! indications (RFC 6062, section 4.4).
 
 ghost use Rattle.std.specs.Prelude.{◌≡◌, ◌≢◌, ◌<◌, ◌++◌, [], OnOk, OnErr, IfSome, length, map, position, slice_get, slice_set, take};
 ghost use Rattle.turn_client_proto_api.specs.declared.event.TurnEvent.TheVariants.{TcpConnectFailed};
-ghost use Rattle.turn_client_proto_connection.specs.Attempts.{attempt_among, attempt_of, attempted, is_joining, is_lost, not_lost, peers_lost};
+ghost use Rattle.turn_client_proto_connection.specs.Attempts.{attempt_among, attempt_of, attempted, is_joining, is_lost, not_lost, offered, peers_lost};
 
 use crate::asking::{is_any_joined, is_any_waiting};
 use crate::sockets::{index_among, index_of};
@@ -27,9 +27,9 @@ pub fn is_joining(a: &Allocation, peer: SocketAddr) -> bool
     is_any_joined(a.connections.as_slice(), peer) || is_any_waiting(a.waiting.as_slice(), peer)
 }
 
-/// Appends a connection that a peer initiated, and that waits for its socket, to the allocation at
-/// `index`. `number` is the transaction ID of the server's request. If memory runs out, fails
-/// with `NoMemory` and nothing changes.
+/// Appends a connection that a request announced, and that waits for its socket, to the allocation
+/// at `index`. `transaction_id` is that of the request. If memory runs out, fails with `NoMemory`
+/// and nothing changes.
 pub fn begin(
     allocations: &mut Allocations,
     index: usize,
@@ -51,8 +51,30 @@ pub fn begin(
     })
 }
 
-/// Returns the transaction ID of the CONNECTION_ATTEMPT that announced the first waiting connection
-/// with this connection ID to this peer, or `None` if there is none or the client requested it.
+/// Appends a connection that an indication announced, and that waits for its socket, to the
+/// allocation at `index`. If memory runs out, fails with `NoMemory` and nothing changes.
+pub fn offer(
+    allocations: &mut Allocations,
+    index: usize,
+    connection: u32,
+    peer: SocketAddr,
+) -> Result<(), NoMemory>
+    requires { index < length allocations.old }
+    ensures ok { OnOk result (IfSome (slice_get allocations.old index) (λ a. allocations.new
+        ≡ slice_set allocations.old index (offered connection peer a))) }
+    ensures err { OnErr result (allocations.new ≡ allocations.old) }
+{
+    let items = allocations.as_mut_slice();
+    items[index].waiting.push(Waiting {
+        connection,
+        peer,
+        is_requested: false,
+        attempt: None,
+    })
+}
+
+/// Returns the transaction ID of the CONNECTION_ATTEMPT request that announced the first waiting
+/// connection with this connection ID to this peer, or `None` if there is none.
 #[tactic(auto, using(crate::proofs::Usual::by_index))]
 fn attempt_among(waiting: &[Waiting], connection: u32, peer: SocketAddr) -> Option<TransactionId>
     ensures { result ≡ attempt_among connection peer waiting.now }
@@ -61,9 +83,8 @@ fn attempt_among(waiting: &[Waiting], connection: u32, peer: SocketAddr) -> Opti
     waiting[index].attempt
 }
 
-/// Returns the transaction ID of the CONNECTION_ATTEMPT that announced the connection that waits
-/// for its socket, by its connection ID and peer. Returns `None` if there is none or the client
-/// requested it.
+/// Returns the transaction ID of the CONNECTION_ATTEMPT request that announced the connection that
+/// waits for its socket, by its connection ID and peer. Returns `None` if there is none.
 #[tactic(auto, using(crate::proofs::Usual::by_index))]
 pub fn attempt_of(
     allocations: &[Allocation],

@@ -4,6 +4,7 @@ pub mod Bound
 pub mod Deleting
 pub mod Granting
 pub mod Numbers
+pub mod Offered
 pub mod Indexes
 pub mod Results
 pub mod Sendable

@@ -1,4 +1,4 @@
--- The server's own requests: a peer opened a connection (RFC 6062, section 4.4).
+-- The server's own requests and indications: a peer opened a connection (RFC 6062, section 4.4).
 use Rattle.std.specs.Prelude.{ℕ, ◌==◌, nat_le, length, Bool, false, ◌&&◌, List, [], ◌∷◌, ◌++◌, find, Option, Some, None, if◌then◌else◌}
 use Rattle.std.specs.Bool.{MatchBool}
 use Rattle.std.specs.declared.net.socket_addr.SocketAddr.{SocketAddr}
@@ -7,9 +7,11 @@ use Rattle.stun_types_base.specs.Family.{family_of_socket}
 use Rattle.stun_types_wire.specs.Grammar.{number_at}
 use Rattle.stun_types_wire.specs.Types.{method_of}
 use Rattle.turn_types_attributes.specs.TurnRegistry.{connection_attempt_method}
+use Rattle.stun_types_base.specs.declared.transport.TransportType.TheVariants.{Tcp}
 use Rattle.turn_client_proto_allocation.specs.Changes.{change_first}
+use Rattle.turn_client_proto_allocation.specs.Same.{is_same_transport}
 use Rattle.turn_client_proto_allocation.specs.declared.allocation.Allocation.{Allocation}
-use Rattle.turn_client_proto_connection.specs.Attempts.{attempted, is_joining}
+use Rattle.turn_client_proto_connection.specs.Attempts.{attempted, is_joining, offered}
 use Rattle.stun_proto_agent.specs.Sending.{is_request}
 use Rattle.turn_client_proto_peers.specs.Permission.Asking.{is_of}
 use Rattle.turn_client_proto_messages.specs.Answers.{answer_text}
@@ -81,4 +83,43 @@ after_attempt bytes p = after_attempt_of (connection_reported bytes) (peer_repor
 abbrev pub IsAttemptTaken : Protocol → List ℕ → Bool → Protocol → Type 0
 IsAttemptTaken p bytes handled new = MatchBool (is_attempt bytes)
     (IsHandled (after_attempt bytes p) handled new)
+    (IsIgnored p handled new)
+
+-- ---- a CONNECTION_ATTEMPT indication
+
+-- How many connections may wait for their socket while an indication adds one: 64 without a limit.
+unfoldable pub offers_limit : (limit : Option ℕ) → ℕ
+offers_limit None = 64
+offers_limit (Some limit) = limit
+
+-- The client accepts indications as announcements, it allocates over TCP, and this indication is a
+-- CONNECTION_ATTEMPT.
+abbrev pub takes_offer : Protocol → List ℕ → Bool
+takes_offer p bytes = p.attempt_indications
+    && (is_same_transport p.allocates Tcp && (method_of (kind_at bytes) == connection_attempt_method))
+
+-- The client after such an indication, by the first allocation that may have a connection to the peer. Nothing
+-- changes without one, or if that one has a connection to the peer, one that waits for its socket, or as many that
+-- wait as are allowed. Otherwise the connection waits for its socket.
+abbrev pub after_offer_in : Option Allocation → (connection : ℕ) → SocketAddr → Protocol → Protocol
+after_offer_in None connection peer p = p
+after_offer_in (Some a) connection peer p =
+    if is_joining peer a then p
+    else if nat_le (offers_limit p.max_connection_attempts) (length a.waiting) then p
+    else record p { allocations = change_first (may_join peer p) (offered connection peer) p.allocations }
+
+-- The client after such an indication, by its CONNECTION-ID and its XOR-PEER-ADDRESS.
+abbrev pub after_offer_of : Option ℕ → Option SocketAddr → Protocol → Protocol
+after_offer_of (Some connection) (Some peer) p = after_offer_in (find (may_join peer p) p.allocations) connection peer p
+after_offer_of (Some connection) None p = p
+after_offer_of None peer p = p
+
+abbrev pub after_offer : List ℕ → Protocol → Protocol
+after_offer bytes p = after_offer_of (connection_reported bytes) (peer_reported bytes) p
+
+-- The outcome of an indication. Only a CONNECTION_ATTEMPT is for the client, and only if it accepts such, also
+-- where nothing changes.
+abbrev pub IsIndicationTaken : Protocol → List ℕ → Bool → Protocol → Type 0
+IsIndicationTaken p bytes handled new = MatchBool (takes_offer p bytes)
+    (IsHandled (after_offer bytes p) handled new)
     (IsIgnored p handled new)

@@ -33,6 +33,7 @@ pub record IsNew (transport : TransportType) (here server : SocketAddr) (config 
   pub closing : p.closing ≡ []
   pub max_connection_attempts : p.max_connection_attempts ≡ config.max_connection_attempts
   pub short_lifetimes : p.short_lifetimes ≡ config.short_lifetimes
+  pub attempt_indications : p.attempt_indications ≡ config.attempt_indications
   pub options : p.options ≡ config.options
   pub pace : as_nanos p.pace ≡ config.pace
   pub resends : p.resends ≡ 0

@@ -11,6 +11,7 @@ use Rattle.stun_types_wire.specs.Attributes.{kind_at}
 use Rattle.stun_types_wire.specs.Grammar.{number_at}
 use Rattle.stun_types_wire.specs.Types.{class_of}
 use Rattle.turn_client_proto_allocation.specs.Awaited.{has_number}
+use Rattle.turn_client_proto_core.specs.Attempting.{IsIndicationTaken, takes_offer}
 use Rattle.turn_client_proto_core.specs.Authenticating.{IsFirstJudged, IsSignedJudged}
 use Rattle.turn_client_proto_messages.specs.TurnRuns.Indications.{is_indication}
 use Rattle.turn_client_proto_messages.specs.Judging.{IsJudged}
@@ -42,7 +43,8 @@ IsFollowedIf passes follows old bytes now handled new = MatchBool passes
 
 -- The outcome of a message, by the client's phase. Before the server has allocated, only responses are
 -- handled; once an ALLOCATE was signed, only responses to the ALLOCATEs. After the server has allocated,
--- everything but indications is handled. Nothing is handled before the first ALLOCATE or after the end.
+-- everything is handled, of indications a CONNECTION_ATTEMPT alone, if the client accepts such. Nothing is handled
+-- before the first ALLOCATE or after the end.
 abbrev pub IsProcessedIn : Phase → Protocol → List ℕ → ℕ → Bool → Protocol → Type 0
 IsProcessedIn Initial old bytes now handled new = IsIgnored old handled new
 IsProcessedIn (InitialSent numbers) old bytes now handled new =
@@ -50,7 +52,7 @@ IsProcessedIn (InitialSent numbers) old bytes now handled new =
 IsProcessedIn (Authenticating numbers) old bytes now handled new =
     IsFollowedIf (is_response bytes && has_number (number_at bytes) numbers) IsSignedJudged old bytes now handled new
 IsProcessedIn Authenticated old bytes now handled new = MatchBool (is_indication (class_of (kind_at bytes)))
-    (IsIgnored old handled new)
+    (IsIndicationTaken old bytes handled new)
     (IsFollowed IsJudgedStanding old bytes now handled new)
 IsProcessedIn Ended old bytes now handled new = IsIgnored old handled new
 
@@ -104,15 +106,15 @@ GrowsStanding (Ok (Validated algorithm)) p bytes = counts p bytes ≡ true
 GrowsStanding (Err NoMemory) p bytes = Unit {0}
 GrowsStanding (Err error) p bytes = ⊥
 
--- The condition, by the client's phase. It holds only for messages that are validated, so never before the
--- first ALLOCATE or after the end.
+-- The condition, by the client's phase. It holds only for messages that are validated, and for indications that
+-- announce a connection, so never before the first ALLOCATE or after the end.
 abbrev pub MayGrowIn : Phase → Protocol → List ℕ → Type 0
 MayGrowIn Initial old bytes = ⊥
 MayGrowIn (InitialSent numbers) old bytes = MatchBool (is_response bytes) (GrowsBy GrowsFirst old bytes) ⊥
 MayGrowIn (Authenticating numbers) old bytes =
     MatchBool (is_response bytes && has_number (number_at bytes) numbers) (GrowsBy GrowsSigned old bytes) ⊥
 MayGrowIn Authenticated old bytes =
-    MatchBool (is_indication (class_of (kind_at bytes))) ⊥ (GrowsBy GrowsStanding old bytes)
+    MatchBool (is_indication (class_of (kind_at bytes))) (takes_offer old bytes ≡ true) (GrowsBy GrowsStanding old bytes)
 MayGrowIn Ended old bytes = ⊥
 
 -- Handling the message may need memory. For any other message no memory allocation can fail.

@@ -38,6 +38,7 @@ impl Protocol {
         let families = config.requested_families();
         let max_connection_attempts = config.max_connection_attempts();
         let short_lifetimes = config.short_lifetimes();
+        let attempt_indications = config.attempt_indications();
         let options = config.allocate_options();
         let pace = config.pace();
         Protocol {
@@ -55,6 +56,7 @@ impl Protocol {
             closing: QueueOf::new(alloc),
             max_connection_attempts,
             short_lifetimes,
+            attempt_indications,
             options,
             pace,
             resends: 0,

@@ -85,6 +85,9 @@ pub struct Protocol {
     pub max_connection_attempts: Option<usize>,
     /// Whether a REFRESH may shorten an allocation (`TurnConfig::set_short_lifetimes`).
     pub short_lifetimes: bool,
+    /// Whether an indication may announce a connection of a peer
+    /// (`TurnConfig::set_attempt_indications`).
+    pub attempt_indications: bool,
     /// What an ALLOCATE asks for besides transport and families.
     pub options: AllocateOptions,
     /// The least time between two messages that the client sends (`TurnConfig::set_pace`).

@@ -25,10 +25,11 @@ impl Protocol {
     ///
     /// - for a challenge that can be answered, whatever request it answers;
     /// - for a response that is accepted, or that ends the client;
-    /// - for a validated CONNECTION_ATTEMPT request.
+    /// - for a validated CONNECTION_ATTEMPT request;
+    /// - for a CONNECTION_ATTEMPT indication, if the settings accept such.
     ///
-    /// It is never needed by a client that has sent nothing or has ended, or for an indication. For
-    /// a response whose transaction ID isn't outstanding, a hardened client never needs it, and any
+    /// It is never needed by a client that has sent nothing or has ended, or for another indication.
+    /// For a response whose transaction ID isn't outstanding, a hardened client never needs it, and any
     /// other only in three cases: the response is such a challenge; its integrity check fails, which
     /// ends a client in `Authenticating`; or it validates before an ALLOCATE was signed.
     pub fn handle_message(&mut self, message: &Message<'_>, now: Instant) -> Result<bool, NoMemory>
@@ -83,7 +84,7 @@ impl Protocol {
             }
             Phase::Authenticated => {
                 if message.class() == MessageClass::Indication {
-                    return Ok(false);
+                    return self.take_indication(message);
                 }
                 self.process_standing(message, now)
             }

@@ -39,6 +39,7 @@ module _ (b : Beginning) (many last : ℕ) (p : Protocol) (w : IsAsking b many l
       families = w.settings.families;
       options = w.settings.options;
       pace = w.settings.pace;
+      indications = w.settings.indications;
       usual = w.settings.usual;
     };
     requested = only;
@@ -92,6 +93,7 @@ module _ (b : Beginning) (many last : ℕ) (p : Protocol) (w : IsAsking b many l
       families = w.settings.families;
       options = w.settings.options;
       pace = w.settings.pace;
+      indications = w.settings.indications;
       usual = w.settings.usual;
     };
     none_requested = none_left b (first_requested b) many p w.settings w.requested;

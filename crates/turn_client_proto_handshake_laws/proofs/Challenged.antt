@@ -204,6 +204,7 @@ module _ (b : Beginning) (many last : ℕ) (p : Protocol) (w : IsAsking b many l
       families = w.settings.families;
       options = w.settings.options;
       pace = w.settings.pace;
+      indications = w.settings.indications;
       usual = w.settings.usual;
     };
     none_requested = λ number. ap (λ (n : ℕ). map.get (map.remove p.agent.outstanding n) number) is.number ∙ none_left b (first_requested b) many p w.settings w.requested number;
@@ -310,6 +311,7 @@ module _ (b : Beginning) (many last : ℕ) (p : Protocol) (w : IsAsking b many l
         families = w.settings.families;
         options = w.settings.options;
         pace = w.settings.pace;
+        indications = w.settings.indications;
         usual = w.settings.usual;
       };
       choice = chosen;

@@ -52,6 +52,7 @@ module _ (b : Beginning) (events : List TurnEvent) (p : Protocol) (w : HasEnded 
         families = w.settings.families;
         options = w.settings.options;
         pace = w.settings.pace;
+        indications = w.settings.indications;
         usual = w.settings.usual;
       };
       none_requested = w.none_requested;

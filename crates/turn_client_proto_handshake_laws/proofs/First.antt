@@ -109,6 +109,7 @@ module _ (b : Beginning) (p : Protocol) (is : Begins b p) where
           families = is.families;
           options = is.options;
           pace = is.pace;
+          indications = is.attempt_indications;
           usual = usual;
         };
         requested = only_one text is_text (number_at text) (ap number_at is_text ∙ visible);

@@ -176,6 +176,7 @@ module _ (b : Beginning) (c : Choice) (many last : ℕ) (queue : List Queued) (p
         families = w.settings.families;
         options = w.settings.options;
         pace = w.settings.pace;
+        indications = w.settings.indications;
         usual = w.settings.usual;
       };
       none_requested = λ number. ap (λ (n : ℕ). map.get (map.remove p.agent.outstanding n) number) is.number ∙ none_left b (signed_requested b c) many p w.settings w.requested number;

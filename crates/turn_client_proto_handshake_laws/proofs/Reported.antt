@@ -39,6 +39,7 @@ holding_reports b c address lifetime now last queue events p w event q is = (
       families = w.settings.families;
       options = w.settings.options;
       pace = w.settings.pace;
+      indications = w.settings.indications;
       usual = w.settings.usual;
     };
     none_requested = w.none_requested;

@@ -45,6 +45,7 @@ module _ (b : Beginning) (c : Choice) (many last : ℕ) (queue : List Queued) (p
       families = w.settings.families;
       options = w.settings.options;
       pace = w.settings.pace;
+      indications = w.settings.indications;
       usual = w.settings.usual;
     };
     choice = w.choice;
@@ -113,6 +114,7 @@ module _ (b : Beginning) (c : Choice) (many last : ℕ) (p : Protocol) (w : HasC
       families = w.settings.families;
       options = w.settings.options;
       pace = w.settings.pace;
+      indications = w.settings.indications;
       usual = w.settings.usual;
     };
     choice = w.choice;
@@ -183,6 +185,7 @@ module _ (b : Beginning) (c : Choice) (many last : ℕ) (p : Protocol) (w : HasS
       families = w.settings.families;
       options = w.settings.options;
       pace = w.settings.pace;
+      indications = w.settings.indications;
       usual = w.settings.usual;
     };
     none_requested = none_left b (signed_requested b c) many p w.settings w.requested;

@@ -1,6 +1,6 @@
 -- What a client that receives nothing transmits: its first request, at the slots of its schedule (RFC 8489,
 -- section 6.2.1).
-use Rattle.std.specs.Prelude.{◌≡◌, ◌≤◌, ℕ, length, nat_le, List, [], ◌∷◌, filter, map, Some, None, option_to_list}
+use Rattle.std.specs.Prelude.{◌≡◌, ◌≤◌, ℕ, false, length, nat_le, List, [], ◌∷◌, filter, map, Some, None, option_to_list}
 use Rattle.std.specs.List.{flat_map}
 use Rattle.std.specs.declared.net.socket_addr.SocketAddr.{SocketAddr}
 use Rattle.rand_chacha.specs.ChaCha.{of_seed}
@@ -43,11 +43,12 @@ abbrev pub HasRoom : Config → Type 0
 HasRoom config =
     (length config.credentials.username ≤ longest_username) × IsLawfulAllocate config.families config.options
 
--- A client with these settings requests half an hour, and leaves 50 ms between two messages, as new settings
--- say.
+-- A client with these settings requests half an hour, leaves 50 ms between two messages, and accepts no indication
+-- as the announcement of a connection, as new settings say.
 pub record IsUsual (config : Config) : Type 0 where
   pub lifetime : config.options.lifetime ≡ allocation_lifetime
   pub pace : config.pace ≡ cadence
+  pub indications : config.attempt_indications ≡ false
 
 -- The transaction ID that the first words of its generator make.
 abbrev pub first_number : Beginning → ℕ

@@ -33,8 +33,8 @@ use Rattle.turn_client_proto_handshake_laws.specs.Sent.{Beginning, IsUsual, firs
 
 -- ---- what no stage changes
 
--- The server, the client's own address and transport, its waits and its pace, and what it requests are those
--- of its start, and as usual; it has not failed.
+-- The server, the client's own address and transport, its waits and its pace, what it requests, and whether it
+-- accepts indications are those of its start, and as usual; it has not failed.
 pub record IsOf (b : Beginning) (p : Protocol) : Type 0 where
   pub server : p.server ≡ b.server
   pub remote : p.agent.remote ≡ Some b.server
@@ -45,6 +45,7 @@ pub record IsOf (b : Beginning) (p : Protocol) : Type 0 where
   pub families : p.families ≡ b.config.families
   pub options : p.options ≡ b.config.options
   pub pace : pace_of p ≡ b.config.pace
+  pub indications : p.attempt_indications ≡ b.config.attempt_indications
   pub usual : IsUsual b.config
 
 -- ---- the first ALLOCATE is sent

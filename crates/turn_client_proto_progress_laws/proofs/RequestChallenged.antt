@@ -54,6 +54,7 @@ use Rattle.turn_client_proto_handshake_laws.specs.Core.Asking.{queued_request, r
 use Rattle.turn_client_proto_handshake_laws.specs.Core.Ending.{ended}
 use Rattle.turn_client_proto_handshake_laws.specs.Core.Numbering.{IsNextNumber, after_number, awaits, is_taken}
 use Rattle.turn_client_proto_handshake_laws.specs.Core.Outcomes.{IsHandled, IsIgnored}
+use Rattle.turn_client_proto_handshake_laws.specs.Core.Attempting.{IsIndicationTaken}
 use Rattle.turn_client_proto_handshake_laws.specs.Core.Receiving.{IsFollowed, IsProcessed, IsProcessedIn}
 use Rattle.turn_client_proto_handshake_laws.specs.Core.Responding.{challenged, is_tired, judged, most_resends}
 use Rattle.turn_client_proto_handshake_laws.specs.Core.Standing.{IsJudgedStanding, IsRechallenged, IsRequestedAgain, IsSentAgain, asks_again, request_for as request_again}
@@ -461,5 +462,5 @@ module _ (b : Beginning) (realm : List ℕ) (address : SocketAddr) (wanted : Wan
   challenge_answered handled q processed =
       let in_phase : IsProcessedIn Authenticated p message now handled q = subst (λ (f : Phase). IsProcessedIn f p message now handled q) h.phase (processed_awaited p message now handled q awaited processed) in
       let none : is_indication (class_of (kind_at message)) ≡ false = no_indication (class_of (kind_at message)) responds in
-      let f = where_false (IsIgnored p handled q) (IsFollowed IsJudgedStanding p message now handled q) (is_indication (class_of (kind_at message))) none in_phase in
+      let f = where_false (IsIndicationTaken p message handled q) (IsFollowed IsJudgedStanding p message now handled q) (is_indication (class_of (kind_at message))) none in_phase in
       by_verdict q (processed_speaks b realm address p h.speaks message decodes now handled q processed) f.verdict f.auth handled f.is_judged f.outcome

@@ -20,10 +20,7 @@ use turn_client_proto_api::causes::Causes;
 use turn_client_proto_api::event::TurnEvent;
 use turn_client_proto_api::expired::Expired;
 use turn_client_proto_core::protocol::{Phase, Protocol};
-use turn_client_proto_messages::noted::{
-    alternate_reported, domain_reported, is_relaying, mapped_reported, reason_reported,
-    reservation_reported,
-};
+use turn_client_proto_messages::noted;
 use turn_client_proto_messages::reported::{first_code, lifetime_reported};
 
 /// What is noted of a client before it handles a message.
@@ -96,8 +93,8 @@ impl Notes {
         ensures { IsNotedBy before message.now protocol.now self.old self.new }
     {
         if is_allocated(before, protocol) {
-            self.mapped = mapped_reported(message);
-            self.reservation = reservation_reported(message);
+            self.mapped = noted::mapped_reported(message);
+            self.reservation = noted::reservation_reported(message);
         }
         if is_redirected(before, message, protocol) {
             self.note_redirect(message, protocol.alloc);
@@ -115,8 +112,8 @@ impl Notes {
     fn note_redirect(&mut self, message: &Message<'_>, alloc: Global)
         ensures { IsRedirectNoted message.now self.old self.new }
     {
-        self.alternate = alternate_reported(message);
-        self.domain = match domain_reported(alloc, message) {
+        self.alternate = noted::alternate_reported(message);
+        self.domain = match noted::domain_reported(alloc, message) {
             Ok(domain) => domain,
             Err(NoMemory) => None,
         };
@@ -295,7 +292,7 @@ fn cause_signed(
     if is_error(message) {
         return rejected_or(alloc, message, true, TurnCause::Unusable);
     }
-    if is_allocating && lifetime_reported(message).is_some() && is_relaying(message) {
+    if is_allocating && lifetime_reported(message).is_some() && noted::is_relaying(message) {
         return Ok(TurnCause::OtherFamily);
     }
     Ok(TurnCause::Unusable)
@@ -317,7 +314,7 @@ fn rejected_or(
     let Some(code) = first_code(message) else {
         return Ok(otherwise);
     };
-    let reason = reason_reported(alloc, message)?;
+    let reason = noted::reason_reported(alloc, message)?;
     Ok(TurnCause::Rejected {
         code,
         reason,

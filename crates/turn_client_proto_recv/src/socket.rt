@@ -50,7 +50,7 @@ fn takes_sockets(protocol: &Protocol, socket: Socket5Tuple) -> bool
 ///
 /// - With a socket, a CONNECTION_BIND (RFC 6062, section 4.3) is queued, to be sent from the socket
 ///   and answered within 39.5 seconds.
-/// - If a peer opened the connection (section 4.4), the server's request is answered too: by a
+/// - If a request of the server announced the connection (section 4.4), it is answered too: by a
 ///   success, before the CONNECTION_BIND, or by error 447 if there is no socket.
 ///
 /// The call doesn't check whether `poll` has requested the socket yet, or whether the allocation

@@ -135,6 +135,7 @@ module _ (c : Client) (signer : signers.Client) (bytes : List ℕ) (lifetime now
   step = record {
     account = refl;
     seed = refl;
+    accepts = λ a. a;
     realms = realms;
     counted = (counts_none c core refl).counted;
     few = (counts_none c core refl).few;
@@ -187,7 +188,7 @@ module _ (c : Client) (signer : signers.Client) (bytes : List ℕ) (lifetime now
         account = under_way.can_ask.account;
         settled = under_way.can_ask.settled;
         texts = under_way.can_ask.texts;
-        families = under_way.can_ask.families;
+        settings = under_way.can_ask.settings;
         words = under_way.can_ask.words;
       });
     };

@@ -87,7 +87,7 @@ module _ (c : Client) (mid : Protocol) (bytes : List ℕ) (here peer : SocketAdd
         account = under_way.can_ask.account;
         settled = under_way.can_ask.settled;
         texts = under_way.can_ask.texts;
-        families = under_way.can_ask.families;
+        settings = under_way.can_ask.settings;
         words = under_way.can_ask.words;
       }))
 
@@ -159,7 +159,7 @@ module _ (c : Client) (mid : Protocol) (bytes : List ℕ) (now : ℕ) (under_way
       let distinct : AreDistinct left = same_first_distinct (has_from here) (waits_in here (Some (awaited number))) (λ a. (refl, refl)) mid.allocations under_way.orderly.distinct in
       let orderly = changing_orderly none_bound (asks_by number) sent left are asks_it distinct
       (requested_from_orderly here mid (ConnectionBind j.connection) number now made_it (allocated _ mid.phase occurs) under_way.orderly) in
-      asks c mid (ConnectionBind j.connection) number under_way made_it None core adds orderly refl (λ realm h. h) under_way.can_ask.families refl refl (nothing_transmitted started c)
+      asks c mid (ConnectionBind j.connection) number under_way made_it None core adds orderly refl (λ realm h. h) under_way.can_ask.settings refl refl (nothing_transmitted started c)
 
   pub anew_step : (new : Protocol) → IsRequestedAnew here j.connection now mid new → IsRunStep c (bytes ∷ []) None [] new
   anew_step new h =
@@ -255,6 +255,7 @@ module _ (c : Client) (signer : signers.Client) (bytes : List ℕ) (message : re
   step = record {
     account = refl;
     seed = refl;
+    accepts = λ a. a;
     realms = under_way.realms;
     counted = (counts_none c core refl).counted;
     few = (counts_none c core refl).few;
@@ -297,7 +298,7 @@ module _ (c : Client) (signer : signers.Client) (bytes : List ℕ) (message : re
         account = under_way.can_ask.account;
         settled = under_way.can_ask.settled;
         texts = under_way.can_ask.texts;
-        families = under_way.can_ask.families;
+        settings = under_way.can_ask.settings;
         words = under_way.can_ask.words;
       });
     };

@@ -31,7 +31,7 @@ use Rattle.turn_client_proto_timers.specs.Core.declared.protocol.Protocol.{Proto
 use Rattle.turn_client_proto_step_laws.specs.ClientWords.{challenge_of, client_words, realm_in}
 use Rattle.turn_client_proto_step_laws.specs.RunClient.{Client, Parts, moved, parts_of}
 use Rattle.turn_client_proto_step_laws.specs.RunSteps.{IsRunStep}
-use Rattle.turn_client_proto_step_laws.specs.Sound.{BeforeAllocated, CanAsk, IsOrderly, stream_from}
+use Rattle.turn_client_proto_step_laws.specs.Sound.{AreSettings, BeforeAllocated, CanAsk, IsOrderly, stream_from}
 use Rattle.turn_client_proto_step_laws.proofs.Adding.{Adds, adds_both, adds_none, agent_less, agent_more, queue_more, widened}
 use Rattle.turn_client_proto_step_laws.proofs.Numbers.{IsAtIndex, number_at_index, number_small, words_after}
 use Rattle.turn_client_proto_step_laws.proofs.Orderly.{IsAllocate, IsFree, agent_orderly, queue_orderly, request_orderly, until_all}
@@ -54,7 +54,7 @@ pub at_first : (c : Client) (came : List (List ℕ)) → IsOrderly (parts_of c.c
 at_first c came orderly can = record {
   adds = adds_none [] (parts_of c.core);
   orderly = orderly;
-  can_ask = record { account = can.account; settled = can.settled; texts = can.texts; families = can.families; words = can.words };
+  can_ask = record { account = can.account; settled = can.settled; texts = can.texts; settings = can.settings; words = can.words };
   reported = refl;
   rng = refl;
   realms = λ realm is. inl is;
@@ -69,7 +69,7 @@ once_judged c bytes verdict signer orderly can is = record {
     account = (step_of c.core.auth signer bytes verdict is).account can.settled ∙ can.account;
     settled = (step_of c.core.auth signer bytes verdict is).next_account can.settled;
     texts = stay_short c.core.auth signer bytes verdict is can.texts;
-    families = can.families;
+    settings = can.settings;
     words = can.words;
   };
   reported = refl;
@@ -82,7 +82,7 @@ unfolding answered
 once_answered c mid bytes is = record {
   adds = adds_both [] (parts_of c.core) (parts_of mid) _ is.adds (agent_less [] (parts_of mid) (after_message mid.agent bytes mid.server) (handled_new mid.agent bytes mid.server));
   orderly = agent_orderly (parts_of mid) (after_message mid.agent bytes mid.server) (handled_new mid.agent bytes mid.server) is.orderly;
-  can_ask = record { account = is.can_ask.account; settled = is.can_ask.settled; texts = is.can_ask.texts; families = is.can_ask.families; words = is.can_ask.words };
+  can_ask = record { account = is.can_ask.account; settled = is.can_ask.settled; texts = is.can_ask.texts; settings = is.can_ask.settings; words = is.can_ask.words };
   reported = is.reported;
   rng = is.rng;
   realms = is.realms;
@@ -93,7 +93,7 @@ unfolding accepted
 once_accepted c mid bytes is = record {
   adds = adds_both [] (parts_of c.core) (parts_of mid) _ is.adds (agent_less [] (parts_of mid) (after_message mid.agent bytes mid.server) (handled_new mid.agent bytes mid.server));
   orderly = agent_orderly (parts_of mid) (after_message mid.agent bytes mid.server) (handled_new mid.agent bytes mid.server) is.orderly;
-  can_ask = record { account = is.can_ask.account; settled = is.can_ask.settled; texts = is.can_ask.texts; families = is.can_ask.families; words = is.can_ask.words };
+  can_ask = record { account = is.can_ask.account; settled = is.can_ask.settled; texts = is.can_ask.texts; settings = is.can_ask.settings; words = is.can_ask.words };
   reported = is.reported;
   rng = is.rng;
   realms = is.realms;
@@ -157,10 +157,10 @@ module _ {came : List (List ℕ)} (c : Client) (mid : Protocol) (request : TurnR
 
   -- The client that has made the request.
   pub asks : (generated : Option (List ℕ)) (core : Protocol) → Adds (decoded_by text ∷ []) (parts_of mid) (parts_of core) → IsOrderly (parts_of core)
-      → core.auth ≡ mid.auth → ((realm : List ℕ) → realm_in (challenge_of core) ≡ Some realm → realm_in (challenge_of mid) ≡ Some realm) → length core.families ≤ 2 → core.rng ≡ after_draw mid.rng → notices core.events ≡ notices mid.events
+      → core.auth ≡ mid.auth → ((realm : List ℕ) → realm_in (challenge_of core) ≡ Some realm → realm_in (challenge_of mid) ≡ Some realm) → AreSettings c.offers core → core.rng ≡ after_draw mid.rng → notices core.events ≡ notices mid.events
       → ((bytes : List ℕ) (m : run.Message) → generated ≡ Some bytes → stun_wire.visible bytes ≡ Some m → MayDraw client_words c (decoded_by text ∷ []) m)
       → IsRunStep c came generated [] core
-  asks generated core adds orderly same_auth same_realm families rng reported draws =
+  asks generated core adds orderly same_auth same_realm settings rng reported draws =
       run_step (decoded_by text ∷ []) came generated [] c (c.transmitted + 1) core (record {
         requests = requests;
         counts = counts_one c core (rng ∙ ap after_draw under_way.rng);
@@ -173,7 +173,7 @@ module _ {came : List (List ℕ)} (c : Client) (mid : Protocol) (request : TurnR
         account = ap (λ (a : signers.Client). a.account) same_auth ∙ under_way.can_ask.account;
         settled = ap (λ (a : signers.Client). a.next_account) same_auth ∙ under_way.can_ask.settled;
         texts = subst HasShortTexts (sym same_auth) under_way.can_ask.texts;
-        families = families;
+        settings = settings;
         words = ap stream_from rng ∙ words_after mid.rng c.transmitted c.seed under_way.can_ask.words;
       }))
 

@@ -109,6 +109,7 @@ module _ (c : Client) (signer : signers.Client) (bytes : List ℕ) (message : re
     step = record {
       account = refl;
       seed = refl;
+      accepts = λ a. a;
       realms = under_way.realms;
       counted = (counts_none c core refl).counted;
       few = (counts_none c core refl).few;
@@ -131,7 +132,7 @@ module _ (c : Client) (signer : signers.Client) (bytes : List ℕ) (message : re
       decodes = nothing_after (notices c.core.events);
       shows = λ h k. held_is_stored left h k;
       visible = λ h i. absurd i;
-      waits = λ n p w. inr (inr (tried core is));
+      waits = λ n p w. inr (inr (inl (tried core is)));
       attempted = λ n h. inr (tried core is);
       delivers = λ p h. absurd h;
       names = λ p h. absurd h;
@@ -149,7 +150,7 @@ module _ (c : Client) (signer : signers.Client) (bytes : List ℕ) (message : re
           account = under_way.can_ask.account;
           settled = under_way.can_ask.settled;
           texts = under_way.can_ask.texts;
-          families = under_way.can_ask.families;
+          settings = under_way.can_ask.settings;
           words = under_way.can_ask.words;
         });
       };

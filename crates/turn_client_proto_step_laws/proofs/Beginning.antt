@@ -74,7 +74,7 @@ module _ (transport : TransportType) (here server : SocketAddr) (config : Config
       account = ap (λ (a : signers.Client). a.account) is.auth;
       settled = ap (λ (a : signers.Client). a.next_account) is.auth;
       texts = subst HasShortTexts (sym is.auth) (fresh_short (signer_of config) refl refl refl short);
-      families = subst (λ (l : List AddressFamily). length l ≤ 2) (sym is.families) few;
+      settings = (subst (λ (l : List AddressFamily). length l ≤ 2) (sym is.families) few, refl);
       words = ap stream_from is.rng ∙ sym (none_after (stream_from (of_seed seed)));
     });
   }

@@ -118,7 +118,7 @@ module _ (c : Client) (peer : SocketAddr) (now : ℕ) (whole : IsWhole peer) whe
       let stored = joining_orderly (asks_to peer number) none_learnt mid left are (asks_connect c.core peer number now is) (whole_to peer number whole)
       (same_first_distinct passes change (λ a. (refl, refl)) c.core.allocations orderly.distinct)
       (requested_orderly c.core (Connect peer) number now is (allocated _ c.core.phase occurs) orderly) in
-      asks c c.core (Connect peer) number under_way is None (after_connecting peer number now c.core) adds stored refl (λ realm h. h) under_way.can_ask.families refl refl (nothing_transmitted (decoded_by text ∷ []) c)
+      asks c c.core (Connect peer) number under_way is None (after_connecting peer number now c.core) adds stored refl (λ realm h. h) under_way.can_ask.settings refl refl (nothing_transmitted (decoded_by text ∷ []) c)
 
   refused : (found : Option Allocation) (new : Protocol) → IsSound c → new ≡ connect_refused_in found peer now c.core → IsRunStep c [] None [] new
   refused None new sound is = still c [] new sound is
@@ -216,7 +216,7 @@ same_kind : (kind n : ℕ) (a : Attr) (reported : Option ℕ) → a.kind ≡ kin
 same_kind kind n a reported is h = ap (λ (k : ℕ). unless_refused (value_refusal k 4 4 a) reported) is ∙ h
 
 -- The connection ID that is decoded is visible.
-number_decoded : (bytes : List ℕ) (connection : ℕ) → connection_reported bytes ≡ Some connection → number_visible 4 connection_id_kind bytes ≡ Some connection
+pub number_decoded : (bytes : List ℕ) (connection : ℕ) → connection_reported bytes ≡ Some connection → number_visible 4 connection_id_kind bytes ≡ Some connection
 number_decoded bytes connection reported = by (find (λ (a : Attr). eqb a.kind connection_id_kind) (visible bytes)) refl reported
   where
     by : (found : Option Attr) → find (λ (a : Attr). eqb a.kind connection_id_kind) (visible bytes) ≡ found → option_and_then connection_in found ≡ Some connection → number_in 4 found ≡ Some connection
@@ -272,6 +272,7 @@ module _ (c : Client) (signer : signers.Client) (bytes : List ℕ) (message : re
   step = record {
     account = refl;
     seed = refl;
+    accepts = λ a. a;
     realms = under_way.realms;
     counted = (counts_none c core refl).counted;
     few = (counts_none c core refl).few;
@@ -317,7 +318,7 @@ module _ (c : Client) (signer : signers.Client) (bytes : List ℕ) (message : re
         account = under_way.can_ask.account;
         settled = under_way.can_ask.settled;
         texts = under_way.can_ask.texts;
-        families = under_way.can_ask.families;
+        settings = under_way.can_ask.settings;
         words = under_way.can_ask.words;
       });
     };
@@ -351,7 +352,7 @@ module _ (c : Client) (mid : Protocol) (bytes : List ℕ) (under_way : IsUnderWa
         account = under_way.can_ask.account;
         settled = under_way.can_ask.settled;
         texts = under_way.can_ask.texts;
-        families = under_way.can_ask.families;
+        settings = under_way.can_ask.settings;
         words = under_way.can_ask.words;
       })))
 

@@ -88,7 +88,7 @@ repeats c now sent new sound is =
       there = is.least.present;
       shows = ap (λ (b : List ℕ). stun_wire.visible b) (sym own) ∙ shows_own sent.bytes bytes m same shows;
     })))) refl)
-    (agent_orderly (parts_of c.core) agent none sound.orderly) (until_map c.core.phase (still_can c core refl refl refl) sound.can_ask))
+    (agent_orderly (parts_of c.core) agent none sound.orderly) (until_map c.core.phase (still_can c core refl refl refl refl) sound.can_ask))
 
 -- ---- a message that waits
 
@@ -115,7 +115,7 @@ waits_sent c q rest sent core sound listed within own is =
     (run_step [] [] (Some sent) [] c c.transmitted after
     (quiet (Some sent) [] c c.transmitted after (counts_none c after refl) (λ realm h. inl h) (queue_less (parts_of c.core) rest within)
     (λ bytes m same shows. waits_transmitted c q (sound.orderly.queued q listed) listed sent bytes m own same shows) refl)
-    (transmitted_orderly (parts_of c.core) rest within sound.orderly) (until_map c.core.phase (still_can c after refl refl refl) sound.can_ask))
+    (transmitted_orderly (parts_of c.core) rest within sound.orderly) (until_map c.core.phase (still_can c after refl refl refl refl) sound.can_ask))
 
 queued_transmitted : (c : Client) (now : ℕ) (q : Queued) (rest : List Queued) (sent : Sent) (new : Protocol) → IsSound c → c.core.queue ≡ q ∷ rest → IsQueuedSent c.core now q rest sent new
     → IsRunStep c [] (Some sent.bytes) [] new
@@ -164,7 +164,7 @@ first_sent c now sent new sound at is =
     subst (λ (p : Protocol). IsRunStep c [] (Some sent.bytes) [] p) (sym is.after)
     (asks c c.core request is.number under_way written (Some sent.bytes) core adds
     (phase_orderly mid (InitialSent (is.number ∷ [])) alone orderly) refl
-    (λ realm h. realm_going c.core.phase c.core.auth.challenge realm (going_at c.core.phase Initial at (λ stored. refl)) h) can.families refl refl (draws_own c text sent.bytes own))
+    (λ realm h. realm_going c.core.phase c.core.auth.challenge realm (going_at c.core.phase Initial at (λ stored. refl)) h) can.settings refl refl (draws_own c text sent.bytes own))
 
 refresh_sent : (c : Client) (now : ℕ) (sent : Sent) (new : Protocol) → IsSound c → c.core.phase ≡ Authenticated → IsRefreshSent c.core now sent new → IsRunStep c [] (Some sent.bytes) [] new
 unfolding first_refreshed sent_at_once
@@ -185,7 +185,7 @@ refresh_sent c now sent new sound at is =
     (same_first_distinct (wants now) (refreshing refresh) (λ a. (refl, refl)) c.core.allocations sound.orderly.distinct)
     (sent_orderly c.core (Refresh c.core.options.lifetime) is.number now written (allocated _ c.core.phase at) sound.orderly) in
     subst (λ (p : Protocol). IsRunStep c [] (Some sent.bytes) [] p) (sym is.after)
-    (asks c c.core (Refresh c.core.options.lifetime) is.number under_way written (Some sent.bytes) core adds orderly refl (λ realm h. h) can.families refl refl (draws_own c text sent.bytes own))
+    (asks c c.core (Refresh c.core.options.lifetime) is.number under_way written (Some sent.bytes) core adds orderly refl (λ realm h. h) can.settings refl refl (draws_own c text sent.bytes own))
 
 -- A request that renews something.
 module _ (c : Client) (request : TurnRequest) (number now : ℕ) (left : List Allocation) (sound : IsSound c) (at : c.core.phase ≡ Authenticated) (under_way : IsUnderWay c [] c.core) (is : written.IsMade c.core request number) where
@@ -205,7 +205,7 @@ module _ (c : Client) (request : TurnRequest) (number now : ℕ) (left : List Al
       (allocations_permitting (decoded_by text_of ∷ []) (asks_by request number) mid left are (made_number c.core request number now is)) in
       let orderly = permitting_orderly none_gained (asks_by request number) mid left are fit
       (sent_orderly c.core request number now is (allocated _ c.core.phase at) sound.orderly) distinct in
-      asks c c.core request number under_way is (Some sent) renewed_with adds orderly refl (λ realm h. h) under_way.can_ask.families refl refl (draws_own c text_of sent own)
+      asks c c.core request number under_way is (Some sent) renewed_with adds orderly refl (λ realm h. h) under_way.can_ask.settings refl refl (draws_own c text_of sent own)
 
 renewal_sent : (c : Client) (ip : IpAddr) (now : ℕ) (sent : Sent) (new : Protocol) → IsSound c → c.core.phase ≡ Authenticated → IsRenewalSent c.core ip now sent new → IsRunStep c [] (Some sent.bytes) [] new
 unfolding first_permitted

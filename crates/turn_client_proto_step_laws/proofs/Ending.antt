@@ -32,12 +32,12 @@ use Rattle.turn_client_proto_step_laws.proofs.Realms.{ended_realm}
 -- ---- nothing changes that a run says of
 
 -- What a client needs to make requests stays.
-pub still_can : (c : Client) (core : Protocol) → core.auth ≡ c.core.auth → core.families ≡ c.core.families → core.rng ≡ c.core.rng → CanAsk c → CanAsk (moved c c.transmitted core)
-still_can c core same_auth same_families same_rng can = record {
+pub still_can : (c : Client) (core : Protocol) → core.auth ≡ c.core.auth → core.families ≡ c.core.families → core.attempt_indications ≡ c.core.attempt_indications → core.rng ≡ c.core.rng → CanAsk c → CanAsk (moved c c.transmitted core)
+still_can c core same_auth same_families same_offers same_rng can = record {
   account = ap (λ (a : signers.Client). a.account) same_auth ∙ can.account;
   settled = ap (λ (a : signers.Client). a.next_account) same_auth ∙ can.settled;
   texts = subst HasShortTexts (sym same_auth) can.texts;
-  families = subst (λ (l : List AddressFamily). length l ≤ 2) (sym same_families) can.families;
+  settings = (subst (λ (l : List AddressFamily). length l ≤ 2) (sym same_families) can.settings.0, same_offers ∙ can.settings.1);
   words = ap stream_from same_rng ∙ can.words;
 }
 
@@ -46,7 +46,7 @@ still c came new sound is =
     subst (λ (p : Protocol). IsRunStep c came None [] p) (sym is)
     (run_step [] came None [] c c.transmitted c.core
     (quiet None [] c c.transmitted c.core (counts_none c c.core refl) (λ realm is. inl is) (adds_none [] (parts_of c.core)) (nothing_transmitted [] c) refl)
-    sound.orderly (until_map c.core.phase (still_can c c.core refl refl refl) sound.can_ask))
+    sound.orderly (until_map c.core.phase (still_can c c.core refl refl refl refl) sound.can_ask))
 
 -- ---- an end
 
@@ -136,4 +136,4 @@ event_step c event new sound reported others = by new.events reported others
         (run_step [] [] None (notices (option_to_list event)) c c.transmitted left
         (quiet None (notices (option_to_list event)) c c.transmitted left (counts_none c left refl) (λ realm is. inl is) (adds_none [] (parts_of c.core)) (nothing_transmitted [] c)
         (sym (joined (option_to_list event) events) ∙ ap notices (sym before)))
-        sound.orderly (until_map c.core.phase (still_can c left refl refl refl) sound.can_ask))
+        sound.orderly (until_map c.core.phase (still_can c left refl refl refl refl) sound.can_ask))

@@ -18,7 +18,7 @@ use Rattle.turn_client_proto_step_laws.proofs.Ending.{still}
 use Rattle.turn_client_proto_step_laws.proofs.Giving.{giving_step}
 use Rattle.turn_client_proto_step_laws.proofs.Orderly.{until_map}
 use Rattle.turn_client_proto_step_laws.proofs.Receiving.{receive_step}
-use Rattle.turn_client_proto_step_laws.proofs.Showing.{answered, delivered, tried}
+use Rattle.turn_client_proto_step_laws.proofs.Showing.{answered, delivered, offered, tried}
 
 -- ---- the same call, with other frames that came and wait
 
@@ -29,7 +29,7 @@ waits frames c = record c { waiting = frames }
 pub waits_sound : (frames : List (List ℕ)) (c : Client) → IsSound c → IsSound (waits frames c)
 waits_sound frames c sound = record {
   orderly = sound.orderly;
-  can_ask = until_map c.core.phase (λ (can : CanAsk c). record { account = can.account; settled = can.settled; texts = can.texts; families = can.families; words = can.words }) sound.can_ask;
+  can_ask = until_map c.core.phase (λ (can : CanAsk c). record { account = can.account; settled = can.settled; texts = can.texts; settings = can.settings; words = can.words }) sound.can_ask;
 }
 
 module _ (call : Call Client) (came before after : List (List ℕ)) where
@@ -43,6 +43,7 @@ module _ (call : Call Client) (came before after : List (List ℕ)) where
   framed_step handles buffers is = record {
     account = is.account;
     seed = is.seed;
+    accepts = is.accepts;
     realms = is.realms;
     counted = is.counted;
     few = is.few;
@@ -72,7 +73,10 @@ module _ (call : Call Client) (came before after : List (List ℕ)) where
       | inl was ↦ inl was
       | inr now ↦ elim now [
         | inl known ↦ inr (inl (known.0, answered client_words call other refl refl refl refl (λ m is. is) is.started (Knows n peer) known.0 known.1))
-        | inr attempt ↦ inr (inr (tried client_words call other refl refl refl refl (λ m is. is) attempt))
+        | inr announced ↦ elim announced [
+          | inl attempt ↦ inr (inr (inl (tried client_words call other refl refl refl refl (λ m is. is) attempt)))
+          | inr offer ↦ inr (inr (inr (offered client_words call other refl (λ a. a) n peer offer)))
+        ]
       ]
     ];
     attempted = λ n h. elim (is.attempted n h) [ inl was ↦ inl was | inr attempt ↦ inr (tried client_words call other refl refl refl refl (λ m is. is) attempt) ];

@@ -142,6 +142,7 @@ module _ (c : Client) (signer : signers.Client) (bytes : List ℕ) (message : re
     step = record {
       account = refl;
       seed = refl;
+      accepts = λ a. a;
       realms = under_way.realms;
       counted = (counts_none c core refl).counted;
       few = (counts_none c core refl).few;
@@ -185,7 +186,7 @@ module _ (c : Client) (signer : signers.Client) (bytes : List ℕ) (message : re
           account = under_way.can_ask.account;
           settled = under_way.can_ask.settled;
           texts = under_way.can_ask.texts;
-          families = under_way.can_ask.families;
+          settings = under_way.can_ask.settings;
           words = under_way.can_ask.words;
         });
       };

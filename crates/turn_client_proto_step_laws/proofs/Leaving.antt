@@ -26,6 +26,6 @@ left_step c mid bytes under_way core left are distinct is reported =
       account = under_way.can_ask.account;
       settled = under_way.can_ask.settled;
       texts = under_way.can_ask.texts;
-      families = under_way.can_ask.families;
+      settings = under_way.can_ask.settings;
       words = under_way.can_ask.words;
     })))

@@ -36,9 +36,11 @@ pub mod Lessening
 pub mod Limits
 pub mod Lists
 pub mod Numbers
+pub mod Offering
 pub mod Once
 pub mod Orderly
 pub mod Parting
+pub mod Peers
 pub mod Permissions
 pub mod Permits
 pub mod Permitting

@@ -1,5 +1,5 @@
 -- What the server's own requests make a client store stays within its limit.
-use Rattle.std.proofs.Common.{◌≡◌, ℕ, ◌<◌, ◌≤◌, Bool, true, false, List, [], ◌∷◌, ◌++◌, length, Option, Some, None, if◌then◌else◌, refl, sym, ap, ◌∙◌, subst, arith, inl, inr}
+use Rattle.std.proofs.Common.{◌≡◌, ◌⊎◌, ℕ, ◌<◌, ◌≤◌, Bool, true, false, List, [], ◌∷◌, ◌++◌, length, Option, Some, None, if◌then◌else◌, refl, sym, ap, ◌∙◌, subst, arith, inl, inr}
 use Rattle.std.proofs.lemmas.Bool.{cases_Bool}
 use Rattle.std.proofs.lemmas.Bool.Decides.{nat_tests}
 use Rattle.std.proofs.lemmas.List.{length-append}
@@ -12,15 +12,17 @@ use Rattle.turn_client_proto_timers.specs.TurnRuns.Members.{IsIn}
 use Rattle.turn_client_proto_timers.specs.Allocation.Changes.{change_first}
 use Rattle.turn_client_proto_timers.specs.Allocation.declared.allocation.Allocation.{Allocation}
 use Rattle.turn_client_proto_timers.specs.Allocation.declared.connection.Waiting.{Waiting}
-use Rattle.turn_client_proto_timers.specs.Connection.Attempts.{attempt_by, attempted, is_joining}
+use Rattle.turn_client_proto_timers.specs.Connection.Attempts.{attempt_by, attempted, is_joining, offered}
+use Rattle.turn_client_proto_timers.specs.Connection.Reported.{waiting_for}
 use Rattle.turn_client_proto_timers.specs.Messages.Answers.{answer_text}
 use Rattle.turn_client_proto_timers.specs.Messages.declared.answer.AttemptAnswer.{AttemptAnswer}
 use Rattle.turn_client_proto_timers.specs.Messages.declared.answer.AttemptAnswer.TheVariants.{AlreadyExists, BadRequest, Failed}
 use Rattle.turn_client_proto_timers.specs.Messages.Reported.{connection_reported, peer_reported}
-use Rattle.turn_client_proto_timers.specs.Core.Attempting.{IsAttemptTaken, after_attempt, after_attempt_in, after_attempt_of, answering, is_at_limit, is_attempt, may_join, queued_answer, rejecting}
+use Rattle.turn_client_proto_timers.specs.Core.Attempting.{IsAttemptTaken, IsIndicationTaken, after_attempt, after_attempt_in, after_attempt_of, after_offer, answering, is_at_limit, is_attempt, may_join, offers_limit, queued_answer, rejecting, takes_offer}
 use Rattle.turn_client_proto_timers.specs.Core.declared.protocol.Protocol.{Protocol}
 use Rattle.turn_client_proto_step_laws.specs.Bounds.{WaitAtMost, is_announced}
 use Rattle.turn_client_proto_step_laws.proofs.Lists.{in_first}
+use Rattle.turn_client_proto_step_laws.proofs.Offering.{offer_so}
 use Rattle.turn_client_proto_step_laws.proofs.Polling.{by_test}
 
 -- Of a list that is shorter than the limit, and one element more, at most that many pass.
@@ -103,3 +105,32 @@ module _ (limit : ℕ) where
       (λ (_ : is_attempt bytes ≡ true) (o : (handled ≡ true) × (new ≡ after_attempt bytes old)).
       subst (λ (q : Protocol). StaysWithin old q) (sym o.1) (taken_of old is (number_at bytes) (connection_reported bytes) (peer_reported bytes)))
       (λ (_ : is_attempt bytes ≡ false) (o : (handled ≡ false) × (new ≡ old)). subst (λ (q : Protocol). StaysWithin old q) (sym o.1) (unchanged old)) taken
+
+-- ---- indications
+
+-- What an indication leaves: all but the allocations is as before, and one that changed has at most as many
+-- connections that wait as are allowed.
+pub record StaysSmall (old new : Protocol) : Type 0 where
+  pub others : new ≡ record old { allocations = new.allocations }
+  pub each : (a : Allocation) → IsIn a new.allocations → IsIn a old.allocations ⊎ (length a.waiting ≤ offers_limit old.max_connection_attempts)
+
+all_before : (p : Protocol) → StaysSmall p p
+all_before p = record { others = refl; each = λ a listed. inl listed }
+
+pub offer_within : (old new : Protocol) (bytes : List ℕ) (handled : Bool) → IsIndicationTaken old bytes handled new → StaysSmall old new
+offer_within old new bytes handled taken =
+    let most : ℕ = offers_limit old.max_connection_attempts in
+    by_test (takes_offer old bytes)
+    (λ (_ : takes_offer old bytes ≡ true) (o : (handled ≡ true) × (new ≡ after_offer bytes old)).
+    subst (λ (q : Protocol). StaysSmall old q) (sym o.1) (offer_so bytes old (λ q. StaysSmall old q) (all_before old)
+    (λ connection peer a reported named found room. record {
+      others = refl;
+      each = λ x listed. elim (in_first (may_join peer old) (offered connection peer) x old.allocations listed) [
+        | inl was ↦ inl was
+        | inr changed ↦
+            let own : a ≡ changed.0 = Prim.cc (sym found ∙ changed.1) in
+            let there : length changed.0.waiting < most = subst (λ (y : Allocation). length y.waiting < most) own (below most (length a.waiting) room) in
+            inr (subst (λ (y : Allocation). length y.waiting ≤ most) (sym changed.2) (one_more changed.0.waiting (waiting_for connection peer) most there))
+      ];
+    })))
+    (λ (_ : takes_offer old bytes ≡ false) (o : (handled ≡ false) × (new ≡ old)). subst (λ (q : Protocol). StaysSmall old q) (sym o.1) (all_before old)) taken

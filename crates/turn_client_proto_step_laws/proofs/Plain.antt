@@ -88,6 +88,7 @@ plain_step : (started : List run.Message) (came : List (List ℕ)) (generated : 
 plain_step started came generated answered c count core is = record {
   account = refl;
   seed = refl;
+  accepts = λ a. a;
   realms = is.realms;
   counted = is.counts.counted;
   few = is.counts.few;

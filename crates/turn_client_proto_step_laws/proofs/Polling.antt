@@ -142,7 +142,7 @@ module _ (c : Client) (sound : IsSound c) (now : ℕ) (ticked : StunAgentPollRet
       subst (λ (p : Protocol). IsRunStep c [] None [] p) (sym same)
       (run_step [] [] None [] c c.transmitted mid
       (quiet None [] c c.transmitted mid (counts_none c mid refl) (λ realm h. inl h) mid_adds (nothing_transmitted [] c) refl)
-      mid_orderly (until_map c.core.phase (still_can c mid refl refl refl) sound.can_ask))
+      mid_orderly (until_map c.core.phase (still_can c mid refl refl refl refl) sound.can_ask))
 
   sent_ticks : (numbers : List ℕ) (over : Option ℕ) (wait : ℕ) (ret : TurnPollRet) (new : Protocol) → IsPolledSent numbers over wait mid now ret new → IsRunStep c [] None [] new
   sent_ticks numbers over wait ret new h =
@@ -176,7 +176,7 @@ module _ (c : Client) (sound : IsSound c) (now : ℕ) (ticked : StunAgentPollRet
       (permitting_orderly none_gained none_asks between relays are (none_fit agent)
       (allocations_orderly [] (parts_of mid) renewed less (λ r h. absurd h) stored mid_orderly)
       (both_distinct over now renewed stored)))
-      (until_map c.core.phase (still_can c core refl refl refl) sound.can_ask))
+      (until_map c.core.phase (still_can c core refl refl refl refl) sound.can_ask))
 
   -- The first of the sockets to be closed is reported, if there is one.
   closes : (all : List SocketAddr) (wanted : TurnPollRet) (over : Option ℕ) (ret : TurnPollRet) (new : Protocol) → IsClosing all wanted (after_time over now mid) ret new → IsRunStep c [] None [] new
@@ -196,7 +196,7 @@ module _ (c : Client) (sound : IsSound c) (now : ℕ) (ticked : StunAgentPollRet
       (nothing_transmitted [] c) refl)
       (joining_orderly none_connects none_learnt (parts_of mid) core.allocations are (λ k h. absurd h) (λ k h. absurd h)
       (same_first_distinct has_unasked requested_in (λ a. (refl, refl)) c.core.allocations sound.orderly.distinct) mid_orderly)
-      (until_map c.core.phase (still_can c core refl refl refl) sound.can_ask))
+      (until_map c.core.phase (still_can c core refl refl refl refl) sound.can_ask))
 
   standing_in : (found : Option Waiting) (over : Option ℕ) (wait : ℕ) (ret : TurnPollRet) (new : Protocol)
       → MatchOption found (AreAllocationsPolled over wait mid now ret new) (λ w. (ret ≡ socket_for mid w) × (new ≡ after_asking mid)) → IsRunStep c [] None [] new

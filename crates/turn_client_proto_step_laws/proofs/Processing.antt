@@ -113,7 +113,7 @@ module _ (c : Client) (mid : Protocol) (bytes : List ℕ) (now : ℕ) (under_way
       (phase_moved started made_it phase (numbers_again number (decoded_by (text_of request number)) is.number_is))
       (agent_less started moved agent none)) in
       asks c mid request number under_way is None core adds
-      (agent_orderly moved agent none (phase_orderly made_it phase alone orderly)) refl same_realm under_way.can_ask.families refl refl (nothing_transmitted started c)
+      (agent_orderly moved agent none (phase_orderly made_it phase alone orderly)) refl same_realm under_way.can_ask.settings refl refl (nothing_transmitted started c)
     where
       numbers_again : (number : ℕ) (m : run.Message) → m.number ≡ number → (n : ℕ) → IsIn n (numbers_sent mid.phase ++ number ∷ []) → IsIn n (numbers_sent mid.phase) ⊎ HasNumber n (m ∷ [])
       numbers_again number m same n h = elim (in_either n (numbers_sent mid.phase) (number ∷ []) h) [ inl was ↦ inl was | inr now ↦ inr (one_number n number m same now) ]
@@ -131,7 +131,7 @@ module _ (c : Client) (mid : Protocol) (bytes : List ℕ) (now : ℕ) (under_way
       let adds = adds_both started (parts_of mid) made_it (parts_of core) (requested_adds mid request number now)
       (phase_moved started made_it phase (λ n h. inr (one_number n number (decoded_by (text_of request number)) is.number_is h))) in
       asks c mid request number under_way is None core adds
-      (phase_orderly made_it phase alone orderly) refl same_realm (omega arith) refl
+      (phase_orderly made_it phase alone orderly) refl same_realm (omega arith, under_way.can_ask.settings.1) refl
       (none_decoded mid.events (AllocationCreateFailed IPV4 ∷ []) refl) (nothing_transmitted started c)
 
   pub challenge : (handled : Bool) (new : Protocol) → IsChallenged mid bytes now handled new → IsRunStep c (bytes ∷ []) None [] new

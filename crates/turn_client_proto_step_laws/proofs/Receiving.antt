@@ -6,6 +6,7 @@ use Rattle.turn_client_proto_timers.specs.StunTypesWire.Headers.{AreBytes}
 use Rattle.turn_client_proto_timers.specs.StunTypesWire.Types.{class_of}
 use Rattle.turn_client_proto_timers.specs.StunProtoAgent.Handling.{is_response}
 use Rattle.turn_client_proto_timers.specs.Allocation.Awaited.{has_number}
+use Rattle.turn_client_proto_timers.specs.Core.Attempting.{IsIndicationTaken}
 use Rattle.turn_client_proto_timers.specs.Core.Authenticating.{IsFirstJudged, IsSignedJudged}
 use Rattle.turn_client_proto_timers.specs.Core.Receiving.{IsFollowed, IsProcessed, IsProcessedIn, is_unawaited}
 use Rattle.turn_client_proto_timers.specs.TurnRuns.Indications.{is_indication}
@@ -17,6 +18,7 @@ use Rattle.turn_client_proto_step_laws.specs.RunClient.{Client}
 use Rattle.turn_client_proto_step_laws.specs.RunSteps.{IsRunStep}
 use Rattle.turn_client_proto_step_laws.specs.Sound.{BeforeAllocated, CanAsk, IsSound, UntilEnded}
 use Rattle.turn_client_proto_step_laws.proofs.Ending.{still}
+use Rattle.turn_client_proto_step_laws.proofs.Offering.{indication_step}
 use Rattle.turn_client_proto_step_laws.proofs.Processing.{IsAllocating, first_judged, signed_judged}
 use Rattle.turn_client_proto_step_laws.proofs.Polling.{by_test}
 use Rattle.turn_client_proto_step_laws.proofs.Standing.{standing_judged}
@@ -51,7 +53,8 @@ module _ (c : Client) (bytes : List ℕ) (now : ℕ) (handled : Bool) (new : Pro
       (λ (_ : (is_response bytes && has_number (number_at bytes) numbers) ≡ false). ignored) h
   processed_in Authenticated are_bytes message at h =
       by_test (is_indication (class_of (kind_at bytes)))
-      (λ (_ : is_indication (class_of (kind_at bytes)) ≡ true). ignored)
+      (λ (indication : is_indication (class_of (kind_at bytes)) ≡ true) (o : IsIndicationTaken c.core bytes handled new).
+      indication_step c bytes handled new sound (can_at Authenticated at) message indication o)
       (λ (_ : is_indication (class_of (kind_at bytes)) ≡ false) (f : IsFollowed IsJudgedStanding c.core bytes now handled new).
       standing_judged c bytes now sound.orderly (can_at Authenticated at) at are_bytes message f.verdict f.auth handled new f.is_judged f.outcome) h
 

@@ -92,7 +92,7 @@ module _ (c : Client) (mid : Protocol) (bytes : List ℕ) (now : ℕ) (under_way
       let orderly = agent_orderly listed agent none (allocations_orderly (refresh ∷ []) made_it left less (refresh_short number lifetime small)
       (same_first_distinct (awaits_reply (number_at bytes)) (reissued_under (Lifetime lifetime) (number_at bytes) number) (λ a. (refl, refl)) mid.allocations under_way.orderly.distinct)
       (requested_orderly mid (Refresh lifetime) number now is (allocated _ mid.phase occurs) under_way.orderly)) in
-      asks c mid (Refresh lifetime) number under_way is None core adds orderly refl (λ realm h. h) under_way.can_ask.families refl refl (nothing_transmitted started c)
+      asks c mid (Refresh lifetime) number under_way is None core adds orderly refl (λ realm h. h) under_way.can_ask.settings refl refl (nothing_transmitted started c)
 
   -- Another request once more, which is no REFRESH.
   anew : (what : PendingRequest) (number : ℕ) → IsMade mid (request_for what) number
@@ -113,7 +113,7 @@ module _ (c : Client) (mid : Protocol) (bytes : List ℕ) (now : ℕ) (under_way
       (adds_both started made_it listed (parts_of core) (allocations_permitting started (asks_by request number) made_it left are (made_number mid request number now is)) (agent_less started listed agent none)) in
       let orderly = agent_orderly listed agent none (permitting_orderly none_gained (asks_by request number) made_it left are fit
       (requested_orderly mid request number now is (allocated _ mid.phase occurs) under_way.orderly) distinct) in
-      asks c mid request number under_way is None core adds orderly refl (λ realm h. h) under_way.can_ask.families refl refl (nothing_transmitted started c)
+      asks c mid request number under_way is None core adds orderly refl (λ realm h. h) under_way.can_ask.settings refl refl (nothing_transmitted started c)
 
   -- A CONNECT once more.
   connects : (number : ℕ) (peer : SocketAddr) → IsWhole peer → IsMade mid (Connect peer) number
@@ -132,7 +132,7 @@ module _ (c : Client) (mid : Protocol) (bytes : List ℕ) (now : ℕ) (under_way
       (adds_both started made_it listed (parts_of core) (allocations_joining started (asks_to peer number) made_it left are (connect_number mid peer number now is)) (agent_less started listed agent none)) in
       let orderly = agent_orderly listed agent none (joining_orderly (asks_to peer number) none_learnt made_it left are (asks_connect mid peer number now is) (whole_to peer number whole) distinct
       (requested_orderly mid (Connect peer) number now is (allocated _ mid.phase occurs) under_way.orderly)) in
-      asks c mid (Connect peer) number under_way is None core adds orderly refl (λ realm h. h) under_way.can_ask.families refl refl (nothing_transmitted started c)
+      asks c mid (Connect peer) number under_way is None core adds orderly refl (λ realm h. h) under_way.can_ask.settings refl refl (nothing_transmitted started c)
 
   -- The first allocation that awaits the response uses the new request in place of the old one.
   connects_first : (number : ℕ) (peer : SocketAddr) → IsConnectFound (number_at bytes) peer mid.allocations

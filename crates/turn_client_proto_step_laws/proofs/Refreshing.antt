@@ -68,7 +68,7 @@ module _ (c : Client) (number now : ℕ) (sound : IsOrderly (parts_of c.core)) (
       (allocations_less (decoded_by text ∷ []) (refresh_of number 0 ∷ []) mid (map (deleted number now) c.core.allocations) less (refresh_made c.core number 0 is)) in
       let orderly = allocations_orderly (refresh_of number 0 ∷ []) mid (map (deleted number now) c.core.allocations) less (refresh_short number 0 (omega arith)) (deleted_distinct number now c.core.allocations sound.distinct)
       (requested_orderly c.core (Refresh 0) number now is (allocated _ c.core.phase occurs) sound) in
-      asks c c.core (Refresh 0) number under_way is None (after_delete number now c.core) adds orderly refl (λ realm h. h) under_way.can_ask.families refl refl (nothing_transmitted (decoded_by text ∷ []) c)
+      asks c c.core (Refresh 0) number under_way is None (after_delete number now c.core) adds orderly refl (λ realm h. h) under_way.can_ask.settings refl refl (nothing_transmitted (decoded_by text ∷ []) c)
 
 -- A client that could make requests still can, one transaction ID later.
 can_still : (c : Client) → CanAsk c → CanAsk (moved c (c.transmitted + 1) (after_number c.core))
@@ -76,7 +76,7 @@ can_still c can = record {
   account = can.account;
   settled = can.settled;
   texts = can.texts;
-  families = can.families;
+  settings = can.settings;
   words = words_after c.core.rng c.transmitted c.seed can.words;
 }
 

@@ -42,7 +42,7 @@ marks_first c passes sound =
     run_step [] [] None [] c c.transmitted core
     (quiet None [] c c.transmitted core (counts_none c core refl) (λ realm h. inl h) (allocations_less [] [] (parts_of c.core) left less (λ r h. absurd h)) (nothing_transmitted [] c) refl)
     (allocations_orderly [] (parts_of c.core) left less (λ r h. absurd h)
-    (same_first_distinct passes marked (λ a. (refl, refl)) c.core.allocations sound.orderly.distinct) sound.orderly) (until_map c.core.phase (still_can c core refl refl refl) sound.can_ask)
+    (same_first_distinct passes marked (λ a. (refl, refl)) c.core.allocations sound.orderly.distinct) sound.orderly) (until_map c.core.phase (still_can c core refl refl refl refl) sound.can_ask)
 
 pub authenticated : (phase : Phase) → is_authenticated phase ≡ true → phase ≡ Authenticated
 authenticated Initial h = absurd (Prim.cc h)
@@ -66,7 +66,7 @@ module _ (c : Client) (transport : TransportType) (ip : IpAddr) (now : ℕ) wher
       let stored = permitting_orderly none_gained (asks_by (CreatePermission ip) number) mid left are (permission_fit c.core ip number now is)
       (requested_orderly c.core (CreatePermission ip) number now is (allocated _ c.core.phase occurs) orderly)
       (same_first_distinct (is_of transport (family_of_ip ip)) (asking (record { ip = ip; numbers = number ∷ [] })) (λ a. (refl, refl)) c.core.allocations orderly.distinct) in
-      asks c c.core (CreatePermission ip) number under_way is None (after_asking transport ip number now c.core) adds stored refl (λ realm h. h) under_way.can_ask.families refl refl (nothing_transmitted (decoded_by text ∷ []) c)
+      asks c c.core (CreatePermission ip) number under_way is None (after_asking transport ip number now c.core) adds stored refl (λ realm h. h) under_way.can_ask.settings refl refl (nothing_transmitted (decoded_by text ∷ []) c)
 
   refused : (found : Option Allocation) (new : Protocol) → IsSound c → new ≡ refused_in found transport ip now c.core → IsRunStep c [] None [] new
   refused None new sound is = still c [] new sound is

@@ -70,7 +70,7 @@ module _ (c : Client) (transport : TransportType) (peer : SocketAddr) (now : ℕ
       (allocations_permitting (decoded_by text ∷ []) (asks_by (ChannelBind channel peer) number) mid left are (made_number c.core (ChannelBind channel peer) number now is)) in
       let stored = permitting_orderly none_gained (asks_by (ChannelBind channel peer) number) mid left are (channel_fit c.core channel peer number now whole is)
       (requested_orderly c.core (ChannelBind channel peer) number now is (allocated _ c.core.phase occurs) orderly) distinct in
-      asks c c.core (ChannelBind channel peer) number under_way is None (after_binding transport peer channel number now c.core) adds stored refl (λ realm h. h) under_way.can_ask.families refl refl (nothing_transmitted (decoded_by text ∷ []) c)
+      asks c c.core (ChannelBind channel peer) number under_way is None (after_binding transport peer channel number now c.core) adds stored refl (λ realm h. h) under_way.can_ask.settings refl refl (nothing_transmitted (decoded_by text ∷ []) c)
 
   refused : (found : Option Allocation) (new : Protocol) → IsSound c → new ≡ bind_refused_in found transport peer now c.core → IsRunStep c [] None [] new
   refused None new sound is = still c [] new sound is

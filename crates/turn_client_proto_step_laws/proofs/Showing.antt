@@ -3,8 +3,9 @@
 use Rattle.std.proofs.Common.{◌≡◌, ℕ, List, refl, sym, ap, ◌∙◌, subst, inl, inr}
 use Rattle.turn_client_proto_timers.specs.TurnRuns.Members.{IsIn}
 use Rattle.turn_client_proto_timers.specs.TurnRuns.Messages.{Message, Held, Gain, Holds, Knows, NamesHeld, Payload, FromPeer, Reported, FromChannel, FromConnection}
+use Rattle.turn_client_proto_timers.specs.TurnRuns.Names.{SocketAddr}
 use Rattle.turn_client_proto_timers.specs.TurnRuns.Words.{Wire, ClientWords}
-use Rattle.turn_client_proto_timers.specs.TurnRuns.Steps.{Arrives, Call, ClientStep, IsAnswered, IsDelivered, IsTried}
+use Rattle.turn_client_proto_timers.specs.TurnRuns.Steps.{Arrives, Call, ClientStep, IsAnswered, IsDelivered, IsOffered, IsTried}
 
 -- A call that handles the same bytes, with the same account, realm and algorithm, and at least as much
 -- outstanding.
@@ -38,6 +39,22 @@ module _ {V : Wire} {C : Type 0} (K : ClientWords V C) (call other : Call C) (sa
     brings = is.brings;
   }
 
+-- An indication that a call handled, any call handles that handles the same bytes.
+pub offered : {V : Wire} {C : Type 0} (K : ClientWords V C) (call other : Call C) → call.handled ≡ other.handled → (K.AcceptsOffers call.before → K.AcceptsOffers other.before)
+    → (number : ℕ) (peer : SocketAddr) → IsOffered K call number peer → IsOffered K other number peer
+offered K call other same accepts number peer is = record {
+  accepts = accepts is.accepts;
+  bytes = is.bytes;
+  handled = subst (IsIn is.bytes) same is.handled;
+  offer = is.offer;
+  shows = is.shows;
+  class_is = is.class_is;
+  method_is = is.method_is;
+  connection_is = is.connection_is;
+  others = is.others;
+  peers_are = is.peers_are;
+}
+
 module _ {V : Wire} {C : Type 0} (K : ClientWords V C) (call : Call C) (held : List Held) (payloads : List Payload) where
   abbrev reporting : Call C
   reporting = record call { visible = held; payloads = payloads }
@@ -47,6 +64,7 @@ module _ {V : Wire} {C : Type 0} (K : ClientWords V C) (call : Call C) (held : L
   reports_step are delivers names is = record {
     account = is.account;
     seed = is.seed;
+    accepts = is.accepts;
     realms = is.realms;
     counted = is.counted;
     few = is.few;
@@ -76,7 +94,10 @@ module _ {V : Wire} {C : Type 0} (K : ClientWords V C) (call : Call C) (held : L
       | inl was ↦ inl was
       | inr now ↦ elim now [
         | inl known ↦ inr (inl (known.0, answered K call reporting refl refl refl refl (λ m is. is) is.started (Knows n peer) known.0 known.1))
-        | inr came ↦ inr (inr (tried K call reporting refl refl refl refl (λ m is. is) came))
+        | inr announced ↦ elim announced [
+          | inl came ↦ inr (inr (inl (tried K call reporting refl refl refl refl (λ m is. is) came)))
+          | inr offer ↦ inr (inr (inr (offered K call reporting refl (λ a. a) n peer offer)))
+        ]
       ]
     ];
     attempted = λ n h. elim (is.attempted n h) [ inl was ↦ inl was | inr came ↦ inr (tried K call reporting refl refl refl refl (λ m is. is) came) ];

@@ -24,6 +24,7 @@ use Rattle.turn_client_proto_timers.specs.Messages.Judging.{IsJudged}
 use Rattle.turn_client_proto_timers.specs.Messages.Reported.{first_code, lifetime_reported}
 use Rattle.turn_client_proto_timers.specs.Messages.Noted.{is_relaying}
 use Rattle.turn_client_proto_timers.specs.Core.Asking.{requested}
+use Rattle.turn_client_proto_timers.specs.Core.Attempting.{IsIndicationTaken, after_offer, takes_offer}
 use Rattle.turn_client_proto_timers.specs.Core.Authenticating.{IsAllocatingAgain, IsChallenged, IsSignedJudged, allocates_again}
 use Rattle.turn_client_proto_timers.specs.Core.Deleting.{is_authenticated}
 use Rattle.turn_client_proto_timers.specs.Core.Ending.{ended}
@@ -41,6 +42,7 @@ use Rattle.turn_client_proto_step_laws.specs.RunClient.{Client}
 use Rattle.turn_client_proto_step_laws.specs.Sound.{IsSound}
 use Rattle.turn_client_proto_step_laws.proofs.Answered.{signed_by}
 use Rattle.turn_client_proto_step_laws.proofs.Lists.{both_so}
+use Rattle.turn_client_proto_step_laws.proofs.Offering.{offer_so}
 use Rattle.turn_client_proto_step_laws.proofs.Once.Judging.{Verdict}
 use Rattle.turn_client_proto_step_laws.proofs.Polling.{by_test}
 use Rattle.turn_client_proto_step_laws.proofs.Realms.{IsGoing, going_at}
@@ -82,6 +84,12 @@ module _ (Signed : Type 0) (bytes : List ℕ) (now : ℕ) where
   over : (p : Protocol) → Gives (Ends Signed p) (IsHandled (ended p))
   unfolding ended
   over p = outcome true (ended p) (inl (inr refl))
+
+  indicated : (p : Protocol) → Gives (Ends Signed p) (IsIndicationTaken p bytes)
+  indicated p = tested (takes_offer p bytes)
+      (λ _. outcome true (after_offer bytes p)
+      (offer_so bytes p (λ q. Ends Signed p q) (inl (inl (refl, λ h. h))) (λ connection peer a reported named found room. inl (inl (refl, λ h. h)))))
+      (λ _. ignored p)
 
   again_allocates : (p : Protocol) (number : ℕ) → Ends Signed p (challenged bytes (allocates_again number now p))
   unfolding challenged allocates_again requested
@@ -185,7 +193,7 @@ module _ (bytes : List ℕ) (now : ℕ) (old : Protocol) where
       (λ _. followed (Ends Signs old) IsSignedJudged (going_at old.phase (Authenticating numbers) at (λ stored. refl)) (λ auth verdict own. signed_gives Signs bytes now verdict own (judged auth old)))
       (λ _. ignored Signs bytes now old)
   processed_in Authenticated at isnt =
-      tested (is_indication (class_of (kind_at bytes))) (λ _. ignored Signs bytes now old)
+      tested (is_indication (class_of (kind_at bytes))) (λ _. indicated Signs bytes now old)
       (λ _. followed (Ends Signs old) IsJudgedStanding (going_at old.phase Authenticated at (λ stored. refl)) (λ auth verdict own. standing_gives Signs bytes now verdict own (judged auth old)))
   processed_in Ended at isnt = ignored Signs bytes now old
 

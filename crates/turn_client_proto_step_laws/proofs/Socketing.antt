@@ -66,7 +66,7 @@ goes c f queue core less alike adds orderly is sound =
     (quiet None [] c c.transmitted after (counts_none c after refl) (λ realm h. inl h)
     (adds_both [] (parts_of c.core) between (parts_of after) adds (allocations_less [] [] between left fewer (λ r h. absurd h))) (nothing_transmitted [] c) refl)
     (allocations_orderly [] between left fewer (λ r h. absurd h) (same_distinct f alike c.core.allocations sound.orderly.distinct) orderly)
-    (until_map c.core.phase (still_can c after refl refl refl) sound.can_ask))
+    (until_map c.core.phase (still_can c after refl refl refl refl) sound.can_ask))
 
 -- ---- a socket was closed
 
@@ -125,7 +125,7 @@ module _ (c : Client) (answer : AttemptAnswer) (number : ℕ) (is_number : IsNum
   once_answered is = record {
     adds = answered_adds;
     orderly = answered_orderly is.orderly;
-    can_ask = record { account = is.can_ask.account; settled = is.can_ask.settled; texts = is.can_ask.texts; families = is.can_ask.families; words = is.can_ask.words };
+    can_ask = record { account = is.can_ask.account; settled = is.can_ask.settled; texts = is.can_ask.texts; settings = is.can_ask.settings; words = is.can_ask.words };
     reported = is.reported;
     rng = is.rng;
     realms = is.realms;
@@ -164,7 +164,7 @@ module _ (c : Client) (here peer : SocketAddr) (connection now : ℕ) where
       let stored = allocations_orderly [] between left fewer (λ r h. absurd h) (same_distinct (release connection peer) (release_alike connection peer) tied distinct)
       (tying_orderly here peer connection (awaited number) passes asking knew (asks_bind mid here peer connection number now is) distinct
       (requested_from_orderly here mid (ConnectionBind connection) number now is (allocated _ mid.phase occurs) orderly)) in
-      asks c mid (ConnectionBind connection) number under_way is None (bound_with number mid) adds stored refl (λ realm h. h) under_way.can_ask.families refl refl (nothing_transmitted (decoded_by text ∷ []) c)
+      asks c mid (ConnectionBind connection) number under_way is None (bound_with number mid) adds stored refl (λ realm h. h) under_way.can_ask.settings refl refl (nothing_transmitted (decoded_by text ∷ []) c)
 
   -- If a peer opened the connection, the server is told first that there is a socket.
   opens : (number : ℕ) → c.core.phase ≡ Authenticated → IsUnderWay c [] c.core → IsMade c.core (ConnectionBind connection) number → IfSome (attempt_at connection peer c.core) IsNumber

@@ -36,7 +36,7 @@ use Rattle.turn_client_proto_timers.specs.Messages.declared.answer.AttemptAnswer
 use Rattle.turn_client_proto_timers.specs.Messages.declared.answer.AttemptAnswer.TheVariants.{AlreadyExists, BadRequest, Failed}
 use Rattle.turn_client_proto_timers.specs.Core.Allocating.{IsAllocatedFor, allocated, brought}
 use Rattle.turn_client_proto_timers.specs.Core.Asking.{requested}
-use Rattle.turn_client_proto_timers.specs.Core.Attempting.{IsAttemptTaken, after_attempt, after_attempt_in, after_attempt_of, answering, is_at_limit, is_attempt, may_join, rejecting}
+use Rattle.turn_client_proto_timers.specs.Core.Attempting.{IsAttemptTaken, IsIndicationTaken, after_attempt, after_attempt_in, after_attempt_of, after_offer, answering, is_at_limit, is_attempt, may_join, rejecting, takes_offer}
 use Rattle.turn_client_proto_timers.specs.Core.Authenticating.{IsAccepted, IsAllocateAnswered, IsAllocatingAgain, IsChallenged, IsErrorAnswered, IsFirstJudged, IsSignedJudged, IsUnauthenticated, allocates_again, allocates_other, ends_unsigned, family_left}
 use Rattle.turn_client_proto_timers.specs.Core.Binding.{IsBindResponded, IsBoundFor, IsUnboundFor, bound, expires_due, permission_with, permitted_with, renews_channels, rejected_with, unbound}
 use Rattle.turn_client_proto_timers.specs.Core.Ending.{ended}
@@ -53,6 +53,7 @@ use Rattle.turn_client_proto_step_laws.specs.Held.{Allocation, Connection}
 use Rattle.turn_client_proto_step_laws.proofs.Adding.{AreLess}
 use Rattle.turn_client_proto_step_laws.proofs.Lessening.{all_renewed}
 use Rattle.turn_client_proto_step_laws.proofs.Lists.{any_passes, found_in, found_passes, in_changed, in_map, passes_one}
+use Rattle.turn_client_proto_step_laws.proofs.Offering.{offer_so}
 use Rattle.turn_client_proto_step_laws.proofs.Once.Judging.{Verdict}
 use Rattle.turn_client_proto_step_laws.proofs.Streaming.{raw_first}
 
@@ -424,6 +425,15 @@ module _ (bytes : List ℕ) (now : ℕ) where
   attempt_keeps : (p : Protocol) → Keeps p.allocations (IsAttemptTaken p bytes)
   attempt_keeps p = tested (is_attempt bytes) (handled_so p.allocations (after_attempt bytes p) (attempt_of (connection_reported bytes) (peer_reported bytes) p)) (ignored p)
 
+  -- An indication changes no connection.
+  indication_keeps : (p : Protocol) → Keeps p.allocations (IsIndicationTaken p bytes)
+  indication_keeps p =
+      tested (takes_offer p bytes)
+      (handled_so p.allocations (after_offer bytes p)
+      (offer_so bytes p (λ q. AreOf p.allocations q.allocations) (of_all p.allocations)
+      (λ connection peer a reported named found room. of_first (attempts.offered connection peer) (λ x. refl) (may_join peer p) p.allocations)))
+      (ignored p)
+
   taken_keeps : (p : Protocol) → Keeps p.allocations (IsTakenUp p bytes now)
   taken_keeps p = tested (is_response bytes && is_awaited p.agent bytes) (request_accepted p) (attempt_keeps p)
 
@@ -445,7 +455,7 @@ module _ (bytes : List ℕ) (now : ℕ) where
     processed_in Initial = ignored old
     processed_in (InitialSent numbers) = tested (is_response bytes) (followed_keeps IsFirstJudged first_keeps) (ignored old)
     processed_in (Authenticating numbers) = tested (is_response bytes && has_number (number_at bytes) numbers) (followed_keeps IsSignedJudged signed_keeps) (ignored old)
-    processed_in Authenticated = tested (is_indication (class_of (kind_at bytes))) (ignored old) (followed_keeps IsJudgedStanding standing_keeps)
+    processed_in Authenticated = tested (is_indication (class_of (kind_at bytes))) (indication_keeps old) (followed_keeps IsJudgedStanding standing_keeps)
     processed_in Ended = ignored old
 
     pub processed_keeps : Keeps old.allocations (IsProcessed old bytes now)

@@ -88,7 +88,7 @@ module _ (c : Client) (mid : Protocol) (bytes : List ℕ) (now : ℕ) (under_way
         account = under_way.can_ask.account;
         settled = under_way.can_ask.settled;
         texts = under_way.can_ask.texts;
-        families = under_way.can_ask.families;
+        settings = under_way.can_ask.settings;
         words = under_way.can_ask.words;
       }))
 

@@ -50,7 +50,7 @@ module _ (passes : Allocation → Bool) (test : Connection → Bool) (stream : S
       run_step [] [] None [] c c.transmitted after
       (quiet None [] c c.transmitted after (counts_none c after refl) (λ realm h. inl h) (allocations_changing [] none_rebound (parts_of c.core) left are (λ k b h. absurd h)) (nothing_transmitted [] c) refl)
       (changing_orderly none_bound none_rebound (parts_of c.core) left are (λ k b h. absurd h) distinct sound.orderly)
-      (until_map c.core.phase (still_can c after refl refl refl) sound.can_ask)
+      (until_map c.core.phase (still_can c after refl refl refl refl) sound.can_ask)
 
 -- ---- what is held stays
 

@@ -27,7 +27,7 @@ use Rattle.turn_client_proto_timers.specs.Allocation.PendingRequests.{pending_re
 use Rattle.turn_client_proto_timers.specs.Allocation.Channels as channels
 use Rattle.turn_client_proto_timers.specs.Allocation.declared.pending.PendingRequest.{PendingRequest}
 use Rattle.turn_client_proto_timers.specs.Allocation.declared.pending.PendingRequest.TheVariants.{ChannelRenewal, Lifetime, NewChannel, NewConnection, NewPermission, Renewal}
-use Rattle.turn_client_proto_timers.specs.Connection.Attempts.{attempted, is_joining}
+use Rattle.turn_client_proto_timers.specs.Connection.Attempts.{attempted, is_joining, offered}
 use Rattle.turn_client_proto_timers.specs.Connection.Sockets.{closed, has_from, is_from}
 use Rattle.turn_client_proto_timers.specs.Connection.Streams.{awaiting, waits_in}
 use Rattle.turn_client_proto_timers.specs.Connection.Reported.{is_connect}
@@ -41,7 +41,7 @@ use Rattle.turn_client_proto_timers.specs.Messages.declared.answer.AttemptAnswer
 use Rattle.turn_client_proto_recv.specs.Sockets.{binding_time}
 use Rattle.turn_client_proto_timers.specs.Core.Allocating.{IsAllocatedFor, allocated, brought}
 use Rattle.turn_client_proto_timers.specs.Core.Asking.{requested}
-use Rattle.turn_client_proto_timers.specs.Core.Attempting.{IsAttemptTaken, after_attempt, after_attempt_in, after_attempt_of, answering, is_at_limit, is_attempt, may_join, rejecting}
+use Rattle.turn_client_proto_timers.specs.Core.Attempting.{IsAttemptTaken, IsIndicationTaken, after_attempt, after_attempt_in, after_attempt_of, after_offer, answering, is_at_limit, is_attempt, may_join, rejecting, takes_offer}
 use Rattle.turn_client_proto_timers.specs.Core.Authenticating.{IsAccepted, IsAllocateAnswered, IsAllocatingAgain, IsChallenged, IsErrorAnswered, IsFirstJudged, IsSignedJudged, IsUnauthenticated, allocates_again, allocates_other, ends_unsigned, family_left}
 use Rattle.turn_client_proto_timers.specs.Core.Binding.{IsBindResponded, IsBoundFor, IsUnboundFor, bound, expires_due, permission_with, renews_channels, unbound}
 use Rattle.turn_client_proto_timers.specs.Core.Deleting.{is_authenticated}
@@ -62,6 +62,7 @@ use Rattle.turn_client_proto_step_laws.specs.RunClient.{parts_of}
 use Rattle.turn_client_proto_step_laws.proofs.Adding.{AreLess, allocations_less}
 use Rattle.turn_client_proto_step_laws.proofs.Lessening.{each_less}
 use Rattle.turn_client_proto_step_laws.proofs.Lists.{both_so, in_changed}
+use Rattle.turn_client_proto_step_laws.proofs.Offering.{offer_so}
 use Rattle.turn_client_proto_step_laws.proofs.Once.Judging.{Verdict}
 use Rattle.turn_client_proto_step_laws.proofs.Parting.{closed_less}
 use Rattle.turn_client_proto_step_laws.proofs.Polling.{by_test}
@@ -163,6 +164,12 @@ attempt_more connection peer number a h HasItself = HasItself
 attempt_more connection peer number a h (HasPermission p listed) = HasPermission p listed
 attempt_more connection peer number a h (HasChannel c listed) = HasChannel c listed
 attempt_more connection peer number a h (HasConnection c listed bound) = HasConnection c listed bound
+
+offer_more : (connection : ℕ) (peer : SocketAddr) → NothingMore (offered connection peer)
+offer_more connection peer a h HasItself = HasItself
+offer_more connection peer a h (HasPermission p listed) = HasPermission p listed
+offer_more connection peer a h (HasChannel c listed) = HasChannel c listed
+offer_more connection peer a h (HasConnection c listed bound) = HasConnection c listed bound
 
 -- A connection that awaits a response is not bound.
 waits_more : (here : SocketAddr) (b : Binding) → NothingMore (waits_in here (Some b))
@@ -455,6 +462,15 @@ module _ (Signed : Type 0) (bytes : List ℕ) (now : ℕ) where
       tested bytes (is_attempt bytes)
       (λ _. handled_so bytes p (after_attempt bytes p) (attempt_of (connection_reported bytes) (peer_reported bytes) p)) (λ _. ignored bytes p)
 
+  -- An indication.
+  indication_keeps : (p : Protocol) → Keeps Signed bytes p (IsIndicationTaken p bytes)
+  indication_keeps p =
+      tested bytes (takes_offer p bytes)
+      (λ _. handled_so bytes p (after_offer bytes p)
+      (offer_so bytes p (λ q. NoMore p.allocations q.allocations) (same_more p.allocations)
+      (λ connection peer a reported named found room. first_more (offered connection peer) (offer_more connection peer) (may_join peer p) p.allocations)))
+      (λ _. ignored bytes p)
+
   taken_keeps : Signed → (p : Protocol) → Keeps Signed bytes p (IsTakenUp p bytes now)
   taken_keeps own p =
       tested bytes (is_response bytes && is_awaited p.agent bytes)
@@ -490,7 +506,7 @@ module _ (bytes : List ℕ) (now : ℕ) (old : Protocol) where
       tested bytes (is_response bytes && has_number (number_at bytes) numbers)
       (λ _. followed_keeps IsSignedJudged (going_at old.phase (Authenticating numbers) at (λ stored. refl)) (signed_keeps (IsAcceptedBy old bytes) bytes now)) (λ _. ignored bytes old)
   processed_in Authenticated at =
-      tested bytes (is_indication (class_of (kind_at bytes))) (λ _. ignored bytes old)
+      tested bytes (is_indication (class_of (kind_at bytes))) (λ _. indication_keeps (IsAcceptedBy old bytes) bytes now old)
       (λ _. followed_keeps IsJudgedStanding (going_at old.phase Authenticated at (λ stored. refl)) (standing_keeps (IsAcceptedBy old bytes) bytes now))
   processed_in Ended at = ignored bytes old
 

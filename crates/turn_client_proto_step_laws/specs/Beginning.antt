@@ -11,6 +11,7 @@ use Rattle.turn_client_proto_step_laws.specs.Sound.{stream_from}
 abbrev pub first_client : NameAndPassword → (seed : List ℕ) → Protocol → Client
 first_client credentials seed core = record {
   credentials = credentials;
+  offers = core.attempt_indications;
   seed = stream_from (of_seed seed);
   transmitted = 0;
   core = core;

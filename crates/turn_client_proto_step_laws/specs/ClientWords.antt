@@ -149,6 +149,7 @@ client_words = record {
   IsHeld = λ c. IsHeld c.core.allocations;
   Waits = λ c. Waits c.core.allocations;
   IsAttempted = λ c. IsAttempted c.core.allocations c.core.queue;
+  AcceptsOffers = λ c. c.offers ≡ true;
   IsBuffered = λ c frame. IsIn frame c.waiting;
   created = λ c. filter_map notice_of c.core.events;
 }

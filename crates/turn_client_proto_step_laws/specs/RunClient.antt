@@ -1,5 +1,5 @@
 -- What a run sees of a client, over either transport.
-use Rattle.std.specs.Prelude.{ℕ, ◌+◌, ◌-◌, ◌/◌, ◌%◌, ◌^◌, List}
+use Rattle.std.specs.Prelude.{ℕ, ◌+◌, ◌-◌, ◌/◌, ◌%◌, ◌^◌, Bool, List}
 use Rattle.rand_chacha.specs.ChaCha.{ChaCha}
 use Rattle.rand_core.specs.Stream.{Stream}
 use Rattle.turn_client_proto_timers.specs.StunTypesIntegrity.Credentials.{NameAndPassword}
@@ -11,11 +11,12 @@ use Rattle.turn_client_proto_timers.specs.Messages.Waiting.{Queued}
 use Rattle.turn_client_proto_timers.specs.Core.declared.protocol.Phase.{Phase}
 use Rattle.turn_client_proto_timers.specs.Core.declared.protocol.Protocol.{Protocol}
 
--- A client in a run: its user's credentials; the random stream from which its transaction IDs come, and the
+-- A client in a run: its user's credentials; whether it accepts indications; the random stream from which its transaction IDs come, and the
 -- count of those generated so far; the state of its protocol core; and the complete frames received over TCP
 -- that are buffered, the oldest first.
 pub record Client : Type 0 where
   pub credentials : NameAndPassword
+  pub offers : Bool
   pub seed : Stream
   pub transmitted : ℕ
   pub core : Protocol

@@ -1,6 +1,6 @@
 -- A client's invariant (RFC 8489, sections 5, 6 and 9.2; RFC 8656, sections 7, 8, 10 and 12; RFC 6062,
 -- section 4).
-use Rattle.std.specs.Prelude.{◌≡◌, ◌⊎◌, ℕ, ◌*◌, ◌<◌, ◌≤◌, ◌^◌, List, false, true, length, Some, None}
+use Rattle.std.specs.Prelude.{◌≡◌, ◌⊎◌, ℕ, ◌*◌, ◌<◌, ◌≤◌, ◌^◌, Bool, List, false, true, length, Some, None}
 use Rattle.std.specs.FinMap as map
 use Rattle.rand_chacha.specs.ChaCha.{ChaCha, next_word}
 use Rattle.rand_core.specs.Steps.{steps_u32, stream_of}
@@ -22,6 +22,7 @@ use Rattle.turn_client_proto_timers.specs.Peers.Channel.Numbers.{AreDistinct}
 use Rattle.turn_client_proto_timers.specs.TurnRuns.Messages.{Asks, Gain, Held, Holds, IsResponse, Knows, Permission, Channel as ChannelHeld, Connection as ConnectionHeld}
 use Rattle.turn_client_proto_timers.specs.TurnRuns.StunWire.{decoded_by}
 use Rattle.turn_client_proto_timers.specs.Messages.Waiting.{Queued}
+use Rattle.turn_client_proto_timers.specs.Core.declared.protocol.Protocol.{Protocol}
 use Rattle.turn_client_proto_timers.specs.Core.declared.protocol.Phase.{Phase}
 use Rattle.turn_client_proto_timers.specs.Core.declared.protocol.Phase.TheVariants.{Initial, InitialSent, Authenticating, Authenticated, Ended}
 use Rattle.turn_client_proto_timers.specs.Messages.ShortTexts.{HasShortTexts}
@@ -122,14 +123,18 @@ pub record IsOrderly (p : Parts) : Type 0 where
 abbrev pub stream_from : ChaCha → Stream
 stream_from rng = stream_of (steps_u32 (next_word 10)) rng
 
+-- At most two address families are requested, and indications are accepted if and only if `offers` is true.
+abbrev pub AreSettings : (offers : Bool) → Protocol → Type 0
+AreSettings offers p = (length p.families ≤ 2) × (p.attempt_indications ≡ offers)
+
 -- The client signs under its own name and password, and no others were set for the next challenge; its texts fit
--- into a request; it has at most two address families; and its generator is at the index of its next transaction
+-- into a request; its settings are those of its start; and its generator is at the index of its next transaction
 -- ID in the stream of its seed.
 pub record CanAsk (c : Client) : Type 0 where
   pub account : c.core.auth.account ≡ Some c.credentials
   pub settled : c.core.auth.next_account ≡ None
   pub texts : HasShortTexts c.core.auth
-  pub families : length c.core.families ≤ 2
+  pub settings : AreSettings c.offers c.core
   pub words : stream_from c.core.rng ≡ stream_after (number_words * c.transmitted) c.seed
 
 -- The statement holds until the client has ended: from then on it makes no request.

@@ -1,9 +1,11 @@
-//! What the server's own requests make a client store. The function does nothing; its contract is a
-//! theorem.
+//! What the server's own requests and indications make a client store. The functions do nothing;
+//! their contracts are theorems.
 
-ghost use Rattle.std.specs.Prelude.{◌≡◌, ◌≤◌, ℕ, Bool, List, Some, length};
-ghost use Rattle.turn_client_proto_timers.specs.Core.Attempting.{IsAttemptTaken};
+ghost use Rattle.std.specs.Prelude.{◌≡◌, ◌≤◌, ◌⊎◌, ℕ, Bool, List, Some, length};
+ghost use Rattle.turn_client_proto_timers.specs.Allocation.declared.allocation.Allocation.{Allocation};
+ghost use Rattle.turn_client_proto_timers.specs.Core.Attempting.{IsAttemptTaken, IsIndicationTaken, offers_limit};
 ghost use Rattle.turn_client_proto_timers.specs.Core.declared.protocol.Protocol.{Protocol};
+ghost use Rattle.turn_client_proto_timers.specs.TurnRuns.Members.{IsIn};
 ghost use Rattle.turn_client_proto_step_laws.specs.Bounds.{WaitAtMost};
 
 /// What a validated request of the server adds stays within the client's limit
@@ -28,4 +30,21 @@ pub fn attempts_are_bounded()
         → IsAttemptTaken old bytes handled new
         → length old.queue ≤ limit
         → length new.queue ≤ limit }
+{}
+
+/// What an indication adds stays within the limit, which is 64 if the settings have none
+/// (`TurnConfig::set_attempt_indications`; RFC 6062, section 4.4).
+///
+/// - `others`: an indication changes allocations alone; no event, request or response is queued.
+/// - `waiting`: an allocation that it changed has no more connections that wait for their socket
+///   than are allowed, however many indications came before.
+pub fn indications_are_bounded()
+    ensures others { (old new : Protocol) (bytes : List ℕ) (handled : Bool)
+        → IsIndicationTaken old bytes handled new
+        → new ≡ record old { allocations = new.allocations } }
+    ensures waiting { (old new : Protocol) (bytes : List ℕ) (handled : Bool)
+        → IsIndicationTaken old bytes handled new
+        → (a : Allocation) → IsIn a new.allocations
+        → IsIn a old.allocations
+        ⊎ (length a.waiting ≤ offers_limit old.max_connection_attempts) }
 {}

@@ -44,6 +44,7 @@ use Rattle.turn_client_proto_handshake_laws.specs.Core.Ending.{ended}
 use Rattle.turn_client_proto_handshake_laws.specs.Core.Numbering.{after_draw, awaits, is_taken}
 use Rattle.turn_client_proto_handshake_laws.specs.Core.Outcomes.{IsHandled, IsIgnored}
 use Rattle.turn_client_proto_core.proofs.Awaiting.{processed_awaited}
+use Rattle.turn_client_proto_handshake_laws.specs.Core.Attempting.{IsIndicationTaken}
 use Rattle.turn_client_proto_handshake_laws.specs.Core.Receiving.{IsFollowed, IsProcessed, IsProcessedIn}
 use Rattle.turn_client_proto_handshake_laws.specs.Core.Responding.{challenged, is_tired, judged, most_resends}
 use Rattle.turn_client_proto_handshake_laws.specs.Core.Standing.{IsJudgedStanding, IsRequestedAgain, IsSentAgain, asks_again, request_for}
@@ -139,6 +140,7 @@ module _ (h : Holder) (one two : Requested) (b : Allocation) (queue : List Queue
       families = w.settings.families;
       options = w.settings.options;
       pace = w.settings.pace;
+      indications = w.settings.indications;
       usual = w.settings.usual;
     };
     signs = w.signs;
@@ -162,6 +164,7 @@ module _ (h : Holder) (one two : Requested) (b : Allocation) (queue : List Queue
       families = w.settings.families;
       options = w.settings.options;
       pace = w.settings.pace;
+      indications = w.settings.indications;
       usual = w.settings.usual;
     };
     signs = w.signs;
@@ -225,6 +228,7 @@ module _ (h : Holder) (one : Requested) (a : Allocation) (last : ℕ) (events : 
         families = w.settings.families;
         options = w.settings.options;
         pace = w.settings.pace;
+        indications = w.settings.indications;
         usual = w.settings.usual;
       };
       signs = signs;
@@ -318,5 +322,5 @@ module _ (h : Holder) (one : Requested) (a : Allocation) (last : ℕ) (events : 
     pub challenge_processed : (handled : Bool) (some : IntegrityAlgorithm) → CanAnswer h reported some → IsProcessed p bytes now handled q → IsAskedAgain now q
     challenge_processed handled some can processed =
         let in_phase : IsProcessedIn Authenticated p bytes now handled q = subst (λ (f : Phase). IsProcessedIn f p bytes now handled q) w.phase (processed_awaited p bytes now handled q awaited_is processed) in
-        let f = where_false (IsIgnored p handled q) (IsFollowed IsJudgedStanding p bytes now handled q) (is_indication (class_of (kind_at bytes))) (no_indication bytes reported is.visible) in_phase in
+        let f = where_false (IsIndicationTaken p bytes handled q) (IsFollowed IsJudgedStanding p bytes now handled q) (is_indication (class_of (kind_at bytes))) (no_indication bytes reported is.visible) in_phase in
         by_verdict handled some can f.verdict f.auth f.is_judged f.outcome

@@ -39,6 +39,7 @@ use Rattle.turn_client_proto_handshake_laws.specs.Core.Asking.{requested, queued
 use Rattle.turn_client_proto_handshake_laws.specs.Core.Ending.{ended}
 use Rattle.turn_client_proto_handshake_laws.specs.Core.Numbering.{IsNextNumber, awaits, is_taken}
 use Rattle.turn_client_proto_handshake_laws.specs.Core.Outcomes.{IsHandled, IsIgnored}
+use Rattle.turn_client_proto_handshake_laws.specs.Core.Attempting.{IsIndicationTaken}
 use Rattle.turn_client_proto_handshake_laws.specs.Core.Receiving.{IsFollowed, IsProcessed, IsProcessedIn}
 use Rattle.turn_client_proto_handshake_laws.specs.Core.Responding.{challenged, is_tired, judged}
 use Rattle.turn_client_proto_handshake_laws.specs.Core.Standing.{IsJudgedStanding, IsRequestedAgain, asks_again}
@@ -166,7 +167,7 @@ module _ (b : Beginning) (c : Choice) (chosen_before : IsChoice b c) (address : 
   pub challenge_processed : IsProcessed p bytes now handled q → HasAnswered
   challenge_processed processed =
       let in_phase = subst (λ (f : Phase). IsProcessedIn f p bytes now handled q) w.phase (processed_awaited p bytes now handled q awaited processed) in
-      let f = where_false (IsIgnored p handled q) (IsFollowed IsJudgedStanding p bytes now handled q) (is_indication (class_of (kind_at bytes))) no_indication in_phase in
+      let f = where_false (IsIndicationTaken p bytes handled q) (IsFollowed IsJudgedStanding p bytes now handled q) (is_indication (class_of (kind_at bytes))) no_indication in_phase in
       by_verdict f.verdict f.auth f.is_judged f.outcome
 
   -- ---- the next request
@@ -269,6 +270,7 @@ module _ (b : Beginning) (c : Choice) (chosen_before : IsChoice b c) (address : 
         families = w.settings.families;
         options = w.settings.options;
         pace = w.settings.pace;
+        indications = w.settings.indications;
         usual = w.settings.usual;
       };
       requested = subst (λ (y : agents.Agent). IsOnlyRequested b (refresh_requested b choice h.next now) 1 y) (sym both_after) second_only;

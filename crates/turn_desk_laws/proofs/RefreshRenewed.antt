@@ -25,7 +25,7 @@ use Rattle.turn_client_proto_messages.specs.StunProtoAgent.Handling.{after_messa
 use Rattle.turn_client_proto_messages.specs.StunProtoAgent.State as agents
 use Rattle.turn_client_proto_messages.proofs.StunProtoClient.Stepping.{right_is_accepted}
 use Rattle.turn_client_proto_messages.specs.TurnTypesAttributes.TurnRegistry.{refresh_method}
-use Rattle.turn_client_proto_handshake_laws.specs.Core.Attempting.{IsAttemptTaken}
+use Rattle.turn_client_proto_handshake_laws.specs.Core.Attempting.{IsAttemptTaken, IsIndicationTaken}
 use Rattle.turn_client_proto_handshake_laws.specs.Core.Binding.{IsBindResponded}
 use Rattle.turn_client_proto_handshake_laws.specs.Core.Outcomes.{IsHandled, IsIgnored}
 use Rattle.turn_client_proto_handshake_laws.specs.Core.Permitting.{IsPermissionResponded}
@@ -118,6 +118,7 @@ module _ (b : Beginning) (c : Choice) (address : SocketAddr) (t : Term) (earlier
       families = w.settings.families;
       options = w.settings.options;
       pace = w.settings.pace;
+      indications = w.settings.indications;
       usual = w.settings.usual;
     };
     none_requested = none_left p.agent.outstanding (number_at bytes) (λ other x there. w.requested.only other x there ∙ sym is.number_is);
@@ -164,5 +165,5 @@ module _ (b : Beginning) (c : Choice) (address : SocketAddr) (t : Term) (earlier
   renews processed =
       let in_phase = subst (λ (f : Phase). IsProcessedIn f p bytes now handled q) w.phase (processed_awaited p bytes now handled q awaited processed) in
       let no_indication : is_indication (class_of (kind_at bytes)) ≡ false = ap is_indication is.success in
-      let f = where_false (IsIgnored p handled q) (IsFollowed IsJudgedStanding p bytes now handled q) (is_indication (class_of (kind_at bytes))) no_indication in_phase in
+      let f = where_false (IsIndicationTaken p bytes handled q) (IsFollowed IsJudgedStanding p bytes now handled q) (is_indication (class_of (kind_at bytes))) no_indication in_phase in
       by_verdict f.verdict f.auth f.is_judged f.outcome

@@ -81,6 +81,7 @@ module _ (b : Beginning) (c : Choice) (address : SocketAddr) (t : Term) (earlier
         families = w.settings.families;
         options = w.settings.options;
         pace = w.settings.pace;
+        indications = w.settings.indications;
         usual = w.settings.usual;
       };
       requested = w.requested;
@@ -114,6 +115,7 @@ module _ (b : Beginning) (c : Choice) (address : SocketAddr) (t : Term) (earlier
         families = w.settings.families;
         options = w.settings.options;
         pace = w.settings.pace;
+        indications = w.settings.indications;
         usual = w.settings.usual;
       };
       requested = only;
@@ -160,6 +162,7 @@ module _ (b : Beginning) (c : Choice) (address : SocketAddr) (t : Term) (earlier
         families = w.settings.families;
         options = w.settings.options;
         pace = w.settings.pace;
+        indications = w.settings.indications;
         usual = w.settings.usual;
       };
       requested = w.requested;

@@ -26,7 +26,8 @@ use Rattle.turn_client_proto_api.specs.declared.answer.TurnRecvRet.TheVariants a
 use Rattle.turn_client_proto_messages.specs.Allocation.Awaited.{has_number}
 use Rattle.turn_client_proto_handshake_laws.specs.Core.Authenticating.{IsFirstJudged, IsSignedJudged}
 use Rattle.turn_client_proto_handshake_laws.specs.Core.Deleting.{is_authenticated}
-use Rattle.turn_client_proto_handshake_laws.specs.Core.Outcomes.{IsIgnored}
+use Rattle.turn_client_proto_handshake_laws.specs.Core.Attempting.{IsIndicationTaken, after_offer, takes_offer}
+use Rattle.turn_client_proto_handshake_laws.specs.Core.Outcomes.{IsHandled, IsIgnored}
 use Rattle.turn_client_proto_handshake_laws.specs.Core.Receiving.{IsFollowed, IsProcessed, IsProcessedIn, is_unawaited}
 use Rattle.turn_client_proto_handshake_laws.specs.Core.Standing.{IsJudgedStanding}
 use Rattle.turn_client_proto_handshake_laws.specs.Core.declared.protocol.Phase.{Phase}
@@ -67,11 +68,14 @@ unawaited p bytes now handled q hardened response none is =
     ∙ (ap (λ (x : Bool). x && not (is_awaited p.agent bytes)) response ∙ ap (λ (x : Bool). not x) (ap is_some none)) in
     (where_true (IsIgnored p handled q) (IsProcessedIn p.phase p bytes now handled q) (is_unawaited p bytes) so is).1
 
--- An indication, at any time and by any client.
-indication_ignored : (p : Protocol) (bytes : List ℕ) (now : ℕ) (handled : Bool) (q : Protocol) → is_indication (class_of (kind_at bytes)) ≡ true → IsProcessed p bytes now handled q → q ≡ p
+-- An indication, before the server has allocated or if the client accepts none.
+abbrev IsDeaf : Phase → Protocol → Type 0
+IsDeaf phase p = (is_authenticated phase ≡ false) ⊎ (p.attempt_indications ≡ false)
+
+indication_ignored : (p : Protocol) (bytes : List ℕ) (now : ℕ) (handled : Bool) (q : Protocol) → IsDeaf p.phase p → is_indication (class_of (kind_at bytes)) ≡ true → IsProcessed p bytes now handled q → q ≡ p
 unfolding is_unawaited
-indication_ignored p bytes now handled q indication is =
-    by p.phase (where_false (IsIgnored p handled q) (IsProcessedIn p.phase p bytes now handled q) (is_unawaited p bytes) so is)
+indication_ignored p bytes now handled q deaf indication is =
+    by p.phase deaf (where_false (IsIgnored p handled q) (IsProcessedIn p.phase p bytes now handled q) (is_unawaited p bytes) so is)
   where
     none : is_response bytes ≡ false
     none = no_response (class_of (kind_at bytes)) indication
@@ -79,18 +83,21 @@ indication_ignored p bytes now handled q indication is =
     so : (p.auth.hardened && (is_response bytes && not (is_awaited p.agent bytes))) ≡ false
     so = and_right p.auth.hardened (is_response bytes && not (is_awaited p.agent bytes)) (and_left (is_response bytes) (not (is_awaited p.agent bytes)) none)
 
-    by : (f : Phase) → IsProcessedIn f p bytes now handled q → q ≡ p
-    by Initial ignored = ignored.1
-    by (InitialSent numbers) ignored = (where_false (IsFollowed IsFirstJudged p bytes now handled q) (IsIgnored p handled q) (is_response bytes) none ignored).1
-    by (Authenticating numbers) ignored = (where_false (IsFollowed IsSignedJudged p bytes now handled q) (IsIgnored p handled q) (is_response bytes && has_number (number_at bytes) numbers)
+    by : (f : Phase) → IsDeaf f p → IsProcessedIn f p bytes now handled q → q ≡ p
+    by Initial deaf' ignored = ignored.1
+    by (InitialSent numbers) deaf' ignored = (where_false (IsFollowed IsFirstJudged p bytes now handled q) (IsIgnored p handled q) (is_response bytes) none ignored).1
+    by (Authenticating numbers) deaf' ignored = (where_false (IsFollowed IsSignedJudged p bytes now handled q) (IsIgnored p handled q) (is_response bytes && has_number (number_at bytes) numbers)
         (and_left (is_response bytes) (has_number (number_at bytes) numbers) none) ignored).1
-    by Authenticated ignored = (where_true (IsIgnored p handled q) (IsFollowed IsJudgedStanding p bytes now handled q) (is_indication (class_of (kind_at bytes))) indication ignored).1
-    by Ended ignored = ignored.1
+    by Authenticated (inl early) taken = absurd (Prim.cc early)
+    by Authenticated (inr off) taken = (where_false (IsHandled (after_offer bytes p) handled q) (IsIgnored p handled q) (takes_offer p bytes) (and_left p.attempt_indications _ off)
+        (where_true (IsIndicationTaken p bytes handled q) (IsFollowed IsJudgedStanding p bytes now handled q) (is_indication (class_of (kind_at bytes))) indication taken)).1
+    by Ended deaf' ignored = ignored.1
 
 -- The client has this server, no channel and no permission, and ignores responses with other transaction IDs
 -- than its two.
 pub record Ignores (b : Beginning) (bytes : List ℕ) (p : Protocol) : Type 0 where
   pub server : p.server ≡ b.server
+  pub deaf : (is_authenticated p.phase ≡ false) ⊎ (p.attempt_indications ≡ false)
   pub unbound : (id : ℕ) → bound id p.allocations ≡ None
   pub closed : (ip : IpAddr) → permitted ip p.allocations ≡ None
   pub responses : is_response bytes ≡ true → number_at bytes ≢ first_number b → number_at bytes ≢ second_number b → (now : ℕ) (handled : Bool) (q : Protocol) → IsProcessed p bytes now handled q → q ≡ p
@@ -128,7 +135,7 @@ module _ (b : Beginning) (bytes : List ℕ) (p : Protocol) (i : Ignores b bytes 
   -- A message of this kind is ignored.
   message_ignored : IsInvented b bytes → refusal bytes ≡ None → (now : ℕ) (handled : Bool) (q : Protocol) → IsProcessed p bytes now handled q → q ≡ p
   message_ignored (NoMessage none) message now handled q is = absurd (none message)
-  message_ignored (Indication message indication) _ now handled q is = indication_ignored p bytes now handled q indication is
+  message_ignored (Indication message indication) _ now handled q is = indication_ignored p bytes now handled q i.deaf indication is
   message_ignored (Response message response not_first not_second) _ now handled q is = i.responses response not_first not_second now handled q is
 
   module _ (came : Transmit (Bor (List ℕ))) (same : came.bytes.now ≡ bytes) (now : ℕ) (took : TurnRecvRet (Bor (List ℕ))) (ret : Answer) (reported : IsReported took ret) (q : Protocol) where

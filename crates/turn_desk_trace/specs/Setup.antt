@@ -113,13 +113,20 @@ AreAfterHardened (word ∷ rest) short attempts =
     ((word ≡ codes "short") × (short ≡ true) × AreAfterShort rest attempts)
     ⊎ ((word ≡ codes "attempts") × (short ≡ false) × IsAlone rest attempts)
 
--- The words after the seed: `hardened` or not, after it `short` or not, and after that `attempts` and the limit
--- on connections of peers, or not.
+-- The words after `indications`: `hardened` or not, after it `short` or not, and after that `attempts` and the
+-- limit on connections of peers, or not.
 abbrev pub AreOptions : List (List ℕ) → (hardened short : Bool) → (attempts : Option ℕ) → Type 0
 AreOptions [] hardened short attempts = (hardened ≡ false) × AreAfterHardened [] short attempts
 AreOptions (word ∷ rest) hardened short attempts =
     ((word ≡ codes "hardened") × (hardened ≡ true) × AreAfterHardened rest short attempts)
     ⊎ ((hardened ≡ false) × AreAfterHardened (word ∷ rest) short attempts)
+
+-- The words after the seed: `indications` or not, and after it the others.
+abbrev pub AreAllOptions : List (List ℕ) → (indications hardened short : Bool) → (attempts : Option ℕ) → Type 0
+AreAllOptions [] indications hardened short attempts = (indications ≡ false) × AreOptions [] hardened short attempts
+AreAllOptions (word ∷ rest) indications hardened short attempts =
+    ((word ≡ codes "indications") × (indications ≡ true) × AreOptions rest hardened short attempts)
+    ⊎ ((indications ≡ false) × AreOptions (word ∷ rest) hardened short attempts)
 
 -- The words spell the settings of a client with those addresses.
 pub record IsClientOf (local remote families algorithms anonymity name password seed : List ℕ)
@@ -133,7 +140,7 @@ pub record IsClientOf (local remote families algorithms anonymity name password 
   pub bound : length name ≤ MAX_USERNAME
   pub secret : client.password.now ≡ password
   pub transmitted : seed_of seed ≡ Some client.seed
-  pub options : AreOptions more client.hardened client.short_lifetimes client.attempts
+  pub options : AreAllOptions more client.indications client.hardened client.short_lifetimes client.attempts
 
 -- The first five words and the words after them spell the settings of a client.
 abbrev pub IsClientWith : List ℕ → List ℕ → List ℕ → List ℕ → List ℕ → List (List ℕ) → ClientSetup → Type 0

@@ -7,7 +7,7 @@ ghost use Rattle.stun_types_base.specs.declared.transport.TransportType.{Transpo
 ghost use Rattle.turn_desk_trace.specs.declared.setup.Client.{Client};
 ghost use Rattle.turn_desk_trace.specs.declared.setup.Families.{Families};
 ghost use Rattle.turn_desk_trace.specs.declared.setup.Setup.{Setup};
-ghost use Rattle.turn_desk_trace.specs.Setup.{anonymity_word, AreAfterHardened, AreAfterShort, AreDeskOptions, AreOptions, AreTransports, families_word, IsAddressLimit, IsAlone, IsClient, IsClientAt, IsClientOf, IsClientWith, IsDesk, IsMillis, IsRto, IsRtoOf, IsRtoWith, IsSetup, IsUser};
+ghost use Rattle.turn_desk_trace.specs.Setup.{anonymity_word, AreAfterHardened, AreAfterShort, AreAllOptions, AreDeskOptions, AreOptions, AreTransports, families_word, IsAddressLimit, IsAlone, IsClient, IsClientAt, IsClientOf, IsClientWith, IsDesk, IsMillis, IsRto, IsRtoOf, IsRtoWith, IsSetup, IsUser};
 
 use crate::address::{read_address, read_transport};
 use crate::algorithms::read_algorithms;
@@ -63,6 +63,8 @@ pub struct Client<'a> {
     pub short_lifetimes: bool,
     /// Its limit on connections of peers (`TurnConfig::set_max_connection_attempts`).
     pub attempts: Option<u32>,
+    /// Whether indications announce connections of peers (`TurnConfig::set_attempt_indications`).
+    pub indications: bool,
 }
 
 /// A line that comes before the events.
@@ -323,7 +325,7 @@ fn client_of<'a>(
     if name.len() > MAX_USERNAME {
         return None;
     }
-    let (hardened, short_lifetimes, attempts) = read_options(more)?;
+    let (indications, hardened, short_lifetimes, attempts) = read_all_options(more)?;
     Some(Client {
         local: read_address(local)?,
         remote: read_address(remote)?,
@@ -336,10 +338,36 @@ fn client_of<'a>(
         hardened,
         short_lifetimes,
         attempts,
+        indications,
     })
 }
 
-/// Reads the words after a client's seed: `hardened` or nothing, then `short` or nothing, then
+/// Reads the words after a client's seed: `indications` or nothing, then those of `read_options`.
+/// Returns whether indications announce connections of peers, whether the client is hardened,
+/// whether a REFRESH may shorten its allocations, and its limit on connections of peers; `None` for
+/// any other words.
+fn read_all_options(words: &[&str]) -> Option<(bool, bool, bool, Option<u32>)>
+    ensures { MatchOption result ((i h s : Bool) (a : Option ℕ)
+        → ¬ (AreAllOptions (map (λ x. x.now) words.entry.now) i h s a))
+        (λ read. AreAllOptions (map (λ x. x.now) words.entry.now) read.0 read.1 read.2 read.3) }
+{
+    match words {
+        [] => Some((false, false, false, None)),
+        ["indications", rest @ ..] => {
+            let (hardened, short, attempts) = read_options(rest)?;
+            Some((true, hardened, short, attempts))
+        }
+        ["hardened", rest @ ..] => {
+            let (short, attempts) = read_after_hardened(rest)?;
+            Some((false, true, short, attempts))
+        }
+        ["short", rest @ ..] => Some((false, false, true, read_after_short(rest)?)),
+        ["attempts", rest @ ..] => Some((false, false, false, read_alone(rest)?)),
+        _ => None,
+    }
+}
+
+/// Reads the words after `indications`: `hardened` or nothing, then `short` or nothing, then
 /// `attempts` and a limit or nothing. Returns whether the client is hardened, whether a REFRESH may
 /// shorten its allocations, and its limit on connections of peers; `None` for any other words.
 fn read_options(words: &[&str]) -> Option<(bool, bool, Option<u32>)>

@@ -61,6 +61,7 @@ config_of over client rto =
       hardened = client.hardened;
       max_connection_attempts = client.attempts;
       short_lifetimes = client.short_lifetimes;
+      attempt_indications = client.indications;
     })
 
 -- A new client over a transport, with these settings. Over TCP its stream has received nothing.

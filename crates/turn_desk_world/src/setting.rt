@@ -141,6 +141,7 @@ fn config_of(
     config.set_hardened(settings.hardened);
     config.set_max_connection_attempts(limit_of(settings.attempts));
     config.set_short_lifetimes(settings.short_lifetimes);
+    config.set_attempt_indications(settings.indications);
     wait(&mut config, rto);
     Ok(config)
 }

@@ -1,10 +1,11 @@
 //! `turn-replay`: reads a trace from standard input, and prints the result of each of its event
 //! lines. The exit status is:
 //!
-//! - 0: every line was executed.
+//! - 0: every line was executed, or an argument asks for the help or the version.
 //! - 1: there is a bad line.
 //! - 2: an allocation failed.
 //! - 3: the trace could not be read, or the results could not be written.
+//! - 64: an argument is refused.
 //!
 //! Input that begins with the byte `%` holds several traces, each preceded by that byte. (A single
 //! trace never begins with it.) After the results of each trace the program prints `status N`,
@@ -12,6 +13,9 @@
 //! whole input was read and buffered, and the results were written; otherwise it is 1.
 #![tactic(auto)]
 
+mod arguments;
+
+use crate::arguments::read_arguments;
 use std::io;
 use std::io::{BufRead, Read};
 use std::process::ExitCode;
@@ -21,6 +25,9 @@ use turn_desk_world::trace::replay;
 const MARK: u8 = b'%';
 
 fn main(rt: HostRuntime) -> ExitCode {
+    if let Err(status) = read_arguments(&rt) {
+        return status;
+    }
     let mut input = rt.reader();
     if begins_with_mark(&mut input) {
         return match replay_several(&rt, &mut input) {

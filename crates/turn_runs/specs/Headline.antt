@@ -1,11 +1,11 @@
 -- What is promised of a run: all that the client holds was granted by the server core in response to the
 -- client's own request for it.
-use Rattle.std.specs.Prelude.{◌≡◌, ℕ, List, [], ◌∷◌, ◌++◌, map, Some}
+use Rattle.std.specs.Prelude.{◌≡◌, ◌⊎◌, ℕ, List, [], ◌∷◌, ◌++◌, map, Some}
 use Rattle.turn_runs.specs.Members.{IsIn, NoneTwice}
 use Rattle.turn_runs.specs.Messages.{Message, Held, Connection, Gain, Holds, Knows, IsResponse, GrantIs, Payload, NamesHeld, IsOf}
-use Rattle.turn_runs.specs.Names.{IntegrityAlgorithm, Request, Success}
+use Rattle.turn_runs.specs.Names.{SocketAddr, IntegrityAlgorithm, Request, Success}
 use Rattle.turn_runs.specs.Words.{Words}
-use Rattle.turn_runs.specs.Steps.{reported_for, Reported, Grants, IsDelivered}
+use Rattle.turn_runs.specs.Steps.{reported_for, Reported, Grants, IsDelivered, IsOffered}
 use Rattle.turn_runs.specs.Runs.{IsKeyOf, Step, AtClient, AtDesk, AreDistinct, AtEach, AtSome, HasNumber, IsRealmOf, IsSignedByClient, IsSignedByDesk, NoForgery}
 
 module _ {C D : Type 0} (W : Words C D) where
@@ -35,10 +35,20 @@ module _ {C D : Type 0} (W : Words C D) where
   abbrev pub TracedBy : List (Step C D) → (number : ℕ) → Gain → Type 0
   TracedBy run number gain = AtSome (IsGrantedAt number gain) run
 
+  -- At this step the client, which accepts such, handled an indication of this connection.
+  abbrev pub IsOfferedAt : (number : ℕ) → (peer : SocketAddr) → Step C D → List (Step C D) → Type 0
+  IsOfferedAt number peer (AtClient call) earlier = IsOffered W.client call number peer
+  IsOfferedAt number peer (AtDesk d) earlier = ⊥
+
+  abbrev pub WasOffered : List (Step C D) → (number : ℕ) → (peer : SocketAddr) → Type 0
+  WasOffered run number peer = AtSome (IsOfferedAt number peer) run
+
   -- For a bound connection: the server core also granted its connection ID, in response to a CONNECT to its
-  -- peer.
+  -- peer. If the client accepts indications, then one may have announced the connection instead, by anybody:
+  -- that its peer opened it isn't known.
   abbrev pub IsConnected : List (Step C D) → Held → Type 0
-  IsConnected run (Connection local peer number) = (n : ℕ) × TracedBy run n (Knows number peer)
+  IsConnected run (Connection local peer number) =
+      ((n : ℕ) × TracedBy run n (Knows number peer)) ⊎ WasOffered run number peer
   IsConnected run _ = Unit {0}
 
   -- The server core granted `h` in response to a request with this transaction ID that the client
@@ -100,6 +110,11 @@ module _ {C D : Type 0} (W : Words C D) where
       (realm : List ℕ) → W.client.realm call.before ≡ Some realm → IsRealmOf W first whole realm
   KeepsRealm first whole (AtDesk d) = Unit {0}
 
+  -- A client that accepts indications before the call accepted them from the start (`IsOffered`).
+  abbrev pub KeepsOffers : (first : C) → Step C D → Type 0
+  KeepsOffers first (AtClient call) = W.client.AcceptsOffers call.before → W.client.AcceptsOffers first
+  KeepsOffers first (AtDesk d) = Unit {0}
+
   -- The client itself signed the text of no response that it handles: a reflected message is not taken for a
   -- response.
   abbrev pub TakesNoReflection : Step C D → List (Step C D) → Type 0
@@ -112,6 +127,7 @@ module _ {C D : Type 0} (W : Words C D) where
   pub record IsSafe (first last : C) (whole : List (Step C D)) (s : Step C D) (earlier : List (Step C D)) : Type 0 where
     pub desks : TakesDesks first last whole s earlier
     pub realms : KeepsRealm first whole s
+    pub offers : KeepsOffers first s
     pub clients : TakesClients first last whole s earlier
     pub reflects : TakesNoReflection s earlier
     pub holds : HoldsTraced s earlier

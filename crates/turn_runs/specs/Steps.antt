@@ -86,6 +86,20 @@ module _ {V : Wire} {C : Type 0} (K : ClientWords V C) where
     pub class_is : attempt.class ≡ Request
     pub method_is : attempt.method ≡ connection_attempt_method
 
+  -- The call handled a CONNECTION_ATTEMPT indication of this connection ID, whose first peer is this one, and
+  -- the client accepts such. Nobody signs an indication, so it may be anybody's.
+  pub record IsOffered (call : Call C) (transaction_id : ℕ) (peer : SocketAddr) : Type 0 where
+    pub accepts : K.AcceptsOffers call.before
+    pub bytes : List ℕ
+    pub handled : IsIn bytes call.handled
+    pub offer : Message
+    pub shows : V.visible bytes ≡ Some offer
+    pub class_is : offer.class ≡ Indication
+    pub method_is : offer.method ≡ connection_attempt_method
+    pub connection_is : offer.connection ≡ Some transaction_id
+    pub others : List SocketAddr
+    pub peers_are : offer.peers ≡ peer ∷ others
+
   -- If it is a connection, the client knew its connection ID and its peer.
   abbrev pub WasKnown : C → Held → Type 0
   WasKnown c (Connection local peer transaction_id) = K.Waits c transaction_id peer
@@ -108,6 +122,7 @@ module _ {V : Wire} {C : Type 0} (K : ClientWords V C) where
   pub record ClientStep (call : Call C) : Type 0 where
     pub account : K.account call.after ≡ K.account call.before
     pub seed : K.seed call.after ≡ K.seed call.before
+    pub accepts : K.AcceptsOffers call.after → K.AcceptsOffers call.before
     -- The realm that the client remembers afterwards is the one that it remembered before, or is named by a
     -- challenge that the call handled.
     pub realms : (realm : List ℕ) → K.realm call.after ≡ Some realm →
@@ -154,10 +169,12 @@ module _ {V : Wire} {C : Type 0} (K : ClientWords V C) where
     pub shows : (h : Held) → K.IsHeld call.after h → K.IsStored call.after h
     pub visible : (h : Held) → IsIn h call.visible → K.IsHeld call.after h
     -- For each connection that the client may newly bind, the call handled a response to a CONNECT that
-    -- brings its connection ID, or a CONNECTION_ATTEMPT of the server.
+    -- brings its connection ID, a CONNECTION_ATTEMPT request of the server, or an indication of just that
+    -- connection that the client accepts.
     pub waits : (transaction_id : ℕ) (peer : SocketAddr) → K.Waits call.after transaction_id peer →
         K.Waits call.before transaction_id peer
-        ⊎ (((n : ℕ) × IsAnswered call started (Knows transaction_id peer) n) ⊎ IsTried call)
+        ⊎ (((n : ℕ) × IsAnswered call started (Knows transaction_id peer) n)
+        ⊎ (IsTried call ⊎ IsOffered call transaction_id peer))
     pub attempted : (n : ℕ) → K.IsAttempted call.after n → K.IsAttempted call.before n ⊎ IsTried call
     -- Each payload was delivered in this step, and names something in the client's lists.
     pub delivers : (p : Payload) → IsIn p call.payloads → IsDelivered call p

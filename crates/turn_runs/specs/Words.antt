@@ -54,6 +54,8 @@ pub record ClientWords (V : Wire) (C : Type 0) : Type 1 where
   -- The transaction ID of a CONNECTION_ATTEMPT that the client has not yet answered, or whose response is
   -- queued.
   pub IsAttempted : C → ℕ → Type 0
+  -- The client accepts a CONNECTION_ATTEMPT indication, which carries no signature, as an announcement.
+  pub AcceptsOffers : C → Type 0
   -- A whole frame in a stream's buffer.
   pub IsBuffered : C → (bytes : List ℕ) → Type 0
   -- What the client's queued events report as created, the oldest first.

@@ -1,14 +1,14 @@
 -- A getter returns a connection after some requests. If the run has an account, the server core granted that
 -- very connection, by a CONNECT to its peer and a CONNECTION_BIND of its connection ID. If it did, there is
 -- an account.
-use Rattle.std.proofs.Common.{◌≡◌, ℕ, zero, suc, ◌≤◌, List, map, refl, inl, arith}
-use Rattle.turn_runs.specs.Headline.{ShowsTraced, Unless}
+use Rattle.std.proofs.Common.{◌≡◌, ℕ, zero, suc, ◌≤◌, List, map, refl, inl, inr, arith}
+use Rattle.turn_runs.specs.Headline.{IsOfferedAt, ShowsTraced, Unless, WasOffered}
 use Rattle.turn_runs.specs.Members.{IsIn}
 use Rattle.turn_runs.specs.Messages.{Connection, GrantIs, Holds, Knows}
 use Rattle.turn_runs.specs.Names.{SocketAddr}
-use Rattle.turn_runs.specs.Runs.{Step, AtEach, IsCounted}
+use Rattle.turn_runs.specs.Runs.{Step, AtClient, AtDesk, AtEach, IsCounted}
 use Rattle.turn_runs.specs.Steps.{Reported}
-use Rattle.turn_runs_laws.proofs.Tools.{in_right}
+use Rattle.turn_runs_laws.proofs.Tools.{from_some, in_right}
 use Rattle.turn_runs_laws.specs.Handshakes.{Addresses, grant_at, held_after, reported_at}
 use Rattle.turn_runs_laws.specs.Rounds.{fresh}
 use Rattle.turn_runs_laws.specs.SmallWords.{Client, small}
@@ -34,6 +34,14 @@ module _ (a : Addresses) where
   the_connect (suc (suc (suc (suc zero)))) number peer is = absurd (omega (arith, is.0))
   the_connect (suc (suc (suc (suc (suc d))))) number peer is = absurd (omega (arith, is.0))
 
+  -- The small client accepts no indications.
+  no_offer : (number : ℕ) (peer : SocketAddr) (s : Step Client ℕ) (earlier : List (Step Client ℕ)) → IsOfferedAt (small a) number peer s earlier → ⊥
+  no_offer number peer (AtClient call) earlier is = is.accepts
+  no_offer number peer (AtDesk d) earlier is = is
+
+  none_offered : (number : ℕ) (peer : SocketAddr) (run : List (Step Client ℕ)) → WasOffered (small a) run number peer → ⊥
+  none_offered number peer run offered = from_some (IsOfferedAt (small a) number peer) ⊥ (no_offer number peer) run offered
+
   joined_by : (n : ℕ) (local : SocketAddr) (number : ℕ) (peer : SocketAddr) (run : List (Step Client ℕ)) (last : Client) → n ≤ 16 →
       map forget run ≡ shows_connection a n local number peer → IsCounted (small a) fresh run last →
       Unless (small a) fresh run last (AtEach (ShowsTraced (small a)) run) → IsJoined a n number peer
@@ -41,9 +49,12 @@ module _ (a : Addresses) where
       let traced = traced_before a n (Connection local peer number) run last few reported counts visible in
       let bind = granted_early a n traced.0 (Connection local peer number) (Holds (Connection local peer number)) run reported traced.1.0 in
       let fifth = the_bind bind.0 number local peer bind.2 in
-      let known = traced.1.1 in
-      let connect = granted_early a n known.0 (Connection local peer number) (Knows number peer) run reported known.1 in
-      record { granted = omega (arith, bind.1, fifth.0); number_is = fifth.1; peer_is = the_connect connect.0 number peer connect.2 }
+      elim traced.1.1 [
+        | inl known ↦
+            let connect = granted_early a n known.0 (Connection local peer number) (Knows number peer) run reported known.1 in
+            record { granted = omega (arith, bind.1, fifth.0); number_is = fifth.1; peer_is = the_connect connect.0 number peer connect.2 }
+        | inr offered ↦ absurd (none_offered number peer run offered)
+      ]
 
   pub joined_where_listed : (n : ℕ) (local : SocketAddr) (number : ℕ) (peer : SocketAddr) → n ≤ 16 →
       AreSafe a fresh (shows_connection a n local number peer) → IsJoined a n number peer

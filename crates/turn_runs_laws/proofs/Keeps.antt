@@ -7,7 +7,7 @@ use Rattle.turn_types.specs.Attributes.TurnRegistry.{connection_attempt_method}
 use Rattle.turn_runs.specs.Words.{Words, WireLaws}
 use Rattle.turn_runs.specs.Steps.{Call, Reported, reported_for, IsOwnKey, Arrives, IsAnswered, IsTried, WasKnown, ClientStep, Grants, DeskStep}
 use Rattle.turn_runs.specs.Runs.{Step, AtClient, AtDesk, AtSome, AtEach, IsLawful, IsSignedByClient, IsSignedByDesk, IsSigned, WasSigned, HasNumber, AreDistinct, IsAuthentic, IsForClient, IsKeyOf, IsRealmOf, NamesRealm}
-use Rattle.turn_runs.specs.Headline.{DrawsSame, IsGrantedAt, TracedBy, IsConnected, TracedWith, Traced, AnswersGranted}
+use Rattle.turn_runs.specs.Headline.{DrawsSame, IsGrantedAt, TracedBy, WasOffered, IsConnected, TracedWith, Traced, AnswersGranted}
 use Rattle.turn_runs_laws.proofs.Tools.{in_either, in_left, in_right, none_twice, none_parts, map_joined, Parts, in_parts, both_at, some_weaker, each_weaker, from_some}
 use Rattle.turn_runs_laws.proofs.Grants.{granted_is, brings_by, brings_response, response_no_request, response_no_indication, request_no_indication}
 use Rattle.turn_runs_laws.proofs.Numbers.{AreAt, at_growing, at_index, at_unique, same_index, no_number_taken}
@@ -34,7 +34,9 @@ module _ {C D : Type 0} (W : Words C D) where
     pub attempted : (n : ℕ) → W.client.IsAttempted c n → ⊥
     pub drew : AtEach (λ s _. DrewWell all s) run
     pub stored : (h : Held) → W.client.IsStored c h → Traced W run h
-    pub waits : (number : ℕ) (peer : SocketAddr) → W.client.Waits c number peer → (n : ℕ) × TracedBy W run n (Knows number peer)
+    pub accepts : W.client.AcceptsOffers c → W.client.AcceptsOffers first
+    pub waits : (number : ℕ) (peer : SocketAddr) → W.client.Waits c number peer →
+        ((n : ℕ) × TracedBy W run n (Knows number peer)) ⊎ WasOffered W run number peer
     -- The realm that is remembered counts, and so does one in a buffered challenge.
     pub realm : (r : List ℕ) → W.client.realm c ≡ Some r → IsRealmOf W first whole r
     pub buffered_realm : (bytes r : List ℕ) → W.client.IsBuffered c bytes → W.wire.reported_realm bytes ≡ Some r → IsRealmOf W first whole r
@@ -163,11 +165,17 @@ module _ {C D : Type 0} (W : Words C D) where
     -- ---- one call of a client
 
     -- What was traced stays traced.
+    pub waited_later : (s : Step C D) (earlier : List (Step C D)) (number : ℕ) (peer : SocketAddr)
+        → ((n : ℕ) × TracedBy W earlier n (Knows number peer)) ⊎ WasOffered W earlier number peer
+        → ((n : ℕ) × TracedBy W (s ∷ earlier) n (Knows number peer)) ⊎ WasOffered W (s ∷ earlier) number peer
+    waited_later s earlier number peer (inl granted) = inl (granted.0, inr granted.1)
+    waited_later s earlier number peer (inr offered) = inr (inr offered)
+
     pub connected_later : (s : Step C D) (earlier : List (Step C D)) (h : Held) → IsConnected W earlier h → IsConnected W (s ∷ earlier) h
     connected_later s earlier (Allocation transport address) k = tt
     connected_later s earlier (Permission transport ip) k = tt
     connected_later s earlier (Channel number peer) k = tt
-    connected_later s earlier (Connection local peer number) k = (k.0, inr k.1)
+    connected_later s earlier (Connection local peer number) k = waited_later s earlier number peer k
 
     pub traced_later : (s : Step C D) (earlier : List (Step C D)) (h : Held) → Traced W earlier h → Traced W (s ∷ earlier) h
     traced_later s earlier h t = (t.0, (inr t.1.0, connected_later s earlier h t.1.1))
@@ -383,6 +391,7 @@ module _ {C D : Type 0} (W : Words C D) where
       keeps_call = record {
         account = step.account ∙ stored.account;
         seed = step.seed ∙ stored.seed;
+        accepts = λ a. stored.accepts (step.accepts a);
         all = step.started ++ stored.all;
         numbered = λ m i. elim (in_either m step.started stored.all i) [
           | inl b ↦ started_number m b
@@ -424,10 +433,13 @@ module _ {C D : Type 0} (W : Words C D) where
         drew = (drew_here, each_weaker (λ s _. DrewWell stored.all s) (λ s _. DrewWell (step.started ++ stored.all) s) (λ s _ h. drew_more step.started stored.all s h) earlier stored.drew);
         stored = stored_traced;
         waits = λ number peer w. elim (step.waits number peer w) [
-          | inl o ↦ (let h = stored.waits number peer o in (h.0, inr h.1))
+          | inl o ↦ waited_later (AtClient call) earlier number peer (stored.waits number peer o)
           | inr x ↦ elim x [
-            | inl a ↦ (a.0, inr (answer_traced (Knows number peer) a.0 a.1))
-            | inr t ↦ absurd (never_tried t)
+            | inl a ↦ inl (a.0, inr (answer_traced (Knows number peer) a.0 a.1))
+            | inr y ↦ elim y [
+              | inl t ↦ absurd (never_tried t)
+              | inr offered ↦ inr (inl offered)
+            ]
           ]
         ];
         realm = λ r is. elim (step.realms r is) [

@@ -48,6 +48,7 @@ module _ (a : Addresses) where
   asks_step n = record {
     account = refl;
     seed = refl;
+    accepts = λ a. a;
     realms = λ r e. inl e;
     counted = omega (arith, one_given n);
     few = omega (arith, one_given n);
@@ -134,6 +135,7 @@ module _ (a : Addresses) where
   takes_step n = record {
     account = refl;
     seed = refl;
+    accepts = λ a. a;
     realms = λ r e. inl e;
     counted = omega (arith, none_given (suc n));
     few = omega (arith, none_given (suc n));
@@ -175,6 +177,7 @@ module _ (a : Addresses) where
   still_step c came visible held = record {
     account = refl;
     seed = refl;
+    accepts = λ a. a;
     realms = λ r e. inl e;
     counted = omega (arith, none_given (index_in c.core));
     few = omega (arith, none_given (index_in c.core));
@@ -226,6 +229,7 @@ module _ (a : Addresses) where
   challenge_step = record {
     account = refl;
     seed = refl;
+    accepts = λ a. a;
     realms = λ r e. inr (2 ∷ 0 ∷ [], inl refl, e);
     counted = omega (arith, none_given 0);
     few = omega (arith, none_given 0);

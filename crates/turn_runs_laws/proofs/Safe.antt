@@ -6,7 +6,7 @@ use Rattle.turn_runs.specs.Runs.{Step, AtClient, AtDesk, AtEach, AtSome, Leads, 
 use Rattle.turn_runs.specs.Headline.{IsSafe, AnswersOnce, IsPromised, ShowsTraced}
 use Rattle.turn_runs_laws.proofs.Tools.{both_at, some_weaker, from_some}
 use Rattle.turn_runs_laws.proofs.Numbers.{numbered_growing}
-use Rattle.turn_runs_laws.proofs.Keeps.{Stored, DrewWell, not_own, by_desk, past_of, request_transmitted, traced_later, with_later, handled_signed, keeps_call}
+use Rattle.turn_runs_laws.proofs.Keeps.{Stored, DrewWell, not_own, by_desk, past_of, request_transmitted, traced_later, waited_later, with_later, handled_signed, keeps_call}
 
 module _ {C D : Type 0} (W : Words C D) (laws : WireLaws W.wire) (first last : C) (whole : List (Step C D)) (distinct : AreDistinct W (W.client.seed first) (W.client.count last)) where
   keeps_desk : (earlier : List (Step C D)) (d : D) (c : C) → Stored W first (W.client.count last) whole earlier c → Stored W first (W.client.count last) whole (AtDesk d ∷ earlier) c
@@ -23,7 +23,8 @@ module _ {C D : Type 0} (W : Words C D) (laws : WireLaws W.wire) (first last : C
     attempted = stored.attempted;
     drew = (tt, stored.drew);
     stored = λ h k. traced_later W laws (AtDesk d) earlier h (stored.stored h k);
-    waits = λ number peer w. let h = stored.waits number peer w in (h.0, inr h.1);
+    accepts = stored.accepts;
+    waits = λ number peer w. waited_later W laws (AtDesk d) earlier number peer (stored.waits number peer w);
     realm = stored.realm;
     buffered_realm = stored.buffered_realm;
     buffered = λ bytes key text a m b own valid shows for_it. inr (stored.buffered bytes key text a m b own valid shows for_it);
@@ -45,6 +46,7 @@ module _ {C D : Type 0} (W : Words C D) (laws : WireLaws W.wire) (first last : C
   safe_desk earlier d c stored step lawful no_forgery authentic = record {
     desks = tt;
     realms = tt;
+    offers = tt;
     clients = λ key b m own validated shows is has.
         let v = step.validates key b validated in (
           v.0,
@@ -67,6 +69,7 @@ module _ {C D : Type 0} (W : Words C D) (laws : WireLaws W.wire) (first last : C
         (λ one before h. by_desk W laws stored.all stored.requests bytes key text a m valid shows responds one h.1 h.0)
         earlier (both_at (λ s _. DrewWell W stored.all s) (λ one _. IsSigned W key a text one) earlier stored.drew (handled_signed W laws first (W.client.count last) distinct whole earlier call named stored step lawful no_forgery authentic fits bytes key text a m came own valid shows (inl has)));
     realms = stored.realm;
+    offers = stored.accepts;
     clients = tt;
     reflects = λ bytes key text a m came valid shows responds signed.
         from_some _ ⊥ (λ one before h. not_own W laws stored.all stored.requests bytes key text a m valid shows responds one h.1 h.0)
@@ -93,6 +96,7 @@ module _ {C D : Type 0} (W : Words C D) (laws : WireLaws W.wire) (first last : C
       attempted = new.none_attempted;
       drew = tt;
       stored = λ h k. absurd (new.none_stored h k);
+      accepts = λ a. a;
       waits = λ number peer w. absurd (new.none_waits number peer w);
       realm = λ r is. inl is;
       buffered_realm = λ bytes r b reported. absurd (new.none_buffered bytes b);

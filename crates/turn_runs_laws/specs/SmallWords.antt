@@ -156,6 +156,7 @@ module _ (a : Addresses) where
     IsHeld = λ c h. IsIn h (held_after a (answered_in c.core));
     Waits = λ c transaction_id to. WaitsAfter a (answered_in c.core) transaction_id to;
     IsAttempted = λ c n. ⊥;
+    AcceptsOffers = λ c. ⊥;
     IsBuffered = λ c bytes. ⊥;
     created = λ c. [];
   }

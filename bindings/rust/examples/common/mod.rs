@@ -199,6 +199,16 @@ impl Run {
         }
     }
 
+    /// Says what the server told beside the relayed address.
+    fn say_granted(&self) {
+        if let Some(address) = self.client.mapped_address() {
+            self.say(format_args!("public address: {address}"));
+        }
+        if let Some(token) = self.client.reservation_token() {
+            self.say(format_args!("reservation token: {token:016x}"));
+        }
+    }
+
     /// Asks for what an event allows for.
     fn follow(&mut self, event: TurnEvent, cause: Option<&TurnCause>) -> Result<(), Failure> {
         let (now, why) = (self.now(), cause.map(text_of).unwrap_or_default());
@@ -206,9 +216,7 @@ impl Run {
             _ if self.is_deleted => {}
             (TurnEvent::AllocationCreated(..), peer) => {
                 self.keeps_until = Some(now + self.kept);
-                if let Some(address) = self.client.mapped_address() {
-                    self.say(format_args!("public address: {address}"));
-                }
+                self.say_granted();
                 if let Some(peer) = peer {
                     self.client.create_permission(BETWEEN, peer.ip(), now)?;
                 }
@@ -381,6 +389,7 @@ fn config(options: &Options, peer: Option<SocketAddr>) -> TurnConfig {
         config.set_supported_integrity(IntegrityAlgorithm::Sha256);
     }
     config.set_short_lifetimes(!options.ignores_short_lifetimes);
+    config.set_relayed_port(options.port);
     config
 }
 

@@ -3,6 +3,8 @@
 use std::net::SocketAddr;
 use std::time::Duration;
 
+use turn_client::RelayedPort;
+
 pub const USAGE: &str = "\
 [OPTION..]: asks a TURN server for an address, and sends payloads through it to a peer that sends them back
 
@@ -19,6 +21,9 @@ pub const USAGE: &str = "\
   --indications      no channel: each payload goes in an indication
   --follow           goes on at the server that this one names by an error 300, once
   --ignore-short-lifetimes   ignores a renewal that grants less than 600 s
+  --even-port        asks for an even port of the address
+  --reserve          the same, and that the server reserve the next port; tells the token for that
+  --token HEX        asks for the port that is reserved under this token, of 16 digits
   --sha256           messages are signed by HMAC-SHA256 alone; without it by that or HMAC-SHA1
   --help
 
@@ -29,6 +34,7 @@ Exit status: 0 all came back, or nothing was to be sent; 1 something was lost; 2
 const LEAST_SIZE: u32 = 4;
 const MOST_SIZE: u32 = 60_000;
 const MOST_COUNT: u32 = 1_000_000;
+const TOKEN_DIGITS: usize = 16;
 
 /// Whom the payloads go to.
 #[derive(Clone, Copy)]
@@ -51,6 +57,7 @@ pub struct Options {
     pub is_sha256: bool,
     pub follows: bool,
     pub ignores_short_lifetimes: bool,
+    pub port: RelayedPort,
 }
 
 /// Options as far as they were read.
@@ -69,6 +76,7 @@ struct Reader<I> {
     is_sha256: bool,
     follows: bool,
     ignores_short_lifetimes: bool,
+    port: Option<RelayedPort>,
 }
 
 impl<I: Iterator<Item = String>> Reader<I> {
@@ -88,6 +96,7 @@ impl<I: Iterator<Item = String>> Reader<I> {
             is_sha256: false,
             follows: false,
             ignores_short_lifetimes: false,
+            port: None,
         }
     }
 
@@ -117,6 +126,24 @@ impl<I: Iterator<Item = String>> Reader<I> {
         number.ok_or_else(|| format!("{option} {value} is no number from {least} to {most}"))
     }
 
+    fn token(&mut self, option: &str) -> Result<RelayedPort, String> {
+        let value = self.value(option)?;
+        let is_token =
+            value.len() == TOKEN_DIGITS && value.bytes().all(|it| it.is_ascii_hexdigit());
+        let token = u64::from_str_radix(&value, 16).ok().filter(|_| is_token);
+        token
+            .map(RelayedPort::Reserved)
+            .ok_or_else(|| format!("{option} {value} isn't {TOKEN_DIGITS} hexadecimal digits"))
+    }
+
+    /// Which port is asked for: by one option.
+    fn ask_port(&mut self, port: RelayedPort) -> Result<(), String> {
+        match self.port.replace(port) {
+            None => Ok(()),
+            Some(_) => Err("one of --even-port, --reserve and --token, and once".to_string()),
+        }
+    }
+
     fn take(&mut self, option: &str) -> Result<(), String> {
         match option {
             "--server" => self.server = self.address(option)?,
@@ -132,6 +159,12 @@ impl<I: Iterator<Item = String>> Reader<I> {
             "--indications" => self.has_no_channel = true,
             "--sha256" => self.is_sha256 = true,
             "--follow" => self.follows = true,
+            "--even-port" => self.ask_port(RelayedPort::Even)?,
+            "--reserve" => self.ask_port(RelayedPort::EvenAndNextReserved)?,
+            "--token" => {
+                let port = self.token(option)?;
+                self.ask_port(port)?;
+            }
             "--ignore-short-lifetimes" => self.ignores_short_lifetimes = true,
             _ => return Err(format!("{option} is no option")),
         }
@@ -162,6 +195,7 @@ impl<I: Iterator<Item = String>> Reader<I> {
             is_sha256: self.is_sha256,
             follows: self.follows,
             ignores_short_lifetimes: self.ignores_short_lifetimes,
+            port: self.port.unwrap_or(RelayedPort::Any),
         })
     }
 }

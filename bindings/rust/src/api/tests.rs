@@ -67,6 +67,22 @@ fn short_lifetimes_are_believed_unless_set_otherwise() {
 }
 
 #[test]
+fn indications_announce_connections_only_if_set() {
+    let mut config = usual();
+    let both = |config: &TurnConfig| {
+        (
+            told(config).attempt_indications,
+            config.attempt_indications(),
+        )
+    };
+    assert_eq!(both(&config), (0, false));
+    config.set_attempt_indications(true);
+    assert_eq!(both(&config), (1, true));
+    config.set_attempt_indications(false);
+    assert_eq!(both(&config), (0, false));
+}
+
+#[test]
 fn a_password_is_not_printed() {
     let printed = format!(
         "{:?}",

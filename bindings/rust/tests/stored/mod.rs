@@ -117,6 +117,7 @@ pub struct Exchange {
     pub pace: u32,
     pub port: &'static str,
     pub reservation: u64,
+    pub attempt_indications: u32,
     pub parts: &'static [Part],
 }
 
@@ -138,6 +139,7 @@ const EXCHANGE: Exchange = Exchange {
     pace: 0,
     port: "",
     reservation: 0,
+    attempt_indications: 0,
     parts: &[],
 };
 

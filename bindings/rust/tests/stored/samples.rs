@@ -210,6 +210,21 @@ const TEXT_203: &[u8] = &[1, 3, 0, 56, 33, 18, 164, 66, 161, 28, 105, 105, 19, 2
 const TEXT_204: &[u8] = &[0, 3, 0, 28, 33, 18, 164, 66, 159, 126, 105, 177, 25, 30, 70, 198, 207, 49, 209, 131, 0, 13, 0, 4, 0, 0, 0, 60, 0, 25, 0, 4, 17, 0, 0, 0, 0, 26, 0, 0, 0, 24, 0, 1, 0, 0, 0, 0];
 const TEXT_205: &[u8] = &[0, 3, 0, 104, 33, 18, 164, 66, 161, 28, 105, 105, 19, 252, 163, 167, 128, 152, 20, 79, 0, 25, 0, 4, 17, 0, 0, 0, 0, 13, 0, 4, 0, 0, 0, 60, 0, 24, 0, 1, 0, 0, 0, 0, 0, 6, 0, 5, 97, 108, 105, 99, 101, 0, 0, 0, 0, 20, 0, 11, 101, 120, 97, 109, 112, 108, 101, 46, 111, 114, 103, 0, 0, 21, 0, 24, 97, 32, 110, 111, 110, 99, 101, 32, 111, 102, 32, 111, 114, 100, 105, 110, 97, 114, 121, 32, 116, 101, 120, 116, 0, 8, 0, 20, 9, 29, 155, 73, 38, 212, 35, 158, 210, 62, 217, 66, 175, 47, 100, 186, 115, 57, 64, 181];
 const TEXT_206: &[u8] = &[1, 19, 0, 56, 33, 18, 164, 66, 161, 28, 105, 105, 19, 252, 163, 167, 128, 152, 20, 79, 0, 9, 0, 25, 0, 0, 5, 8, 73, 110, 115, 117, 102, 102, 105, 99, 105, 101, 110, 116, 32, 67, 97, 112, 97, 99, 105, 116, 121, 0, 0, 0, 0, 8, 0, 20, 104, 52, 157, 215, 140, 177, 4, 84, 225, 193, 118, 14, 166, 167, 231, 232, 98, 215, 204, 235];
+const TEXT_207: &[u8] = &[0, 28, 0, 20, 33, 18, 164, 66, 1, 1, 1, 1, 1, 1, 1, 1, 1, 1, 1, 1, 0, 42, 0, 4, 0, 0, 0, 7, 0, 18, 0, 8, 0, 1, 2, 58, 231, 33, 192, 67];
+const TEXT_208: &[u8] = &[0, 28, 0, 20, 33, 18, 164, 66, 1, 1, 1, 1, 1, 1, 1, 1, 1, 1, 1, 1, 0, 42, 0, 4, 0, 0, 0, 7, 0, 18];
+const TEXT_209: &[u8] = &[0, 8, 0, 1, 2, 58, 231, 33, 192, 67];
+const TEXT_210: &[u8] = &[0, 11, 0, 88, 33, 18, 164, 66, 93, 43, 187, 232, 3, 225, 101, 35, 124, 231, 106, 15, 0, 42, 0, 4, 0, 0, 0, 7, 0, 6, 0, 5, 97, 108, 105, 99, 101, 0, 0, 0, 0, 20, 0, 11, 101, 120, 97, 109, 112, 108, 101, 46, 111, 114, 103, 0, 0, 21, 0, 24, 97, 32, 110, 111, 110, 99, 101, 32, 111, 102, 32, 111, 114, 100, 105, 110, 97, 114, 121, 32, 116, 101, 120, 116, 0, 8, 0, 20, 241, 158, 102, 107, 211, 16, 124, 111, 229, 85, 154, 125, 73, 66, 246, 51, 37, 105, 26, 198];
+const TEXT_211: &[u8] = &[1, 11, 0, 24, 33, 18, 164, 66, 93, 43, 187, 232, 3, 225, 101, 35, 124, 231, 106, 15, 0, 8, 0, 20, 176, 245, 41, 6, 63, 17, 42, 94, 198, 79, 16, 48, 219, 43, 250, 214, 41, 203, 147, 206, 104, 105];
+const TEXT_212: &[u8] = &[0, 28, 0, 20, 33, 18, 164, 66, 2, 2, 2, 2, 2, 2, 2, 2, 2, 2, 2, 2, 0, 42, 0, 4, 0, 0, 0, 8, 0, 18, 0, 8, 0, 1, 2, 58, 231, 33, 192, 67];
+const TEXT_213: &[u8] = &[0, 28, 0, 32, 33, 18, 164, 66, 3, 3, 3, 3, 3, 3, 3, 3, 3, 3, 3, 3, 0, 42, 0, 4, 0, 0, 0, 8, 0, 18, 0, 20, 0, 2, 2, 58, 1, 19, 169, 250, 3, 3, 3, 3, 3, 3, 3, 3, 3, 3, 3, 4];
+const TEXT_214: &[u8] = &[0, 28, 0, 8, 33, 18, 164, 66, 4, 4, 4, 4, 4, 4, 4, 4, 4, 4, 4, 4, 0, 42, 0, 4, 0, 0, 0, 8];
+const TEXT_215: &[u8] = &[0, 28, 0, 20, 33, 18, 164, 66, 5, 5, 5, 5, 5, 5, 5, 5, 5, 5, 5, 5, 0, 42, 0, 4, 0, 0, 0, 8, 0, 18, 0, 8, 0, 1, 2, 59, 231, 33, 192, 64];
+const TEXT_216: &[u8] = &[0, 28, 0, 20, 33, 18, 164, 66, 6, 6, 6, 6, 6, 6, 6, 6, 6, 6, 6, 6, 0, 42, 0, 4, 0, 0, 0, 9, 0, 18, 0, 8, 0, 1, 2, 59, 231, 33, 192, 64];
+const TEXT_217: &[u8] = &[0, 11, 0, 88, 33, 18, 164, 66, 112, 166, 137, 123, 201, 193, 166, 42, 34, 171, 177, 131, 0, 42, 0, 4, 0, 0, 0, 9, 0, 6, 0, 5, 97, 108, 105, 99, 101, 0, 0, 0, 0, 20, 0, 11, 101, 120, 97, 109, 112, 108, 101, 46, 111, 114, 103, 0, 0, 21, 0, 24, 97, 32, 110, 111, 110, 99, 101, 32, 111, 102, 32, 111, 114, 100, 105, 110, 97, 114, 121, 32, 116, 101, 120, 116, 0, 8, 0, 20, 154, 232, 237, 145, 119, 202, 201, 227, 73, 29, 47, 39, 193, 52, 145, 241, 16, 31, 221, 112];
+const TEXT_218: &[u8] = &[1, 27, 0, 64, 33, 18, 164, 66, 112, 166, 137, 123, 201, 193, 166, 42, 34, 171, 177, 131, 0, 9, 0, 33, 0, 0, 4, 47, 67, 111, 110, 110, 101, 99, 116, 105, 111, 110, 32, 84, 105, 109, 101, 111, 117, 116, 32, 111, 114, 32, 70, 97, 105, 108, 117, 114, 101, 0, 0, 0, 0, 8, 0, 20, 61, 254, 88, 158, 80, 8, 231, 118, 212, 108, 130, 167, 84, 119, 92, 230, 154, 74, 141, 220];
+const TEXT_219: &[u8] = &[1, 4, 0, 32, 33, 18, 164, 66, 32, 97, 103, 81, 22, 215, 138, 99, 57, 169, 194, 103, 0, 13, 0, 4, 0, 0, 0, 0, 0, 8, 0, 20, 252, 181, 185, 176, 216, 133, 151, 199, 157, 62, 122, 100, 166, 179, 22, 104, 218, 179, 144, 200];
+const TEXT_220: &[u8] = &[0, 28, 0, 20, 33, 18, 164, 66, 7, 7, 7, 7, 7, 7, 7, 7, 7, 7, 7, 7, 0, 42, 0, 4, 0, 0, 0, 10, 0, 18, 0, 8, 0, 1, 2, 59, 231, 33, 192, 64];
+const TEXT_221: &[u8] = &[1, 4, 0, 32, 33, 18, 164, 66, 93, 43, 187, 232, 3, 225, 101, 35, 124, 231, 106, 15, 0, 13, 0, 4, 0, 0, 0, 0, 0, 8, 0, 20, 196, 43, 14, 200, 41, 13, 70, 102, 227, 97, 115, 47, 8, 189, 189, 86, 98, 75, 173, 194];
 pub const EXCHANGES: &[Exchange] = &[
     Exchange { name: "over UDP", local: "192.0.2.1:5000", server: "192.0.2.2:3478", transport: "udp", peers: "udp", 
         parts: &[
@@ -1311,6 +1326,145 @@ pub const EXCHANGES: &[Exchange] = &[
                 Step { name: "", call: "draw", now: 90000000, want: Told { answer: "TURN_NOTHING", ..TOLD }, ..STEP },
                 Step { name: "", call: "delete", now: 90000000, want: Told { answer: "TURN_NO_ALLOCATION", ..TOLD }, ..STEP },
                 Step { name: "", call: "close", now: 90000000, want: Told { answer: "TURN_OK", ..TOLD }, ..STEP },
+            ]),
+        ],
+        ..EXCHANGE
+    },
+    Exchange { name: "connections that indications announce", local: "192.0.2.1:5000", server: "192.0.2.2:3478", transport: "tcp", peers: "tcp", attempt_indications: 1, 
+        parts: &[
+            ("connections that indications announce: the allocation", &[
+                Step { name: "", call: "open", now: 0, want: Told { answer: "TURN_OK", ..TOLD }, ..STEP },
+                Step { name: "", call: "draw", now: 0, want: Told { answer: "TURN_OK", bytes: TEXT_65, transport: "tcp", from: "192.0.2.1:5000", to: "192.0.2.2:3478", size: 40, ..TOLD }, ..STEP },
+                Step { name: "", call: "feed", now: 0, from: "192.0.2.2:3478", to: "192.0.2.1:5000", bytes: TEXT_2, want: Told { answer: "TURN_OK", ..TOLD }, ..STEP },
+                Step { name: "", call: "pull", now: 0, want: Told { answer: "TURN_NOTHING", ..TOLD }, ..STEP },
+                Step { name: "before there is an allocation", call: "feed", now: 0, from: "192.0.2.2:3478", to: "192.0.2.1:5000", bytes: TEXT_207, want: Told { answer: "TURN_IGNORED", ..TOLD }, ..STEP },
+                Step { name: "", call: "draw", now: 50000000, want: Told { answer: "TURN_OK", bytes: TEXT_66, transport: "tcp", from: "192.0.2.1:5000", to: "192.0.2.2:3478", size: 116, ..TOLD }, ..STEP },
+                Step { name: "", call: "feed", now: 60000000, from: "192.0.2.2:3478", to: "192.0.2.1:5000", bytes: TEXT_67, want: Told { answer: "TURN_OK", ..TOLD }, ..STEP },
+                Step { name: "", call: "pull", now: 60000000, want: Told { answer: "TURN_NOTHING", ..TOLD }, ..STEP },
+                Step { name: "", call: "event", now: 60000000, want: Told { answer: "TURN_OK", kind: "TURN_ALLOCATION_CREATED", transport: "tcp", peer: "203.0.113.5:50000", ..TOLD }, ..STEP },
+                Step { name: "", call: "event", now: 60000000, want: Told { answer: "TURN_NOTHING", ..TOLD }, ..STEP },
+                Step { name: "", call: "relayed", now: 60000000, number: 0, want: Told { answer: "1", transport: "tcp", peer: "203.0.113.5:50000", ..TOLD }, ..STEP },
+            ]),
+            ("connections that indications announce: a peer's connection is bound, and no response to the server is due", &[
+                Step { name: "", call: "feed", now: 100000000, from: "192.0.2.2:3478", to: "192.0.2.1:5000", bytes: TEXT_208, want: Told { answer: "TURN_OK", ..TOLD }, ..STEP },
+                Step { name: "", call: "pull", now: 100000000, want: Told { answer: "TURN_NOTHING", ..TOLD }, ..STEP },
+                Step { name: "", call: "feed", now: 100000000, from: "192.0.2.2:3478", to: "192.0.2.1:5000", bytes: TEXT_209, want: Told { answer: "TURN_OK", ..TOLD }, ..STEP },
+                Step { name: "", call: "pull", now: 100000000, want: Told { answer: "TURN_NOTHING", ..TOLD }, ..STEP },
+                Step { name: "", call: "draw", now: 100000000, want: Told { answer: "TURN_NOTHING", ..TOLD }, ..STEP },
+                Step { name: "", call: "event", now: 100000000, want: Told { answer: "TURN_NOTHING", ..TOLD }, ..STEP },
+                Step { name: "", call: "poll", now: 100000000, want: Told { answer: "TURN_OPEN_SOCKET", number: 7, transport: "tcp", from: "192.0.2.1:5000", to: "192.0.2.2:3478", peer: "198.51.100.1:9000", ..TOLD }, ..STEP },
+                Step { name: "", call: "connections", now: 100000000, number: 0, want: Told { answer: "0", ..TOLD }, ..STEP },
+                Step { name: "", call: "socket", now: 100000000, transport: "tcp", to: "198.51.100.1:9000", number: 7, from: "192.0.2.1:5001", want: Told { answer: "TURN_OK", ..TOLD }, ..STEP },
+                Step { name: "", call: "connections", now: 100000000, number: 0, want: Told { answer: "1", from: "192.0.2.1:5001", peer: "198.51.100.1:9000", number: 7, is_bound: false, ..TOLD }, ..STEP },
+                Step { name: "", call: "draw", now: 100000000, want: Told { answer: "TURN_OK", bytes: TEXT_210, transport: "tcp", from: "192.0.2.1:5001", to: "192.0.2.2:3478", size: 108, ..TOLD }, ..STEP },
+                Step { name: "", call: "draw", now: 100000000, want: Told { answer: "TURN_NOTHING", ..TOLD }, ..STEP },
+                Step { name: "", call: "feed", now: 100000000, from: "192.0.2.2:3478", to: "192.0.2.1:5001", bytes: TEXT_211, want: Told { answer: "TURN_OK", ..TOLD }, ..STEP },
+                Step { name: "", call: "pull", now: 100000000, want: Told { answer: "TURN_PAYLOAD", transport: "tcp", peer: "198.51.100.1:9000", is_joined: true, size: 2, ..TOLD }, ..STEP },
+                Step { name: "the joined bytes", call: "read", now: 100000000, want: Told { answer: "TURN_OK", bytes: TEXT_45, size: 2, ..TOLD }, ..STEP },
+                Step { name: "", call: "event", now: 100000000, want: Told { answer: "TURN_OK", kind: "TURN_TCP_CONNECTED", transport: "tcp", peer: "198.51.100.1:9000", ..TOLD }, ..STEP },
+                Step { name: "", call: "event", now: 100000000, want: Told { answer: "TURN_NOTHING", ..TOLD }, ..STEP },
+                Step { name: "", call: "feed", now: 100000000, from: "192.0.2.2:3478", to: "192.0.2.1:5001", bytes: TEXT_79, want: Told { answer: "TURN_PAYLOAD", transport: "tcp", peer: "198.51.100.1:9000", bytes: TEXT_79, start: 0, size: 9, ..TOLD }, ..STEP },
+                Step { name: "", call: "send", now: 100000000, transport: "tcp", to: "198.51.100.1:9000", bytes: TEXT_0, want: Told { answer: "TURN_NO_PERMISSION", ..TOLD }, ..STEP },
+                Step { name: "", call: "permit", now: 100000000, transport: "tcp", to: "198.51.100.1:9000", want: Told { answer: "TURN_OK", ..TOLD }, ..STEP },
+                Step { name: "", call: "draw", now: 150000000, want: Told { answer: "TURN_OK", bytes: TEXT_199, transport: "tcp", from: "192.0.2.1:5000", to: "192.0.2.2:3478", size: 112, ..TOLD }, ..STEP },
+                Step { name: "", call: "feed", now: 150000000, from: "192.0.2.2:3478", to: "192.0.2.1:5000", bytes: TEXT_69, want: Told { answer: "TURN_OK", ..TOLD }, ..STEP },
+                Step { name: "", call: "event", now: 150000000, want: Told { answer: "TURN_OK", kind: "TURN_PERMISSION_CREATED", transport: "tcp", peer: "198.51.100.1:0", ..TOLD }, ..STEP },
+                Step { name: "", call: "send", now: 150000000, transport: "tcp", to: "198.51.100.1:9000", bytes: TEXT_0, want: Told { answer: "TURN_OK", bytes: TEXT_0, transport: "tcp", from: "192.0.2.1:5001", to: "192.0.2.2:3478", size: 5, ..TOLD }, ..STEP },
+            ]),
+            ("connections that indications announce: what changes nothing", &[
+                Step { name: "a peer with a connection", call: "feed", now: 150000000, from: "192.0.2.2:3478", to: "192.0.2.1:5000", bytes: TEXT_212, want: Told { answer: "TURN_OK", ..TOLD }, ..STEP },
+                Step { name: "a peer of another family", call: "feed", now: 150000000, from: "192.0.2.2:3478", to: "192.0.2.1:5000", bytes: TEXT_213, want: Told { answer: "TURN_OK", ..TOLD }, ..STEP },
+                Step { name: "no peer", call: "feed", now: 150000000, from: "192.0.2.2:3478", to: "192.0.2.1:5000", bytes: TEXT_214, want: Told { answer: "TURN_OK", ..TOLD }, ..STEP },
+                Step { name: "", call: "draw", now: 150000000, want: Told { answer: "TURN_NOTHING", ..TOLD }, ..STEP },
+                Step { name: "", call: "connections", now: 150000000, number: 0, want: Told { answer: "1", from: "192.0.2.1:5001", peer: "198.51.100.1:9000", number: 7, is_bound: true, ..TOLD }, ..STEP },
+            ]),
+            ("connections that indications announce: no socket is opened, and no response is due", &[
+                Step { name: "", call: "feed", now: 150000000, from: "192.0.2.2:3478", to: "192.0.2.1:5000", bytes: TEXT_215, want: Told { answer: "TURN_OK", ..TOLD }, ..STEP },
+                Step { name: "", call: "poll", now: 150000000, want: Told { answer: "TURN_OPEN_SOCKET", number: 8, transport: "tcp", from: "192.0.2.1:5000", to: "192.0.2.2:3478", peer: "198.51.100.2:9001", ..TOLD }, ..STEP },
+                Step { name: "", call: "socket", now: 150000000, transport: "tcp", to: "198.51.100.2:9001", number: 8, from: "", want: Told { answer: "TURN_OK", ..TOLD }, ..STEP },
+                Step { name: "", call: "draw", now: 150000000, want: Told { answer: "TURN_NOTHING", ..TOLD }, ..STEP },
+                Step { name: "", call: "socket", now: 150000000, transport: "tcp", to: "198.51.100.2:9001", number: 8, from: "192.0.2.1:5002", want: Told { answer: "TURN_NO_ALLOCATION", ..TOLD }, ..STEP },
+            ]),
+            ("connections that indications announce: the server rejects its ID", &[
+                Step { name: "", call: "feed", now: 150000000, from: "192.0.2.2:3478", to: "192.0.2.1:5000", bytes: TEXT_216, want: Told { answer: "TURN_OK", ..TOLD }, ..STEP },
+                Step { name: "", call: "poll", now: 150000000, want: Told { answer: "TURN_OPEN_SOCKET", number: 9, transport: "tcp", from: "192.0.2.1:5000", to: "192.0.2.2:3478", peer: "198.51.100.2:9001", ..TOLD }, ..STEP },
+                Step { name: "", call: "socket", now: 150000000, transport: "tcp", to: "198.51.100.2:9001", number: 9, from: "192.0.2.1:5002", want: Told { answer: "TURN_OK", ..TOLD }, ..STEP },
+                Step { name: "", call: "draw", now: 200000000, want: Told { answer: "TURN_OK", bytes: TEXT_217, transport: "tcp", from: "192.0.2.1:5002", to: "192.0.2.2:3478", size: 108, ..TOLD }, ..STEP },
+                Step { name: "", call: "feed", now: 200000000, from: "192.0.2.2:3478", to: "192.0.2.1:5002", bytes: TEXT_218, want: Told { answer: "TURN_OK", ..TOLD }, ..STEP },
+                Step { name: "", call: "event", now: 200000000, want: Told { answer: "TURN_OK", kind: "TURN_TCP_FAILED", transport: "tcp", peer: "198.51.100.2:9001", ..TOLD }, ..STEP },
+                Step { name: "", call: "cause", now: 200000000, want: Told { answer: "TURN_OK", kind: "TURN_REJECTED", code: 447, is_signed: false, size: 29, ..TOLD }, ..STEP },
+                Step { name: "", call: "reason", now: 200000000, want: Told { answer: "TURN_OK", bytes: TEXT_75, size: 29, ..TOLD }, ..STEP },
+                Step { name: "", call: "domain", now: 200000000, want: Told { answer: "TURN_NOTHING", ..TOLD }, ..STEP },
+                Step { name: "", call: "poll", now: 200000000, want: Told { answer: "TURN_CLOSE_SOCKET", from: "192.0.2.1:5002", to: "192.0.2.2:3478", ..TOLD }, ..STEP },
+                Step { name: "", call: "connections", now: 200000000, number: 0, want: Told { answer: "1", from: "192.0.2.1:5001", peer: "198.51.100.1:9000", number: 7, is_bound: true, ..TOLD }, ..STEP },
+            ]),
+            ("connections that indications announce: the end", &[
+                Step { name: "", call: "delete", now: 250000000, want: Told { answer: "TURN_OK", ..TOLD }, ..STEP },
+                Step { name: "", call: "relayed", now: 250000000, number: 0, want: Told { answer: "0", ..TOLD }, ..STEP },
+                Step { name: "", call: "draw", now: 250000000, want: Told { answer: "TURN_OK", bytes: TEXT_61, transport: "tcp", from: "192.0.2.1:5000", to: "192.0.2.2:3478", size: 108, ..TOLD }, ..STEP },
+                Step { name: "", call: "feed", now: 250000000, from: "192.0.2.2:3478", to: "192.0.2.1:5000", bytes: TEXT_219, want: Told { answer: "TURN_OK", ..TOLD }, ..STEP },
+                Step { name: "", call: "pull", now: 250000000, want: Told { answer: "TURN_NOTHING", ..TOLD }, ..STEP },
+                Step { name: "", call: "poll", now: 250000000, want: Told { answer: "TURN_CLOSED", ..TOLD }, ..STEP },
+                Step { name: "", call: "event", now: 250000000, want: Told { answer: "TURN_NOTHING", ..TOLD }, ..STEP },
+                Step { name: "", call: "expired", now: 250000000, want: Told { answer: "TURN_NOTHING", ..TOLD }, ..STEP },
+                Step { name: "", call: "draw", now: 250000000, want: Told { answer: "TURN_NOTHING", ..TOLD }, ..STEP },
+                Step { name: "", call: "feed", now: 250000000, from: "192.0.2.2:3478", to: "192.0.2.1:5000", bytes: TEXT_220, want: Told { answer: "TURN_IGNORED", ..TOLD }, ..STEP },
+                Step { name: "", call: "close", now: 250000000, want: Told { answer: "TURN_OK", ..TOLD }, ..STEP },
+            ]),
+        ],
+        ..EXCHANGE
+    },
+    Exchange { name: "indications that announce nothing", local: "192.0.2.1:5000", server: "192.0.2.2:3478", transport: "tcp", peers: "tcp", 
+        parts: &[
+            ("indications that announce nothing: the allocation", &[
+                Step { name: "", call: "open", now: 0, want: Told { answer: "TURN_OK", ..TOLD }, ..STEP },
+                Step { name: "", call: "draw", now: 0, want: Told { answer: "TURN_OK", bytes: TEXT_65, transport: "tcp", from: "192.0.2.1:5000", to: "192.0.2.2:3478", size: 40, ..TOLD }, ..STEP },
+                Step { name: "", call: "feed", now: 0, from: "192.0.2.2:3478", to: "192.0.2.1:5000", bytes: TEXT_2, want: Told { answer: "TURN_OK", ..TOLD }, ..STEP },
+                Step { name: "", call: "pull", now: 0, want: Told { answer: "TURN_NOTHING", ..TOLD }, ..STEP },
+                Step { name: "", call: "draw", now: 50000000, want: Told { answer: "TURN_OK", bytes: TEXT_66, transport: "tcp", from: "192.0.2.1:5000", to: "192.0.2.2:3478", size: 116, ..TOLD }, ..STEP },
+                Step { name: "", call: "feed", now: 60000000, from: "192.0.2.2:3478", to: "192.0.2.1:5000", bytes: TEXT_67, want: Told { answer: "TURN_OK", ..TOLD }, ..STEP },
+                Step { name: "", call: "pull", now: 60000000, want: Told { answer: "TURN_NOTHING", ..TOLD }, ..STEP },
+                Step { name: "", call: "event", now: 60000000, want: Told { answer: "TURN_OK", kind: "TURN_ALLOCATION_CREATED", transport: "tcp", peer: "203.0.113.5:50000", ..TOLD }, ..STEP },
+                Step { name: "", call: "event", now: 60000000, want: Told { answer: "TURN_NOTHING", ..TOLD }, ..STEP },
+                Step { name: "", call: "relayed", now: 60000000, number: 0, want: Told { answer: "1", transport: "tcp", peer: "203.0.113.5:50000", ..TOLD }, ..STEP },
+            ]),
+            ("indications that announce nothing: without the setting", &[
+                Step { name: "", call: "feed", now: 60000000, from: "192.0.2.2:3478", to: "192.0.2.1:5000", bytes: TEXT_207, want: Told { answer: "TURN_IGNORED", ..TOLD }, ..STEP },
+                Step { name: "", call: "draw", now: 60000000, want: Told { answer: "TURN_NOTHING", ..TOLD }, ..STEP },
+                Step { name: "", call: "connections", now: 60000000, number: 0, want: Told { answer: "0", ..TOLD }, ..STEP },
+                Step { name: "", call: "delete", now: 100000000, want: Told { answer: "TURN_OK", ..TOLD }, ..STEP },
+                Step { name: "", call: "relayed", now: 100000000, number: 0, want: Told { answer: "0", ..TOLD }, ..STEP },
+                Step { name: "", call: "draw", now: 100000000, want: Told { answer: "TURN_OK", bytes: TEXT_193, transport: "tcp", from: "192.0.2.1:5000", to: "192.0.2.2:3478", size: 108, ..TOLD }, ..STEP },
+                Step { name: "", call: "feed", now: 100000000, from: "192.0.2.2:3478", to: "192.0.2.1:5000", bytes: TEXT_221, want: Told { answer: "TURN_OK", ..TOLD }, ..STEP },
+                Step { name: "", call: "pull", now: 100000000, want: Told { answer: "TURN_NOTHING", ..TOLD }, ..STEP },
+                Step { name: "", call: "poll", now: 100000000, want: Told { answer: "TURN_CLOSED", ..TOLD }, ..STEP },
+                Step { name: "", call: "event", now: 100000000, want: Told { answer: "TURN_NOTHING", ..TOLD }, ..STEP },
+                Step { name: "", call: "expired", now: 100000000, want: Told { answer: "TURN_NOTHING", ..TOLD }, ..STEP },
+                Step { name: "", call: "draw", now: 100000000, want: Told { answer: "TURN_NOTHING", ..TOLD }, ..STEP },
+                Step { name: "", call: "close", now: 100000000, want: Told { answer: "TURN_OK", ..TOLD }, ..STEP },
+            ]),
+        ],
+        ..EXCHANGE
+    },
+    Exchange { name: "indications beside an allocation over UDP", local: "192.0.2.1:5000", server: "192.0.2.2:3478", transport: "tcp", peers: "udp", attempt_indications: 1, 
+        parts: &[
+            ("indications beside an allocation over UDP: the allocation", &[
+                Step { name: "", call: "open", now: 0, want: Told { answer: "TURN_OK", ..TOLD }, ..STEP },
+                Step { name: "", call: "draw", now: 0, want: Told { answer: "TURN_OK", bytes: TEXT_1, transport: "tcp", from: "192.0.2.1:5000", to: "192.0.2.2:3478", size: 40, ..TOLD }, ..STEP },
+                Step { name: "", call: "feed", now: 0, from: "192.0.2.2:3478", to: "192.0.2.1:5000", bytes: TEXT_2, want: Told { answer: "TURN_OK", ..TOLD }, ..STEP },
+                Step { name: "", call: "pull", now: 0, want: Told { answer: "TURN_NOTHING", ..TOLD }, ..STEP },
+                Step { name: "", call: "draw", now: 50000000, want: Told { answer: "TURN_OK", bytes: TEXT_5, transport: "tcp", from: "192.0.2.1:5000", to: "192.0.2.2:3478", size: 116, ..TOLD }, ..STEP },
+                Step { name: "", call: "feed", now: 60000000, from: "192.0.2.2:3478", to: "192.0.2.1:5000", bytes: TEXT_67, want: Told { answer: "TURN_OK", ..TOLD }, ..STEP },
+                Step { name: "", call: "pull", now: 60000000, want: Told { answer: "TURN_NOTHING", ..TOLD }, ..STEP },
+                Step { name: "", call: "event", now: 60000000, want: Told { answer: "TURN_OK", kind: "TURN_ALLOCATION_CREATED", transport: "udp", peer: "203.0.113.5:50000", ..TOLD }, ..STEP },
+                Step { name: "", call: "event", now: 60000000, want: Told { answer: "TURN_NOTHING", ..TOLD }, ..STEP },
+                Step { name: "", call: "relayed", now: 60000000, number: 0, want: Told { answer: "1", transport: "udp", peer: "203.0.113.5:50000", ..TOLD }, ..STEP },
+            ]),
+            ("indications beside an allocation over UDP: they announce nothing", &[
+                Step { name: "", call: "feed", now: 60000000, from: "192.0.2.2:3478", to: "192.0.2.1:5000", bytes: TEXT_207, want: Told { answer: "TURN_IGNORED", ..TOLD }, ..STEP },
+                Step { name: "", call: "draw", now: 60000000, want: Told { answer: "TURN_NOTHING", ..TOLD }, ..STEP },
+                Step { name: "", call: "connections", now: 60000000, number: 0, want: Told { answer: "0", ..TOLD }, ..STEP },
+                Step { name: "", call: "close", now: 60000000, want: Told { answer: "TURN_OK", ..TOLD }, ..STEP },
             ]),
         ],
         ..EXCHANGE

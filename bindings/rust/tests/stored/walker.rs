@@ -110,6 +110,7 @@ fn config(exchange: &Exchange) -> TurnConfig {
         config.set_request_retransmits(first, most, exchange.sends, last);
     }
     config.set_short_lifetimes(exchange.ignore_short_lifetimes == 0);
+    config.set_attempt_indications(exchange.attempt_indications == 1);
     config.set_requested_lifetime(exchange.lifetime);
     config.set_pace(match exchange.pace {
         0 => Duration::from_millis(50),

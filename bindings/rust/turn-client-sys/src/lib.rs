@@ -249,6 +249,12 @@ pub struct turn_settings {
     pub port: u32,
     /// For TURN_PORT_RESERVED: what turn_client_reservation reported of another client.
     pub reservation: u64,
+    /// 0: only a signed request of the server announces a connection that a peer opens. 1: so does
+    /// a CONNECTION_ATTEMPT indication (RFC 6062, section 4.4), which coturn sends. It has no
+    /// signature, so whoever can write into the control connection can make one, with any ID and
+    /// any peer. If as many connections wait for their socket as max_connection_attempts allows,
+    /// or 64 if there is no limit, one more is ignored.
+    pub attempt_indications: u32,
 }
 
 /// 32 random bytes, from the system's source of random bytes and from nowhere else.

@@ -50,7 +50,7 @@ fn layouts() -> Vec<Row> {
         turn_settings {
             size, local, server, transport, peers, families, integrity, anonymous, sends,
             first_wait, most_wait, last_wait, compatible, max_connection_attempts,
-            ignore_short_lifetimes
+            ignore_short_lifetimes, lifetime, pace, port, reservation, attempt_indications
         }
         turn_seed { bytes }
         turn_transmit { size, transport, from, to }

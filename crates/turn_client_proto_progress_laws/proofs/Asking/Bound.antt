@@ -157,6 +157,7 @@ module _ (b : Beginning) (realm : List â„•) (address : SocketAddr) (channel : â„
             families = h.speaks.settings.families;
             options = h.speaks.settings.options;
             pace = h.speaks.settings.pace;
+            indications = h.speaks.settings.indications;
             usual = h.speaks.settings.usual;
           };
           phase = h.phase;

@@ -235,6 +235,7 @@ taken_holds b Is on k k2 h (Raw after control) = subst (λ (x : Protocol). HasHe
         families = h.settings.families;
         options = h.settings.options;
         pace = h.settings.pace;
+        indications = h.settings.indications;
         usual = h.settings.usual;
       };
       phase = h.phase;

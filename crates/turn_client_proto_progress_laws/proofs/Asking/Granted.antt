@@ -39,7 +39,7 @@ use Rattle.turn_client_proto_core.proofs.Awaiting.{processed_awaited}
 use Rattle.turn_client_proto_handshake_laws.specs.Core.Receiving.{IsFollowed, IsProcessed, IsProcessedIn}
 use Rattle.turn_client_proto_handshake_laws.specs.Core.Responding.{accepted, is_error_class, judged}
 use Rattle.turn_client_proto_handshake_laws.specs.Core.Standing.{IsJudgedStanding, IsRequestAnswered, IsTakenUp}
-use Rattle.turn_client_proto_handshake_laws.specs.Core.Attempting.{IsAttemptTaken}
+use Rattle.turn_client_proto_handshake_laws.specs.Core.Attempting.{IsAttemptTaken, IsIndicationTaken}
 use Rattle.turn_client_proto_handshake_laws.specs.Core.declared.protocol.Phase.{Phase}
 use Rattle.turn_client_proto_handshake_laws.specs.Core.declared.protocol.Phase.TheVariants.{Authenticated}
 use Rattle.turn_client_proto_handshake_laws.specs.Core.declared.protocol.Protocol.{Protocol}
@@ -114,7 +114,7 @@ module _ (b : Beginning) (realm : List ℕ) (address : SocketAddr) (wanted : Wan
     answers handled q processed =
         let in_phase : IsProcessedIn Authenticated p reply now handled q = subst (λ (f : Phase). IsProcessedIn f p reply now handled q) h.phase (processed_awaited p reply now handled q awaited processed) in
         let no_indication : is_indication (class_of (kind_at reply)) ≡ false = ap is_indication g.success in
-        let f = where_false (IsIgnored p handled q) (IsFollowed IsJudgedStanding p reply now handled q) (is_indication (class_of (kind_at reply))) no_indication in_phase in
+        let f = where_false (IsIndicationTaken p reply handled q) (IsFollowed IsJudgedStanding p reply now handled q) (is_indication (class_of (kind_at reply))) no_indication in_phase in
         by_verdict f.verdict f.auth handled q f.is_judged f.outcome
 
 -- ---- a permission
@@ -215,6 +215,7 @@ module _ (b : Beginning) (realm : List ℕ) (address : SocketAddr) (ip : IpAddr)
         families = h.speaks.settings.families;
         options = h.speaks.settings.options;
         pace = h.speaks.settings.pace;
+        indications = h.speaks.settings.indications;
         usual = h.speaks.settings.usual;
       };
       phase = h.phase;

@@ -40,9 +40,9 @@ use Rattle.turn_client_proto_progress_laws.proofs.Asking.Stored.{Keeps}
 
 -- ---- what no call changes but a message that comes
 
--- What the client asks the server for, and the least time between two messages.
-abbrev pub asked_of : Protocol → List AddressFamily × (AllocateOptions × ℕ)
-asked_of p = (p.families, (p.options, pace_of p))
+-- What the client asks the server for, the least time between two messages, and whether it accepts indications.
+abbrev pub asked_of : Protocol → List AddressFamily × (AllocateOptions × (ℕ × Bool))
+asked_of p = (p.families, (p.options, (pace_of p, p.attempt_indications)))
 
 pub record Same (p q : Protocol) : Type 0 where
   pub server : q.server ≡ p.server
@@ -63,9 +63,10 @@ settings_on b p q same of = record {
   here = same.here ∙ of.here;
   waits = same.waits ∙ of.waits;
   allocates = same.allocates ∙ of.allocates;
-  families = ap (λ (x : List AddressFamily × (AllocateOptions × ℕ)). x.0) same.asked ∙ of.families;
-  options = ap (λ (x : List AddressFamily × (AllocateOptions × ℕ)). x.1.0) same.asked ∙ of.options;
-  pace = ap (λ (x : List AddressFamily × (AllocateOptions × ℕ)). x.1.1) same.asked ∙ of.pace;
+  families = ap (λ (x : List AddressFamily × (AllocateOptions × (ℕ × Bool))). x.0) same.asked ∙ of.families;
+  options = ap (λ (x : List AddressFamily × (AllocateOptions × (ℕ × Bool))). x.1.0) same.asked ∙ of.options;
+  pace = ap (λ (x : List AddressFamily × (AllocateOptions × (ℕ × Bool))). x.1.1.0) same.asked ∙ of.pace;
+  indications = ap (λ (x : List AddressFamily × (AllocateOptions × (ℕ × Bool))). x.1.1.1) same.asked ∙ of.indications;
   usual = of.usual;
 }
 

@@ -147,6 +147,7 @@ module _ (b : Beginning) (realm : List ℕ) (address : SocketAddr) (p : Protocol
       families = is.settings.families;
       options = is.settings.options;
       pace = is.settings.pace;
+      indications = is.settings.indications;
       usual = is.settings.usual;
     };
     signs = is.signs;

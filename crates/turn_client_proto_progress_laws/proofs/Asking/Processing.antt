@@ -28,10 +28,10 @@ use Rattle.turn_client_proto_messages.specs.Allocation.PendingRequests.{pending_
 use Rattle.turn_client_proto_step_laws.specs.Peers.Channel.Granted as channel_granted
 use Rattle.turn_client_proto_messages.specs.Allocation.declared.pending.PendingRequest.{PendingRequest}
 use Rattle.turn_client_proto_messages.specs.Allocation.declared.pending.PendingRequest.TheVariants.{ChannelRenewal, Lifetime, NewChannel, NewConnection, NewPermission, Renewal}
-use Rattle.turn_client_proto_step_laws.specs.Connection.Attempts.{attempted, is_joining}
+use Rattle.turn_client_proto_step_laws.specs.Connection.Attempts.{attempted, is_joining, offered}
 use Rattle.turn_client_proto_step_laws.specs.Connection.Reported.{answered as connections_answered, connected, given_up}
 use Rattle.turn_client_proto_handshake_laws.specs.Core.Asking.{requested}
-use Rattle.turn_client_proto_handshake_laws.specs.Core.Attempting.{IsAttemptTaken, after_attempt_in, after_attempt_of, answering, is_at_limit, is_attempt, may_join, rejecting}
+use Rattle.turn_client_proto_handshake_laws.specs.Core.Attempting.{IsAttemptTaken, IsIndicationTaken, after_attempt_in, after_attempt_of, after_offer, answering, is_at_limit, is_attempt, may_join, rejecting, takes_offer}
 use Rattle.turn_client_proto_handshake_laws.specs.Core.Binding as binding
 use Rattle.turn_client_proto_handshake_laws.specs.Core.Binding.{IsBindResponded, IsBoundFor, IsUnboundFor, expires_due, permission_with, permitted_with, renews_channels, rejected_with, unbound}
 use Rattle.turn_client_proto_handshake_laws.specs.Core.Ending.{ended}
@@ -54,6 +54,7 @@ use Rattle.turn_client_proto_messages.proofs.Readable.{stay_readable}
 use Rattle.turn_client_proto_messages.proofs.Short.{stay_short}
 use Rattle.turn_client_proto_handshake_laws.specs.Sent.{Beginning}
 use Rattle.turn_client_proto_progress_laws.specs.Speaking.{HasAtMost, HasBeenServed, Signs, Speaks, ReportsRealm}
+use Rattle.turn_client_proto_step_laws.proofs.Offering.{offer_so}
 use Rattle.turn_client_proto_progress_laws.proofs.Asking.Between.{tested}
 use Rattle.turn_client_proto_progress_laws.proofs.Asking.Granted.{after_like}
 use Rattle.turn_client_proto_progress_laws.proofs.Asking.Others.{end_speaks}
@@ -213,6 +214,7 @@ module _ (b : Beginning) (realm : List ℕ) (address : SocketAddr) where
         families = is.settings.families;
         options = is.settings.options;
         pace = is.settings.pace;
+        indications = is.settings.indications;
         usual = is.settings.usual;
       };
       signs = is.signs;
@@ -371,6 +373,16 @@ module _ (b : Beginning) (realm : List ℕ) (address : SocketAddr) where
     attempt_taken : (bytes : List ℕ) (handled : Bool) (q : Protocol) → IsAttemptTaken p bytes handled q → Speaking q
     attempt_taken bytes handled q r = tested (is_attempt bytes) (λ _ x. handled_so _ handled q (attempt_of (connection_reported bytes) (peer_reported bytes) (number_at bytes)) x) (λ _ x. ignored_so p handled q is x) r
 
+    -- ---- an indication
+
+    indication_taken : (bytes : List ℕ) (handled : Bool) (q : Protocol) → IsIndicationTaken p bytes handled q → Speaking q
+    indication_taken bytes handled q r = tested (takes_offer p bytes)
+        (λ _ x. handled_so (after_offer bytes p) handled q
+        (offer_so bytes p Speaking is
+        (λ connection peer a reported named found room. with_allocations (record p { allocations = change_first (may_join peer p) (offered connection peer) p.allocations }) (own_agent b realm address p is) refl refl refl refl refl
+        (most_changed b address (may_join peer p) (offered connection peer) (λ y. record { transport = refl; address = refl }) p.allocations is.one))) x)
+        (λ _ x. ignored_so p handled q is x) r
+
     -- ---- all responses
 
     request_answered : (bytes : List ℕ) (now : ℕ) (handled : Bool) (q : Protocol) → IsRequestAnswered p bytes now handled q → Speaking q
@@ -407,6 +419,7 @@ module _ (b : Beginning) (realm : List ℕ) (address : SocketAddr) where
       families = is.settings.families;
       options = is.settings.options;
       pace = is.settings.pace;
+      indications = is.settings.indications;
       usual = is.settings.usual;
     };
     signs = signs;
@@ -424,7 +437,7 @@ module _ (b : Beginning) (realm : List ℕ) (address : SocketAddr) where
   in_phase p is message decodes now handled q (InitialSent numbers) served r = absurd served
   in_phase p is message decodes now handled q (Authenticating numbers) served r = absurd served
   in_phase p is message decodes now handled q Authenticated served r =
-      tested (is_indication (class_of (kind_at message))) (λ _ x. ignored_so p handled q is x) (λ _ x. followed p is message decodes now handled q x) r
+      tested (is_indication (class_of (kind_at message))) (λ _ x. indication_taken p is message handled q x) (λ _ x. followed p is message decodes now handled q x) r
   in_phase p is message decodes now handled q Ended served r = ignored_so p handled q is r
 
   pub processed_speaks : (p : Protocol) → Speaks b realm address p → (message : List ℕ) → ReportsRealm realm message → (now : ℕ) (handled : Bool) (q : Protocol) → IsProcessed p message now handled q → Speaking q

@@ -148,6 +148,7 @@ module _ (b : Beginning) (c : Choice) (address : SocketAddr) (t : Term) (number 
       families = w.settings.families;
       options = w.settings.options;
       pace = w.settings.pace;
+      indications = w.settings.indications;
       usual = w.settings.usual;
     };
     requested = only;

@@ -28,6 +28,7 @@ module _ (b : Beginning) (c : Choice) (address : SocketAddr) (t : Term) (last : 
         families = w.settings.families;
         options = w.settings.options;
         pace = w.settings.pace;
+        indications = w.settings.indications;
         usual = w.settings.usual;
       };
       none_requested = w.none_requested;
@@ -62,6 +63,7 @@ module _ (b : Beginning) (c : Choice) (address : SocketAddr) (t : Term) (number 
         families = w.settings.families;
         options = w.settings.options;
         pace = w.settings.pace;
+        indications = w.settings.indications;
         usual = w.settings.usual;
       };
       requested = w.requested;

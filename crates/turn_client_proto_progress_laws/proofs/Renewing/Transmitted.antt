@@ -94,6 +94,7 @@ module _ (b : Beginning) (c : Choice) (address : SocketAddr) (t : Term) (last : 
       families = w.settings.families;
       options = w.settings.options;
       pace = w.settings.pace;
+      indications = w.settings.indications;
       usual = w.settings.usual;
     };
     none_requested = w.none_requested;
@@ -172,6 +173,7 @@ module _ (b : Beginning) (c : Choice) (address : SocketAddr) (t : Term) (last : 
             families = w.settings.families;
             options = w.settings.options;
             pace = w.settings.pace;
+            indications = w.settings.indications;
             usual = w.settings.usual;
           };
           requested = only_one text text_is (number_at text) (ap number_at text_is ∙ visible);

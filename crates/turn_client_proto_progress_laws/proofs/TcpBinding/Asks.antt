@@ -79,6 +79,7 @@ module _ (h : Holder) (awaited : Option Requested) (older : List Requested) (a :
       families = w.settings.families;
       options = w.settings.options;
       pace = w.settings.pace;
+      indications = w.settings.indications;
       usual = w.settings.usual;
     };
     signs = w.signs;

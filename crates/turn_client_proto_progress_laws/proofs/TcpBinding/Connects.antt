@@ -144,6 +144,7 @@ module _ (h : Holder) (permissions : List Permission) (connection : ℕ) (peer :
       families = w.settings.families;
       options = w.settings.options;
       pace = w.settings.pace;
+      indications = w.settings.indications;
       usual = w.settings.usual;
     };
     signs = w.signs;

@@ -45,6 +45,7 @@ bound_stored h older permissions here peer connection last before after events p
     families = w.settings.families;
     options = w.settings.options;
     pace = w.settings.pace;
+    indications = w.settings.indications;
     usual = w.settings.usual;
   };
   signs = w.signs;

@@ -19,7 +19,7 @@ use Rattle.turn_client_proto_messages.specs.StunProtoAgent.Handling.{after_messa
 use Rattle.turn_client_proto_messages.proofs.StunProtoClient.Stepping.{right_is_accepted}
 use Rattle.turn_client_proto_messages.specs.Allocation.declared.allocation.Allocation.{Allocation}
 use Rattle.turn_client_proto_messages.specs.Api.declared.event.TurnEvent.{TurnEvent}
-use Rattle.turn_client_proto_handshake_laws.specs.Core.Attempting.{IsAttemptTaken}
+use Rattle.turn_client_proto_handshake_laws.specs.Core.Attempting.{IsAttemptTaken, IsIndicationTaken}
 use Rattle.turn_client_proto_handshake_laws.specs.Core.Outcomes.{IsIgnored}
 use Rattle.turn_client_proto_core.proofs.Awaiting.{processed_awaited}
 use Rattle.turn_client_proto_handshake_laws.specs.Core.Receiving.{IsFollowed, IsProcessed, IsProcessedIn}
@@ -81,7 +81,7 @@ module _ (h : Holder) (x : Requested) (older : List Requested) (a : Allocation) 
   success_processed now handled q processed =
       let in_phase : IsProcessedIn Authenticated p bytes now handled q = subst (λ (f : Phase). IsProcessedIn f p bytes now handled q) w.phase (processed_awaited p bytes now handled q awaited_is processed) in
       let no_indication : is_indication (class_of (kind_at bytes)) ≡ false = ap is_indication is.success in
-      let f = where_false (IsIgnored p handled q) (IsFollowed IsJudgedStanding p bytes now handled q) (is_indication (class_of (kind_at bytes))) no_indication in_phase in
+      let f = where_false (IsIndicationTaken p bytes handled q) (IsFollowed IsJudgedStanding p bytes now handled q) (is_indication (class_of (kind_at bytes))) no_indication in_phase in
       by_verdict now handled q f.verdict f.auth f.is_judged f.outcome
 
   -- ---- what is outstanding then
@@ -117,6 +117,7 @@ module _ (h : Holder) (x : Requested) (older : List Requested) (a : Allocation) 
       families = w.settings.families;
       options = w.settings.options;
       pace = w.settings.pace;
+      indications = w.settings.indications;
       usual = w.settings.usual;
     };
     signs = w.signs;

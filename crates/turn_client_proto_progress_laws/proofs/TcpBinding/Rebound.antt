@@ -94,6 +94,7 @@ module _ (h : Holder) (older : List Requested) (permissions : List Permission) (
         families = w.settings.families;
         options = w.settings.options;
         pace = w.settings.pace;
+        indications = w.settings.indications;
         usual = w.settings.usual;
       };
       signs = signs;

@@ -6,6 +6,7 @@ use Rattle.turn_client_proto_timers.specs.StunTypesWire.Types.{class_of}
 use Rattle.turn_client_proto_recv.specs.StunProtoClient.Client.{Client}
 use Rattle.turn_client_proto_timers.specs.StunProtoAgent.Handling.{is_response}
 use Rattle.turn_client_proto_timers.specs.Allocation.Awaited.{has_number}
+use Rattle.turn_client_proto_timers.specs.Core.Attempting.{after_offer, takes_offer}
 use Rattle.turn_client_proto_timers.specs.Core.Authenticating.{IsFirstJudged, IsSignedJudged}
 use Rattle.turn_client_proto_timers.specs.Core.Receiving.{Follows, IsFollowed, IsProcessed, IsProcessedIn, is_unawaited}
 use Rattle.turn_client_proto_timers.specs.TurnRuns.Indications.{is_indication}
@@ -15,7 +16,7 @@ use Rattle.turn_client_proto_timers.specs.Core.declared.protocol.Phase.{Phase}
 use Rattle.turn_client_proto_timers.specs.Core.declared.protocol.Phase.TheVariants.{Initial, InitialSent, Authenticating, Authenticated, Ended}
 use Rattle.turn_client_proto_timers.specs.Core.declared.protocol.Protocol.{Protocol}
 use Rattle.turn_client_proto_step_laws.proofs.Once.Allocating.{first_definite, signed_definite}
-use Rattle.turn_client_proto_step_laws.proofs.Once.Outcomes.{IsDefinite, ignored, tested}
+use Rattle.turn_client_proto_step_laws.proofs.Once.Outcomes.{IsDefinite, handled, ignored, tested}
 use Rattle.turn_client_proto_step_laws.proofs.Once.Judging.{Verdict, judged_same, no_memory}
 use Rattle.turn_client_proto_step_laws.proofs.Once.Standing.{standing_definite}
 
@@ -45,7 +46,7 @@ module _ (old : Protocol) (bytes : List ℕ) (now : ℕ) where
   processed_in (Authenticating numbers) =
       tested (is_response bytes && has_number (number_at bytes) numbers) (followed_definite IsSignedJudged (λ p handled new is. is) (signed_definite bytes now)) (ignored old)
   processed_in Authenticated =
-      tested (is_indication (class_of (kind_at bytes))) (ignored old) (followed_definite IsJudgedStanding (λ p handled new is. is) (standing_definite bytes now))
+      tested (is_indication (class_of (kind_at bytes))) (tested (takes_offer old bytes) (handled (after_offer bytes old)) (ignored old)) (followed_definite IsJudgedStanding (λ p handled new is. is) (standing_definite bytes now))
   processed_in Ended = ignored old
 
   pub processed_definite : IsDefinite (IsProcessed old bytes now)

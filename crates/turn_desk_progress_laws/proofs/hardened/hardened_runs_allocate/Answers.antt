@@ -275,6 +275,7 @@ module _ (c : goal.After-honest_runs_allocate) (plan : Plan) (old : World) (fres
     unserved_ignores : (p : Protocol) → IsUnserved b p → (is_response bytes ≡ true → number_at bytes ≢ first_number b → number_at bytes ≢ second_number b → (now : ℕ) (handled : Bool) (q : Protocol) → IsProcessed p bytes now handled q → q ≡ p) → Ignores b bytes p
     unserved_ignores p u responses = record {
       server = u.settings.server;
+      deaf = inl u.phase;
       unbound = λ id. ap (bound id) u.allocations;
       closed = λ ip. ap (permitted ip) u.allocations;
       responses = responses;
@@ -308,6 +309,7 @@ module _ (c : goal.After-honest_runs_allocate) (plan : Plan) (old : World) (fres
     held_rests : (request : Sent) (address : SocketAddr) (lifetime : ℕ) (reply : List ℕ) → IsHeld plan old reported request address lifetime reply w → Rests ret w v
     held_rests request address lifetime reply is = fed [] is.client.core is.client.there (record {
       server = is.client.is.settings.server;
+      deaf = inr (is.client.is.settings.indications ∙ is.client.is.settings.usual.indications);
       unbound = λ id. ap (bound id) is.client.is.allocations;
       closed = λ ip. ap (permitted ip) is.client.is.allocations;
       responses = λ response not_first not_second now handled q processed.
