@@ -6,14 +6,14 @@ use Rattle.std.specs.FinMap as map
 use Rattle.std.specs.Option.{option_map}
 use Rattle.std.specs.Ordering.{nat_cmp}
 use Rattle.std.specs.declared.net.socket_addr.SocketAddr.{SocketAddr}
-use Rattle.stun_types_base.proofs.MapView.{get-finite_map, insert-finite_map}
-use Rattle.stun_types_base.specs.SocketAddrs.{socket_addr_cmp, socket_addr_cmp_total, socket_addr_cmp-IsAntisymmetric}
+use Rattle.stun_proto_transaction.proofs.Base.MapView.{get-finite_map, insert-finite_map}
+use Rattle.stun_proto_transaction.specs.Base.SocketAddrs.{socket_addr_cmp, socket_addr_cmp_total, socket_addr_cmp-IsAntisymmetric}
 use Rattle.stun_proto_transaction.specs.Agents.{Transaction, integrity_of, is_due, is_ended, is_over, transmitted}
-use Rattle.stun_types_wire.specs.declared.algorithm.IntegrityAlgorithm.{IntegrityAlgorithm}
+use Rattle.stun_proto_transaction.specs.Wire.declared.algorithm.IntegrityAlgorithm.{IntegrityAlgorithm}
 use Rattle.stun_proto_transaction.specs.StoredRequests as stored
 use Rattle.stun_proto_transaction.specs.StoredRequests.{Requests, with_number}
 use Rattle.stun_proto_transaction.specs.Least.{IsLeast}
-use Rattle.stun_types_base.specs.Times.{time_after}
+use Rattle.stun_proto_transaction.specs.Base.Times.{time_after}
 use Rattle.stun_proto_transaction.specs.Schedule.{Waits}
 use Rattle.stun_proto_agent.specs.Sending.{started, stored_under}
 use Rattle.stun_proto_transaction.specs.declared.transaction.Cancelled.TheVariants.{Nothing}

@@ -5,7 +5,7 @@ use Rattle.std.specs.Cmp.{eq_by_cmp_equiv, nat_cmp_total}
 use Rattle.std.specs.FinMap as map
 use Rattle.std.specs.Ordering.{is_eq, nat_cmp}
 use Rattle.std.specs.declared.net.socket_addr.SocketAddr.{SocketAddr}
-use Rattle.stun_types_wire.specs.Grammar.{number_at}
+use Rattle.stun_proto_transaction.specs.Wire.Grammar.{number_at}
 use Rattle.stun_proto_transaction.specs.Agents.{Transaction, changed, has_left, transmitted}
 use Rattle.stun_proto_agent.specs.Handling.{after_message, answered, ends_one}
 use Rattle.stun_proto_agent.specs.Numbers.{IsWithout, NothingNew, ShowsNumbers, WasOutstanding}

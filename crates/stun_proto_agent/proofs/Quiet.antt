@@ -3,7 +3,7 @@ use Rattle.std.proofs.Common.{◌≡◌, ℕ, suc, ◌+◌, ◌<◌, ◌≤◌, 
 use Rattle.std.specs.Prelude.{nat_le, ◌&&◌, ◌||◌, if◌then◌else◌}
 use Rattle.std.specs.FinMap as map
 use Rattle.std.proofs.lemmas.Bool.{lt-leb}
-use Rattle.stun_types_base.specs.Times.{time_after}
+use Rattle.stun_proto_transaction.specs.Base.Times.{time_after}
 use Rattle.stun_proto_transaction.specs.Schedule.{Waits, end_at, slot_at, wait_at}
 pub use Rattle.stun_proto_transaction.proofs.Slots.{slot_before_end}
 use Rattle.stun_proto_transaction.proofs.Summing.{sum_more}

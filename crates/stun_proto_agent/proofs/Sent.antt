@@ -6,8 +6,8 @@ use Rattle.std.specs.Cmp.{eq_by_cmp_equiv, nat_cmp_total}
 use Rattle.std.specs.FinMap as map
 use Rattle.std.specs.Ordering.{is_eq, nat_cmp}
 use Rattle.std.specs.declared.net.socket_addr.SocketAddr.{SocketAddr}
-use Rattle.stun_types_wire.specs.Grammar.{number_at}
-use Rattle.stun_types_base.specs.declared.transmit.Transmit.{Transmit}
+use Rattle.stun_proto_transaction.specs.Wire.Grammar.{number_at}
+use Rattle.stun_proto_transaction.specs.Base.declared.transmit.Transmit.{Transmit}
 use Rattle.stun_proto_transaction.specs.Agents.{Transaction, has_left, transmitted}
 use Rattle.stun_proto_transaction.specs.Least.{IsLeast}
 use Rattle.stun_proto_agent.specs.Sending.{IsDueSent, IsSent, NoneDue, started, is_due_of, stored_under, with_request}

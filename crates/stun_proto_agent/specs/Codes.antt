@@ -5,9 +5,9 @@ use Rattle.std.specs.FinMap as map
 use Rattle.std.specs.Ordering.{nat_cmp}
 use Rattle.std.specs.contracts.net.socket_addr.SocketAddr as addr
 use Rattle.std.specs.declared.net.socket_addr.SocketAddr.{SocketAddr}
-use Rattle.stun_types_base.specs.SocketAddrs.{socket_addr_cmp}
-use Rattle.stun_types_base.specs.contracts.transport.TransportType as transport
-use Rattle.stun_types_base.specs.declared.transport.TransportType.{TransportType}
+use Rattle.stun_proto_transaction.specs.Base.SocketAddrs.{socket_addr_cmp}
+use Rattle.stun_proto_transaction.specs.Base.contracts.transport.TransportType as transport
+use Rattle.stun_proto_transaction.specs.Base.declared.transport.TransportType.{TransportType}
 use Rattle.stun_proto_transaction.specs.Agents.{Transaction}
 use Rattle.stun_proto_transaction.specs.Schedule.{Waits}
 use Rattle.stun_proto_agent.specs.State.{Agent}

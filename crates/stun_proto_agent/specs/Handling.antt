@@ -2,9 +2,9 @@
 use Rattle.std.specs.Prelude.{ℕ, Bool, true, ◌&&◌, List, is_some, if◌then◌else◌}
 use Rattle.std.specs.FinMap as map
 use Rattle.std.specs.declared.net.socket_addr.SocketAddr.{SocketAddr}
-use Rattle.stun_types_wire.specs.Attributes.{kind_at}
-use Rattle.stun_types_wire.specs.Grammar.{number_at}
-use Rattle.stun_types_wire.specs.Types.{class_of, is_response_class}
+use Rattle.stun_proto_transaction.specs.Wire.Attributes.{kind_at}
+use Rattle.stun_proto_transaction.specs.Wire.Grammar.{number_at}
+use Rattle.stun_proto_transaction.specs.Wire.Types.{class_of, is_response_class}
 use Rattle.stun_proto_agent.specs.State.{Agent}
 
 -- Whether a message is a response.

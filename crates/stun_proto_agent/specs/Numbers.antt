@@ -1,7 +1,7 @@
 -- How transaction IDs become outstanding and stop being so (RFC 8489, sections 6.1 to 6.3).
 use Rattle.std.specs.Prelude.{◌≡◌, ◌≢◌, ◌≤◌, ℕ, Some, None}
 use Rattle.std.specs.FinMap as map
-use Rattle.stun_types_wire.specs.Grammar.{number_at}
+use Rattle.stun_proto_transaction.specs.Wire.Grammar.{number_at}
 use Rattle.stun_proto_transaction.specs.Agents.{Transaction}
 use Rattle.stun_proto_agent.specs.State.{Agent}
 

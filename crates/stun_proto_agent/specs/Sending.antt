@@ -4,12 +4,12 @@ use Rattle.std.specs.Borrow.{Bor}
 use Rattle.std.specs.FinMap as map
 use Rattle.std.specs.Option.{option_map, option_or}
 use Rattle.std.specs.declared.net.socket_addr.SocketAddr.{SocketAddr}
-use Rattle.stun_types_wire.specs.Attributes.{kind_at}
-use Rattle.stun_types_wire.specs.Grammar.{number_at, refusal}
-use Rattle.stun_types_wire.specs.declared.class.MessageClass.{MessageClass}
-use Rattle.stun_types_wire.specs.declared.class.MessageClass.TheVariants.{Request, Indication, Success, Error}
-use Rattle.stun_types_wire.specs.Types.{class_of}
-use Rattle.stun_types_base.specs.declared.transmit.Transmit.{Transmit}
+use Rattle.stun_proto_transaction.specs.Wire.Attributes.{kind_at}
+use Rattle.stun_proto_transaction.specs.Wire.Grammar.{number_at, refusal}
+use Rattle.stun_proto_transaction.specs.Wire.declared.class.MessageClass.{MessageClass}
+use Rattle.stun_proto_transaction.specs.Wire.declared.class.MessageClass.TheVariants.{Request, Indication, Success, Error}
+use Rattle.stun_proto_transaction.specs.Wire.Types.{class_of}
+use Rattle.stun_proto_transaction.specs.Base.declared.transmit.Transmit.{Transmit}
 use Rattle.stun_proto_transaction.specs.Agents.{Transaction, is_due, transmitted}
 use Rattle.stun_proto_transaction.specs.Least.{IsLeast}
 use Rattle.stun_proto_agent.specs.State.{Agent, is_tcp}

@@ -3,12 +3,12 @@ use Rattle.std.specs.Prelude.{◌≡◌, ◌⊎◌, ⊤, ℕ, ◌≤◌, max, Bo
 use Rattle.std.specs.FinMap as map
 use Rattle.std.specs.Ordering.{nat_cmp}
 use Rattle.std.specs.declared.net.socket_addr.SocketAddr.{SocketAddr}
-use Rattle.stun_types_base.specs.SocketAddrs.{socket_addr_cmp}
-use Rattle.stun_types_base.specs.declared.transport.TransportType.{TransportType}
-use Rattle.stun_types_base.specs.declared.transport.TransportType.TheVariants.{Tcp, Udp}
+use Rattle.stun_proto_transaction.specs.Base.SocketAddrs.{socket_addr_cmp}
+use Rattle.stun_proto_transaction.specs.Base.declared.transport.TransportType.{TransportType}
+use Rattle.stun_proto_transaction.specs.Base.declared.transport.TransportType.TheVariants.{Tcp, Udp}
 use Rattle.stun_proto_transaction.specs.Agents.{Transaction, is_ended, is_over, next_time}
 use Rattle.stun_proto_transaction.specs.Least.{IsLeast}
-use Rattle.stun_types_base.specs.Times.{time_after}
+use Rattle.stun_proto_transaction.specs.Base.Times.{time_after}
 use Rattle.stun_proto_transaction.specs.Schedule.{Waits}
 use Rattle.stun_proto_agent.specs.declared.agent.StunAgentPollRet.{StunAgentPollRet}
 use Rattle.stun_proto_agent.specs.declared.agent.StunAgentPollRet.TheVariants.{TransactionTimedOut, TransactionCancelled, WaitUntil}

@@ -4,12 +4,18 @@ ghost use Rattle.std.specs.Prelude.{◌≡◌, ◌≤◌, [], MatchOption, OnErr
 ghost use Rattle.std.specs.FinMap as finite;
 ghost use Rattle.std.specs.Option.{option_map};
 ghost use Rattle.std.specs.declared.net.socket_addr.SocketAddr.{SocketAddr};
-ghost use Rattle.stun_proto_transaction.specs.Agents.{Transaction, changed, integrity_of, is_ended, is_over, transmitted};
+ghost use Rattle.stun_proto_transaction.specs.Agents.{Transaction, changed, integrity_of, is_ended};
+ghost use Rattle.stun_proto_transaction.specs.Agents.{is_over, transmitted};
 ghost use Rattle.stun_proto_transaction.specs.Least.{IsLeast};
 ghost use Rattle.stun_proto_agent.specs.Sending.{NoneDue, started, is_due_of, stored_under};
 ghost use Rattle.stun_proto_agent.specs.State.{IsNext, IsPolled, NoneEnded, is_tcp, longest_wait};
-ghost use Rattle.stun_types_base.specs.Times.{time_after};
+ghost use Rattle.stun_proto_transaction.specs.Base.Times.{time_after};
 
+use crate::stun_types_base::instant::Instant;
+use crate::stun_types_base::memory::NoMemory;
+use crate::stun_types_base::transport::TransportType;
+use crate::stun_types_wire::algorithm::IntegrityAlgorithm;
+use crate::stun_types_wire::transaction::TransactionId;
 use std::alloc::Global;
 use std::collections::BTreeMap;
 use std::marker::Model;
@@ -18,11 +24,6 @@ use std::time::Duration;
 use stun_proto_transaction::outstanding::Outstanding;
 use stun_proto_transaction::transaction::{Change, Transaction};
 use stun_proto_transaction::waits::Waits;
-use stun_types_base::instant::Instant;
-use stun_types_base::memory::NoMemory;
-use stun_types_base::transport::TransportType;
-use stun_types_wire::algorithm::IntegrityAlgorithm;
-use stun_types_wire::transaction::TransactionId;
 
 /// The longest wait that an agent reports, in seconds.
 const LONGEST_WAIT: u64 = 3600;

@@ -6,13 +6,13 @@ ghost use Rattle.std.specs.FinMap as finite;
 ghost use Rattle.stun_proto_agent.specs.State.{default_waits};
 
 use crate::agent::StunAgent;
+use crate::stun_types_base::transport::TransportType;
 use std::alloc::Global;
 use std::collections::BTreeMap;
 use std::marker::Model;
 use std::net::SocketAddr;
 use std::time::Duration;
 use stun_proto_transaction::waits::Waits;
-use stun_types_base::transport::TransportType;
 
 /// The settings from which an agent is built, created by `StunAgent::builder`. Contracts see the
 /// record `Agent`, with nothing outstanding and no validated address.

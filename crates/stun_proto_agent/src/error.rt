@@ -1,8 +1,8 @@
 //! The errors of an agent's calls.
 
+use crate::stun_types_base::memory::NoMemory;
+use crate::stun_types_wire::error::{StunParseError, StunWriteError};
 use std::alloc::AllocError;
-use stun_types_base::memory::NoMemory;
-use stun_types_wire::error::{StunParseError, StunWriteError};
 use thiserror::Error;
 
 /// Why a call of an agent is refused. A refused call changes nothing.

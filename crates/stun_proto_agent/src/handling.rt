@@ -4,10 +4,10 @@ ghost use Rattle.std.specs.Prelude.{◌≡◌, IfOk, OnErr, OnOk, true};
 ghost use Rattle.stun_proto_agent.specs.Handling.{after_message, ends_one, is_taken};
 
 use crate::agent::StunAgent;
+use crate::stun_types_base::instant::Instant;
+use crate::stun_types_base::memory::NoMemory;
+use crate::stun_types_message::parsed::Message;
 use std::net::SocketAddr;
-use stun_types_base::instant::Instant;
-use stun_types_base::memory::NoMemory;
-use stun_types_message::parsed::Message;
 
 impl StunAgent {
     /// Handles a received message, and returns whether the caller should process it (RFC 8489,

@@ -8,13 +8,14 @@ ghost use Rattle.stun_proto_transaction.specs.Agents.{Transaction, is_ended};
 ghost use Rattle.stun_proto_agent.specs.Handling.{after_message, ends_one, is_awaited};
 ghost use Rattle.stun_proto_agent.specs.Numbers.{IsWithout, NothingNew, ShowsNumbers};
 ghost use Rattle.stun_proto_agent.specs.Requests.{IsChanged};
-ghost use Rattle.stun_proto_agent.specs.Sending.{IsAfterTransmit, IsCounted, started, is_due_of, with_request};
+ghost use Rattle.stun_proto_agent.specs.Sending.{IsAfterTransmit, IsCounted, started, is_due_of};
+ghost use Rattle.stun_proto_agent.specs.Sending.{with_request};
 ghost use Rattle.stun_proto_agent.specs.State.{Agent, IsEnd, IsNext, IsPolled, NoneEnded};
 ghost use Rattle.stun_proto_agent.specs.declared.agent.StunAgentPollRet.{StunAgentPollRet};
 ghost use Rattle.stun_proto_transaction.specs.declared.transaction.Change.{Change};
-ghost use Rattle.stun_types_base.specs.Times.{time_after};
+ghost use Rattle.stun_proto_transaction.specs.Base.Times.{time_after};
 ghost use Rattle.stun_proto_transaction.specs.Schedule.{Waits, slot_at, wait_at};
-ghost use Rattle.stun_types_wire.specs.Grammar.{number_at};
+ghost use Rattle.stun_proto_transaction.specs.Wire.Grammar.{number_at};
 
 /// States when an agent sends:
 ///

@@ -10,3 +10,5 @@ pub mod laws;
 pub mod request;
 pub mod sending;
 pub mod transmitting;
+
+use stun_proto_transaction::{stun_types_base, stun_types_message, stun_types_wire};

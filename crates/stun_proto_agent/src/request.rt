@@ -7,15 +7,17 @@ ghost use Rattle.std.specs.FinMap as finite;
 ghost use Rattle.stun_proto_agent.specs.RequestLending.{LendsAgent};
 ghost use Rattle.stun_proto_agent.specs.Requests.{IsChangedRequest, IsReported};
 ghost use Rattle.stun_proto_agent.specs.contracts.agent.StunAgent.{the_row};
-ghost use Rattle.stun_proto_transaction.specs.declared.transaction.Change.TheVariants.{Cancel, CancelRetransmissions, ConfigureTimeout};
+ghost use Rattle.stun_proto_transaction.specs.declared.transaction.Change.TheVariants.{Cancel};
+ghost use Rattle.stun_proto_transaction.specs.declared.transaction.Change.TheVariants.{CancelRetransmissions};
+ghost use Rattle.stun_proto_transaction.specs.declared.transaction.Change.TheVariants.{ConfigureTimeout};
 
 use crate::agent::StunAgent;
+use crate::stun_types_wire::algorithm::IntegrityAlgorithm;
+use crate::stun_types_wire::transaction::TransactionId;
 use std::net::SocketAddr;
 use std::time::Duration;
 use stun_proto_transaction::transaction::Change;
 use stun_proto_transaction::waits::Waits;
-use stun_types_wire::algorithm::IntegrityAlgorithm;
-use stun_types_wire::transaction::TransactionId;
 
 /// A read-only handle to an outstanding request. It borrows the agent, so nothing changes while it
 /// exists.

@@ -1,23 +1,25 @@
 //! Sending of messages and data.
 
-ghost use Rattle.std.specs.Prelude.{◌≡◌, ◌≢◌, ⊤, IfOk, MatchOption, MatchResult, None, Some, OnOk, OnErr, is_some};
+ghost use Rattle.std.specs.Prelude.{◌≡◌, ◌≢◌, ⊤, IfOk, MatchOption, MatchResult, None, Some, OnOk};
+ghost use Rattle.std.specs.Prelude.{OnErr, is_some};
 ghost use Rattle.std.specs.Borrow.{sem};
 ghost use Rattle.std.specs.FinMap as finite;
 ghost use Rattle.stun_proto_agent.specs.AgentRest.{AgentRests};
-ghost use Rattle.stun_types_base.specs.Data.{data_bytes};
-ghost use Rattle.stun_types_wire.specs.Grammar.{number_at};
-ghost use Rattle.stun_types_base.specs.Refusals.{RefusesFor};
-ghost use Rattle.stun_proto_agent.specs.Sending.{IsSent, started, is_request, request_refusal, send_refusal, with_request};
+ghost use Rattle.stun_proto_transaction.specs.Base.Data.{data_bytes};
+ghost use Rattle.stun_proto_transaction.specs.Wire.Grammar.{number_at};
+ghost use Rattle.stun_proto_transaction.specs.Base.Refusals.{RefusesFor};
+ghost use Rattle.stun_proto_agent.specs.Sending.{IsSent, started, is_request, request_refusal};
+ghost use Rattle.stun_proto_agent.specs.Sending.{send_refusal, with_request};
 
 use crate::agent::StunAgent;
 use crate::error::StunError;
+use crate::stun_types_base::instant::Instant;
+use crate::stun_types_base::transmit::Transmit;
+use crate::stun_types_message::parsed::Message;
+use crate::stun_types_wire::class::MessageClass;
+use crate::stun_types_wire::transaction::TransactionId;
 use std::convert::AsSlice;
 use std::net::SocketAddr;
-use stun_types_base::instant::Instant;
-use stun_types_base::transmit::Transmit;
-use stun_types_message::parsed::Message;
-use stun_types_wire::class::MessageClass;
-use stun_types_wire::transaction::TransactionId;
 
 impl StunAgent {
     /// Addresses data to `to`, over the agent's transport and from its own address. The bytes are

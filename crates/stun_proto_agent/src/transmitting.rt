@@ -6,13 +6,14 @@ ghost use Rattle.std.specs.FinMap as finite;
 ghost use Rattle.stun_proto_agent.specs.AgentRest.{AgentRests};
 ghost use Rattle.stun_proto_transaction.specs.Agents.{Transaction, transmitted};
 ghost use Rattle.stun_proto_transaction.specs.Least.{IsLeast};
-ghost use Rattle.stun_proto_agent.specs.Sending.{IsAfterTransmit, IsDueSent, IsSent, NoneDue, is_due_of, stored_under};
+ghost use Rattle.stun_proto_agent.specs.Sending.{IsAfterTransmit, IsDueSent, IsSent, NoneDue};
+ghost use Rattle.stun_proto_agent.specs.Sending.{is_due_of, stored_under};
 ghost use Rattle.stun_proto_agent.specs.State.{is_tcp};
 
 use crate::agent::StunAgent;
-use stun_types_base::instant::Instant;
-use stun_types_base::transmit::Transmit;
-use stun_types_wire::transaction::TransactionId;
+use crate::stun_types_base::instant::Instant;
+use crate::stun_types_base::transmit::Transmit;
+use crate::stun_types_wire::transaction::TransactionId;
 
 impl StunAgent {
     /// Returns one retransmission that is due at `now`, and counts it as made (RFC 8489, section

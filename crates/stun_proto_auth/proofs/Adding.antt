@@ -1,7 +1,7 @@
 -- Distinct algorithms that are added one after another.
 use Rattle.std.proofs.Common.{◌≡◌, Bool, false, if◌then◌else◌, List, [], ◌∷◌, ◌++◌, refl, ap, ◌∙◌}
 use Rattle.std.specs.List.{AllByRecursion, IsDistinct, list_any}
-use Rattle.stun_types_wire.specs.declared.algorithm.IntegrityAlgorithm.{IntegrityAlgorithm}
+use Rattle.stun_types_message.specs.Wire.declared.algorithm.IntegrityAlgorithm.{IntegrityAlgorithm}
 use Rattle.stun_proto_auth.specs.SupportedAlgorithms.{is_same_algorithm, with_algorithm}
 use Rattle.stun_proto_auth.proofs.Keeping.{others}
 

@@ -1,8 +1,8 @@
 -- The size of parts, counted one part after another.
 use Rattle.std.proofs.Common.{◌≡◌, ℕ, ◌+◌, ◌<◌, ◌≤◌, min, List, [], ◌∷◌, length, drop, get_or, refl, ◌∙◌, subst, arith, drop_of_length-le}
 use Rattle.std.proofs.lemmas.Bool.{le-leb}
-use Rattle.stun_types_wire.specs.declared.algorithm.IntegrityAlgorithm.{IntegrityAlgorithm}
-use Rattle.stun_types_wire.specs.RawBytes.{greatest_len}
+use Rattle.stun_types_message.specs.Wire.declared.algorithm.IntegrityAlgorithm.{IntegrityAlgorithm}
+use Rattle.stun_types_message.specs.Wire.RawBytes.{greatest_len}
 use Rattle.std.specs.Prelude.{Option}
 use Rattle.stun_proto_auth.specs.Addition.{PartOf, size_of_part}
 use Rattle.stun_proto_auth.specs.Sizes.{are_within, size_of_addition, size_of_parts, size_of_signature}

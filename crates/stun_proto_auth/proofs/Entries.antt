@@ -1,8 +1,8 @@
 -- Whether an algorithm is among the entries of a list, one entry after another.
 use Rattle.std.proofs.Common.{◌≡◌, ℕ, ◌<◌, ◌≤◌, true, false, drop, take, List, length, refl, ◌==◌}
-use Rattle.stun_types_wire.specs.declared.algorithm.IntegrityAlgorithm.{IntegrityAlgorithm}
-use Rattle.stun_types_auth_attributes.specs.Entries.{number_decoded}
-use Rattle.stun_types_auth_attributes.proofs.Lists.{none_decoded, one_decoded}
+use Rattle.stun_types_message.specs.Wire.declared.algorithm.IntegrityAlgorithm.{IntegrityAlgorithm}
+use Rattle.stun_types_message.specs.AuthAttributes.Entries.{number_decoded}
+use Rattle.stun_types_message.proofs.AuthAttributes.Lists.{none_decoded, one_decoded}
 use Rattle.stun_proto_auth.specs.SupportedAlgorithms.{number_by}
 use Rattle.stun_proto_auth.specs.Offers.{offers}
 

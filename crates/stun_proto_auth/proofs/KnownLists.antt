@@ -4,16 +4,16 @@ use Rattle.std.specs.List.{list_all, list_any}
 use Rattle.std.proofs.Common.{◌≡◌, ℕ, ◌+◌, ◌*◌, ◌%◌, ◌≤◌, eqb, ◌==◌, Bool, true, false, List, [], ◌∷◌, length, map, Option, Some, None, refl, sym, ap, ◌∙◌, arith}
 use Rattle.std.proofs.lemmas.Bool.{eq-eqb}
 use Rattle.std.proofs.lemmas.List.Sums.{sum_by-cons}
-use Rattle.stun_types_wire.specs.declared.algorithm.IntegrityAlgorithm.{IntegrityAlgorithm}
-use Rattle.stun_types_wire.specs.declared.algorithm.IntegrityAlgorithm.TheVariants.{Sha1, Sha256, Sha512}
-use Rattle.stun_types_wire.specs.declared.error.StunParseError.{StunParseError}
-use Rattle.stun_types_wire.specs.Attributes.{Attr, attr_size, attributes, is_whole, size_at}
-use Rattle.stun_types_wire.specs.Registry.{password_algorithms_kind}
-use Rattle.stun_types_wire.proofs.Whole.{attributes_short, attributes_whole, whole_from}
-use Rattle.stun_types_write.specs.Adding.{attr_of}
-use Rattle.stun_types_write.proofs.Values.{value_is_accepted}
-use Rattle.stun_types_auth_attributes.specs.PasswordAlgorithmNumbers as numbers
-use Rattle.stun_types_auth_attributes.specs.Entries.{algorithms_read_refusal, entries, entries_refusal, numbers_decoded}
+use Rattle.stun_types_message.specs.Wire.declared.algorithm.IntegrityAlgorithm.{IntegrityAlgorithm}
+use Rattle.stun_types_message.specs.Wire.declared.algorithm.IntegrityAlgorithm.TheVariants.{Sha1, Sha256, Sha512}
+use Rattle.stun_types_message.specs.Wire.declared.error.StunParseError.{StunParseError}
+use Rattle.stun_types_message.specs.Wire.Attributes.{Attr, attr_size, attributes, is_whole, size_at}
+use Rattle.stun_types_message.specs.Wire.Registry.{password_algorithms_kind}
+use Rattle.stun_types_message.proofs.Wire.Whole.{attributes_short, attributes_whole, whole_from}
+use Rattle.stun_types_message.specs.Write.Adding.{attr_of}
+use Rattle.stun_types_message.proofs.Write.Values.{value_is_accepted}
+use Rattle.stun_types_message.specs.AuthAttributes.PasswordAlgorithmNumbers as numbers
+use Rattle.stun_types_message.specs.AuthAttributes.Entries.{algorithms_read_refusal, entries, entries_refusal, numbers_decoded}
 use Rattle.stun_proto_auth.specs.Lists.{is_entry_of, is_list, list_read_refusal, lists}
 use Rattle.stun_proto_auth.specs.Offers.{offers}
 use Rattle.stun_proto_auth.specs.SupportedAlgorithms.{list_of, number_by}

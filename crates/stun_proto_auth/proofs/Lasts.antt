@@ -2,9 +2,9 @@
 use Rattle.std.proofs.Common.{◌≡◌, refl}
 use Rattle.std.specs.Prelude.{Option, Some, None}
 use Rattle.std.specs.Option.{option_or}
-use Rattle.stun_types_wire.specs.Attributes.{Attr}
-use Rattle.stun_types_wire.specs.declared.algorithm.IntegrityAlgorithm.{IntegrityAlgorithm}
-use Rattle.stun_types_wire.proofs.Left.{map_numbered}
+use Rattle.stun_types_message.specs.Wire.Attributes.{Attr}
+use Rattle.stun_types_message.specs.Wire.declared.algorithm.IntegrityAlgorithm.{IntegrityAlgorithm}
+use Rattle.stun_types_message.proofs.Wire.Left.{map_numbered}
 use Rattle.stun_types_message.specs.MessageValidation.{last_algorithm}
 use Rattle.stun_proto_auth.specs.Claims.{last_of_kind}
 use Rattle.stun_proto_auth.specs.declared.last.Lasts.{Lasts}

@@ -8,3 +8,6 @@ pub mod Lasts
 pub mod Counting
 pub mod Making
 pub mod Reaching
+-- Re-exports for the crates above this one.
+pub use Rattle.stun_types_message.proofs as Message
+pub use Rattle.stun_types_message.proofs.Base as Base

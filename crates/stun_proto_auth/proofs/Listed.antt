@@ -5,9 +5,9 @@ use Rattle.std.specs.List.{list_any}
 use Rattle.std.proofs.lemmas.Bool.{cases_Bool, eqb-true, eqb-false, eq-eqb, ne_eqb}
 use Rattle.std.proofs.lemmas.List.{length-drop, length-take}
 use Rattle.std.proofs.lemmas.List.Sums.{sum_by-cons}
-use Rattle.stun_types_wire.specs.declared.algorithm.IntegrityAlgorithm.{IntegrityAlgorithm}
-use Rattle.stun_types_wire.specs.Attributes.{Attr, attr_at, attr_size, attributes, is_whole, kind_at, length_at, size_at}
-use Rattle.stun_types_wire.proofs.Whole.{attributes_short, attributes_whole, not_whole, size_whole, whole_from, whole_long}
+use Rattle.stun_types_message.specs.Wire.declared.algorithm.IntegrityAlgorithm.{IntegrityAlgorithm}
+use Rattle.stun_types_message.specs.Wire.Attributes.{Attr, attr_at, attr_size, attributes, is_whole, kind_at, length_at, size_at}
+use Rattle.stun_types_message.proofs.Wire.Whole.{attributes_short, attributes_whole, not_whole, size_whole, whole_from, whole_long}
 use Rattle.stun_proto_auth.specs.SupportedAlgorithms.{number_by}
 use Rattle.stun_proto_auth.specs.Lists.{is_entry_of, is_list, lists}
 

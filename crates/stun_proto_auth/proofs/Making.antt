@@ -2,16 +2,16 @@
 use Rattle.std.proofs.Common.{◌≡◌, ℕ, ◌+◌, ◌<◌, ◌≤◌, List, [], ◌∷◌, ◌++◌, length, drop, get_or, Option, Some, None, refl, sym, ap, ◌∙◌, subst, drop_of_length-le}
 use Rattle.std.specs.Prelude.{IsSome}
 use Rattle.std.specs.Option.{option_or}
-use Rattle.stun_types_base.specs.Refusals.{IsCause}
-use Rattle.stun_types_wire.specs.declared.error.StunWriteError.{StunWriteError}
-use Rattle.stun_types_wire.specs.declared.error.StunWriteError.TheVariants.{NoMemory}
-use Rattle.stun_types_write.specs.Adding.{IsStarted}
-use Rattle.stun_types_write.specs.Drafts.{Draft}
-use Rattle.stun_types_write.specs.Outcomes.{added, IsAdded}
-use Rattle.stun_types_integrity.specs.Credentials.{Key}
-use Rattle.stun_types_integrity.specs.Signing.{signature, signing_refusal}
-use Rattle.stun_types_add.proofs.Taken.{after_both, both_accepted, written_more}
-use Rattle.stun_types_add.specs.Calls.{Add, AreAccepted, IsWritten, after_calls}
+use Rattle.stun_types_message.specs.Base.Refusals.{IsCause}
+use Rattle.stun_types_message.specs.Wire.declared.error.StunWriteError.{StunWriteError}
+use Rattle.stun_types_message.specs.Wire.declared.error.StunWriteError.TheVariants.{NoMemory}
+use Rattle.stun_types_message.specs.Write.Adding.{IsStarted}
+use Rattle.stun_types_message.specs.Write.Drafts.{Draft}
+use Rattle.stun_types_message.specs.Write.Outcomes.{added, IsAdded}
+use Rattle.stun_types_message.specs.Integrity.Credentials.{Key}
+use Rattle.stun_types_message.specs.Integrity.Signing.{signature, signing_refusal}
+use Rattle.stun_types_message.proofs.Add.Taken.{after_both, both_accepted, written_more}
+use Rattle.stun_types_message.specs.Add.Calls.{Add, AreAccepted, IsWritten, after_calls}
 use Rattle.stun_proto_auth.specs.Addition.{Addition, PartOf, addition_refusal, attr_of_part, calls_of, calls_of_parts, calls_of_signer, no_addition, one_refusal, parts_refusal, signer_refusal}
 use Rattle.stun_proto_auth.specs.AdditionStages.{AreAdded, IsMade, IsNamed, PartsFit, signing_refusal_after}
 use Rattle.stun_proto_auth.proofs.Reaching.{next_of, signing_after}

@@ -7,7 +7,7 @@ use Rattle.std.proofs.lemmas.List.Folds.{list_all_at}
 use Rattle.std.proofs.lemmas.Grind.{common_steps}
 use Rattle.base64.specs.GeneralPurpose.{decode_of}
 use Rattle.base64.specs.Engines.{standard}
-use Rattle.stun_types_wire.specs.Registry.{longest_text}
+use Rattle.stun_types_message.specs.Wire.Registry.{longest_text}
 use Rattle.stun_proto_auth.specs.Nonce.{nonce_character, nonce_cookie, nonce_alphabet, features_decoded, features_in, no_features, nonce_text}
 use Rattle.base64.specs.Rfc4648.{encode_symbols}
 use Rattle.base64.specs.Decode.{scan_steps, groups_error, groups_bytes}

@@ -3,24 +3,24 @@ use Rattle.std.proofs.Common.{◌≡◌, ℕ, suc, ◌+◌, ◌-◌, ◌<◌, �
 use Rattle.std.specs.Prelude.{◌||◌}
 use Rattle.std.specs.Option.{option_or}
 use Rattle.std.proofs.lemmas.List.{length-append}
-use Rattle.stun_types_wire.specs.declared.algorithm.IntegrityAlgorithm.{IntegrityAlgorithm}
-use Rattle.stun_types_wire.specs.declared.algorithm.IntegrityAlgorithm.TheVariants.{Sha1, Sha256, Sha512}
-use Rattle.stun_types_wire.specs.declared.error.StunWriteError.{StunWriteError}
-use Rattle.stun_types_wire.specs.declared.error.StunWriteError.TheVariants.{FingerprintExists, MessageIntegrityExists}
-use Rattle.stun_types_wire.specs.Attributes.{Attr, attr_size}
-use Rattle.stun_types_wire.specs.Covered.{with_length}
-use Rattle.stun_types_wire.specs.Text.{attribute_text}
-use Rattle.stun_types_write.specs.declared.ended.Ended.{Ended}
-use Rattle.stun_types_write.specs.Adding.{add_refusal, after_add, growth_refusal, IsStarted, size_refusal}
-use Rattle.stun_types_wire.specs.Registry.{greatest_size}
-use Rattle.stun_types_wire.specs.Shape.{rank}
-use Rattle.stun_types_write.specs.Drafts.{Draft, ended_by}
-use Rattle.stun_types_write.specs.Outcomes.{added}
-use Rattle.stun_types_auth_attributes.specs.Texts.{text_refusal}
-use Rattle.stun_types_integrity.specs.Signing.{hmac_length, key_refusal, order_refusal, signing_refusal}
-use Rattle.stun_types_add.specs.Calls.{after_calls}
-use Rattle.stun_types_add.proofs.Adds.{length-attribute_text, long_enough}
-use Rattle.stun_types_add.proofs.Taken.{none_of}
+use Rattle.stun_types_message.specs.Wire.declared.algorithm.IntegrityAlgorithm.{IntegrityAlgorithm}
+use Rattle.stun_types_message.specs.Wire.declared.algorithm.IntegrityAlgorithm.TheVariants.{Sha1, Sha256, Sha512}
+use Rattle.stun_types_message.specs.Wire.declared.error.StunWriteError.{StunWriteError}
+use Rattle.stun_types_message.specs.Wire.declared.error.StunWriteError.TheVariants.{FingerprintExists, MessageIntegrityExists}
+use Rattle.stun_types_message.specs.Wire.Attributes.{Attr, attr_size}
+use Rattle.stun_types_message.specs.Wire.Covered.{with_length}
+use Rattle.stun_types_message.specs.Wire.Text.{attribute_text}
+use Rattle.stun_types_message.specs.Write.declared.ended.Ended.{Ended}
+use Rattle.stun_types_message.specs.Write.Adding.{add_refusal, after_add, growth_refusal, IsStarted, size_refusal}
+use Rattle.stun_types_message.specs.Wire.Registry.{greatest_size}
+use Rattle.stun_types_message.specs.Wire.Shape.{rank}
+use Rattle.stun_types_message.specs.Write.Drafts.{Draft, ended_by}
+use Rattle.stun_types_message.specs.Write.Outcomes.{added}
+use Rattle.stun_types_message.specs.AuthAttributes.Texts.{text_refusal}
+use Rattle.stun_types_message.specs.Integrity.Signing.{hmac_length, key_refusal, order_refusal, signing_refusal}
+use Rattle.stun_types_message.specs.Add.Calls.{after_calls}
+use Rattle.stun_types_message.proofs.Add.Adds.{length-attribute_text, long_enough}
+use Rattle.stun_types_message.proofs.Add.Taken.{none_of}
 use Rattle.stun_proto_auth.specs.Addition.{PartOf, attr_of_part, calls_of_parts, one_refusal, parts_refusal, size_of_part}
 use Rattle.stun_proto_auth.specs.AdditionStages.{FitsAfter, IsGrown, IsNamed, PartsFit, refusal_after, signing_refusal_after}
 

@@ -2,18 +2,18 @@
 -- and 14).
 use Rattle.std.specs.Prelude.{ℕ, ◌*◌, List, [], ◌∷◌, ◌++◌, map, Option, Some, None}
 use Rattle.std.specs.Option.{option_or}
-use Rattle.stun_types_wire.specs.declared.error.StunWriteError.{StunWriteError}
-use Rattle.stun_types_wire.specs.Attributes.{Attr, attr_size}
-use Rattle.stun_types_write.specs.Adding.{attr_of, add_refusal}
-use Rattle.stun_types_write.specs.Drafts.{Draft}
-use Rattle.stun_types_write.specs.Outcomes.{added}
-use Rattle.stun_types_auth_attributes.specs.Texts.{text_refusal}
-use Rattle.stun_types_wire.specs.Registry.{longest_text, longest_username, most_algorithms, nonce_kind}
-use Rattle.stun_types_wire.specs.Registry.{password_algorithm_kind, password_algorithms_kind, realm_kind}
-use Rattle.stun_types_wire.specs.Registry.{userhash_kind, userhash_length, username_kind}
-use Rattle.stun_types_integrity.specs.Credentials.{Key}
-use Rattle.stun_types_integrity.specs.Signing.{signing_refusal}
-use Rattle.stun_types_add.specs.Calls.{Add, Ordinary, Integrity, after_calls}
+use Rattle.stun_types_message.specs.Wire.declared.error.StunWriteError.{StunWriteError}
+use Rattle.stun_types_message.specs.Wire.Attributes.{Attr, attr_size}
+use Rattle.stun_types_message.specs.Write.Adding.{attr_of, add_refusal}
+use Rattle.stun_types_message.specs.Write.Drafts.{Draft}
+use Rattle.stun_types_message.specs.Write.Outcomes.{added}
+use Rattle.stun_types_message.specs.AuthAttributes.Texts.{text_refusal}
+use Rattle.stun_types_message.specs.Wire.Registry.{longest_text, longest_username, most_algorithms, nonce_kind}
+use Rattle.stun_types_message.specs.Wire.Registry.{password_algorithm_kind, password_algorithms_kind, realm_kind}
+use Rattle.stun_types_message.specs.Wire.Registry.{userhash_kind, userhash_length, username_kind}
+use Rattle.stun_types_message.specs.Integrity.Credentials.{Key}
+use Rattle.stun_types_message.specs.Integrity.Signing.{signing_refusal}
+use Rattle.stun_types_message.specs.Add.Calls.{Add, Ordinary, Integrity, after_calls}
 
 -- ---- what is added
 

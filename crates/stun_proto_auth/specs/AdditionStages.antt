@@ -1,17 +1,17 @@
 -- What the steps of an addition check, and the message that they leave.
 use Rattle.std.specs.Prelude.{◌≡◌, ℕ, ◌+◌, ◌≤◌, List, length, Option, None}
 use Rattle.std.specs.Option.{option_or}
-use Rattle.stun_types_base.specs.Refusals.{IsNamed as IsNamedBut}
-use Rattle.stun_types_wire.specs.declared.algorithm.IntegrityAlgorithm.{IntegrityAlgorithm}
-use Rattle.stun_types_wire.specs.declared.error.StunWriteError.{StunWriteError}
-use Rattle.stun_types_wire.specs.declared.error.StunWriteError.TheVariants.{NoMemory}
-use Rattle.stun_types_write.specs.Adding.{IsStarted, add_refusal, growth_refusal}
-use Rattle.stun_types_wire.specs.Registry.{greatest_size, header_size}
-use Rattle.stun_types_wire.specs.Shape.{rank}
-use Rattle.stun_types_write.specs.Drafts.{Draft}
-use Rattle.stun_types_auth_attributes.specs.Texts.{text_refusal}
-use Rattle.stun_types_integrity.specs.Signing.{hmac_length, order_refusal}
-use Rattle.stun_types_add.specs.Calls.{AreAccepted, after_calls}
+use Rattle.stun_types_message.specs.Base.Refusals.{IsNamed as IsNamedBut}
+use Rattle.stun_types_message.specs.Wire.declared.algorithm.IntegrityAlgorithm.{IntegrityAlgorithm}
+use Rattle.stun_types_message.specs.Wire.declared.error.StunWriteError.{StunWriteError}
+use Rattle.stun_types_message.specs.Wire.declared.error.StunWriteError.TheVariants.{NoMemory}
+use Rattle.stun_types_message.specs.Write.Adding.{IsStarted, add_refusal, growth_refusal}
+use Rattle.stun_types_message.specs.Wire.Registry.{greatest_size, header_size}
+use Rattle.stun_types_message.specs.Wire.Shape.{rank}
+use Rattle.stun_types_message.specs.Write.Drafts.{Draft}
+use Rattle.stun_types_message.specs.AuthAttributes.Texts.{text_refusal}
+use Rattle.stun_types_message.specs.Integrity.Signing.{hmac_length, order_refusal}
+use Rattle.stun_types_message.specs.Add.Calls.{AreAccepted, after_calls}
 use Rattle.stun_proto_auth.specs.Addition.{PartOf, Addition, calls_of, calls_of_parts, parts_refusal, size_of_part}
 
 -- ---- what is found before anything is added

@@ -2,15 +2,15 @@
 -- 14.8 to 14.12).
 use Rattle.std.specs.Prelude.{ℕ, ◌==◌, if◌then◌else◌, List, [], ◌∷◌, Option, Some, None}
 use Rattle.std.specs.Option.{option_or}
-use Rattle.stun_types_wire.specs.declared.algorithm.IntegrityAlgorithm.{IntegrityAlgorithm}
-use Rattle.stun_types_wire.specs.declared.error.StunParseError.{StunParseError}
-use Rattle.stun_types_wire.specs.Attributes.{Attr}
-use Rattle.stun_types_wire.specs.Grammar.{visible}
-use Rattle.stun_types_write.specs.ValueReading.{text_read_refusal, value_refusal}
-use Rattle.stun_types_auth_attributes.specs.Entries.{algorithm_read_refusal, algorithms_read_refusal, number_decoded}
-use Rattle.stun_types_attributes.specs.ErrorCodeReading.{error_read_refusal, error_decoded}
-use Rattle.stun_types_wire.specs.Registry.{error_code_kind, longest_text, longest_username, nonce_kind, password_algorithm_kind, password_algorithms_kind, realm_kind, userhash_kind, userhash_length, username_kind}
-use Rattle.stun_types_integrity.specs.Integrity.{algorithm_of}
+use Rattle.stun_types_message.specs.Wire.declared.algorithm.IntegrityAlgorithm.{IntegrityAlgorithm}
+use Rattle.stun_types_message.specs.Wire.declared.error.StunParseError.{StunParseError}
+use Rattle.stun_types_message.specs.Wire.Attributes.{Attr}
+use Rattle.stun_types_message.specs.Wire.Grammar.{visible}
+use Rattle.stun_types_message.specs.Write.ValueReading.{text_read_refusal, value_refusal}
+use Rattle.stun_types_message.specs.AuthAttributes.Entries.{algorithm_read_refusal, algorithms_read_refusal, number_decoded}
+use Rattle.stun_types_message.specs.Attributes.ErrorCodeReading.{error_read_refusal, error_decoded}
+use Rattle.stun_types_message.specs.Wire.Registry.{error_code_kind, longest_text, longest_username, nonce_kind, password_algorithm_kind, password_algorithms_kind, realm_kind, userhash_kind, userhash_length, username_kind}
+use Rattle.stun_types_message.specs.Integrity.Integrity.{algorithm_of}
 use Rattle.stun_types_message.specs.MessageValidation.{last_algorithm}
 use Rattle.stun_proto_auth.specs.Lists.{list_read_refusal}
 use Rattle.stun_proto_auth.specs.declared.last.Lasts.{Lasts}

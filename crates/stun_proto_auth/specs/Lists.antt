@@ -2,12 +2,12 @@
 use Rattle.std.specs.Prelude.{ℕ, ◌*◌, ◌==◌, ◌&&◌, Bool, List, length, sum_by, Option, Some, None, if◌then◌else◌}
 use Rattle.std.specs.List.{list_any}
 use Rattle.std.specs.Option.{option_or}
-use Rattle.stun_types_wire.specs.declared.algorithm.IntegrityAlgorithm.{IntegrityAlgorithm}
-use Rattle.stun_types_wire.specs.declared.error.StunParseError.{StunParseError}
-use Rattle.stun_types_wire.specs.declared.error.StunParseError.TheVariants.{InvalidAttributeData}
-use Rattle.stun_types_wire.specs.Attributes.{Attr, attr_size, attributes}
-use Rattle.stun_types_wire.specs.Registry.{most_algorithms, password_algorithms_kind}
-use Rattle.stun_types_write.specs.ValueReading.{value_refusal}
+use Rattle.stun_types_message.specs.Wire.declared.algorithm.IntegrityAlgorithm.{IntegrityAlgorithm}
+use Rattle.stun_types_message.specs.Wire.declared.error.StunParseError.{StunParseError}
+use Rattle.stun_types_message.specs.Wire.declared.error.StunParseError.TheVariants.{InvalidAttributeData}
+use Rattle.stun_types_message.specs.Wire.Attributes.{Attr, attr_size, attributes}
+use Rattle.stun_types_message.specs.Wire.Registry.{most_algorithms, password_algorithms_kind}
+use Rattle.stun_types_message.specs.Write.ValueReading.{value_refusal}
 use Rattle.stun_proto_auth.specs.SupportedAlgorithms.{number_by}
 
 -- An entry is laid out as an attribute is: the number of an algorithm, the length of its parameters, the

@@ -2,9 +2,9 @@
 use Rattle.std.specs.Prelude.{ℕ, ◌+◌, nat_le, Bool, List, [], ◌∷◌, length, Option, Some, None, if◌then◌else◌}
 use Rattle.std.specs.List.{list_all}
 use Rattle.std.specs.Option.{option_map}
-use Rattle.stun_types_integrity.specs.Credentials.{Key}
-use Rattle.stun_types_wire.specs.declared.algorithm.IntegrityAlgorithm.{IntegrityAlgorithm}
-use Rattle.stun_types_integrity.specs.Signing.{hmac_length}
+use Rattle.stun_types_message.specs.Integrity.Credentials.{Key}
+use Rattle.stun_types_message.specs.Wire.declared.algorithm.IntegrityAlgorithm.{IntegrityAlgorithm}
+use Rattle.stun_types_message.specs.Integrity.Signing.{hmac_length}
 use Rattle.stun_proto_auth.specs.Addition.{PartOf, Addition, size_of_part}
 
 -- Whether every part is within its limit.

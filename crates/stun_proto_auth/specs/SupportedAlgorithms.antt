@@ -1,11 +1,11 @@
 -- Lists of integrity algorithms.
 use Rattle.std.specs.Prelude.{ℕ, Bool, nat_eq, true, false, if◌then◌else◌, List, [], ◌∷◌, ◌++◌, map}
 use Rattle.std.specs.List.{list_any}
-use Rattle.stun_types_wire.specs.declared.algorithm.IntegrityAlgorithm.{IntegrityAlgorithm}
-use Rattle.stun_types_wire.specs.declared.algorithm.IntegrityAlgorithm.TheVariants.{Sha1, Sha256, Sha512}
-use Rattle.stun_types_wire.specs.Registry.{md5_number, sha256_number, sha512_number}
-use Rattle.stun_types_auth_attributes.specs.Entries.{entries}
-use Rattle.stun_types_wire.specs.Strength.{strength}
+use Rattle.stun_types_message.specs.Wire.declared.algorithm.IntegrityAlgorithm.{IntegrityAlgorithm}
+use Rattle.stun_types_message.specs.Wire.declared.algorithm.IntegrityAlgorithm.TheVariants.{Sha1, Sha256, Sha512}
+use Rattle.stun_types_message.specs.Wire.Registry.{md5_number, sha256_number, sha512_number}
+use Rattle.stun_types_message.specs.AuthAttributes.Entries.{entries}
+use Rattle.stun_types_message.specs.Wire.Strength.{strength}
 
 -- Whether two algorithms are the same. Different algorithms differ in strength.
 abbrev pub is_same_algorithm : IntegrityAlgorithm → IntegrityAlgorithm → Bool

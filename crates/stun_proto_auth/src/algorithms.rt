@@ -1,13 +1,13 @@
 //! Lookup in a list of password algorithms.
 
 ghost use Rattle.std.specs.Prelude.{◌≡◌, ◌==◌};
-ghost use Rattle.stun_types_auth_attributes.specs.Entries.{number_decoded};
+ghost use Rattle.stun_types_message.specs.AuthAttributes.Entries.{number_decoded};
 ghost use Rattle.stun_proto_auth.specs.SupportedAlgorithms.{number_by};
 ghost use Rattle.stun_proto_auth.specs.Offers.{offers};
 
 use crate::number::number_by;
+use crate::stun_types_wire::algorithm::IntegrityAlgorithm;
 use byteorder::{BigEndian, ByteOrder};
-use stun_types_wire::algorithm::IntegrityAlgorithm;
 
 /// Returns whether a PASSWORD-ALGORITHMS value lists the password algorithm that derives the keys
 /// of an integrity algorithm (RFC 8489, sections 14.11 and 18.5).
@@ -27,7 +27,7 @@ pub fn offers(value: &[u8], algorithm: IntegrityAlgorithm) -> bool
 
 /// Returns whether an entry has the number of the password algorithm that derives the keys of an
 /// integrity algorithm.
-#[tactic(auto, unfolding(stun_types_auth_attributes::specs::Entries::number_decoded))]
+#[tactic(auto, unfolding(stun_types_message::specs::AuthAttributes::Entries::number_decoded))]
 fn decodes(entry: &[u8; 4], algorithm: IntegrityAlgorithm) -> bool
     ensures { result ≡ (number_decoded entry.now == number_by algorithm) }
 {

@@ -2,26 +2,28 @@
 
 ghost use Rattle.std.specs.Prelude.{◌≡◌, Some, None};
 ghost use Rattle.std.specs.Option.{option_copied, option_map};
-ghost use Rattle.stun_types_auth_attributes.specs.PasswordAlgorithmNumbers.{number_of};
-ghost use Rattle.stun_proto_auth.specs.Claims.{algorithm_decoded, algorithms_decoded, claimed, code_visible, code_decoded, hash_decoded, list_decoded, text_decoded};
+ghost use Rattle.stun_types_message.specs.AuthAttributes.PasswordAlgorithmNumbers.{number_of};
+ghost use Rattle.stun_proto_auth.specs.Claims.{algorithm_decoded, algorithms_decoded, claimed};
+ghost use Rattle.stun_proto_auth.specs.Claims.{code_visible, code_decoded, hash_decoded};
+ghost use Rattle.stun_proto_auth.specs.Claims.{list_decoded, text_decoded};
 
 use crate::last::{Lasts, last_attribute};
 use crate::list::is_list;
+use crate::stun_types_attributes::error_code::ErrorCode;
+use crate::stun_types_auth_attributes::algorithm::PasswordAlgorithmValue;
+use crate::stun_types_auth_attributes::nonce::Nonce;
+use crate::stun_types_auth_attributes::password_algorithm::PasswordAlgorithm;
+use crate::stun_types_auth_attributes::password_algorithms::PasswordAlgorithms;
+use crate::stun_types_auth_attributes::realm::Realm;
+use crate::stun_types_auth_attributes::username::Username;
+use crate::stun_types_wire::algorithm::IntegrityAlgorithm;
+use crate::stun_types_wire::attribute::{AttributeType, RawAttribute};
+use crate::stun_types_wire::registry;
+use crate::stun_types_write::attribute::AttributeStaticType;
+use crate::stun_types_write::reading::{text_of, value_of};
 use std::convert::TryFrom;
 use std::marker::Model;
-use stun_types_attributes::error_code::ErrorCode;
-use stun_types_auth_attributes::algorithm::PasswordAlgorithmValue;
-use stun_types_auth_attributes::nonce::Nonce;
-use stun_types_auth_attributes::password_algorithm::PasswordAlgorithm;
-use stun_types_auth_attributes::password_algorithms::PasswordAlgorithms;
-use stun_types_auth_attributes::realm::Realm;
-use stun_types_auth_attributes::username::Username;
 use stun_types_message::parsed::Message;
-use stun_types_wire::algorithm::IntegrityAlgorithm;
-use stun_types_wire::attribute::{AttributeType, RawAttribute};
-use stun_types_wire::registry;
-use stun_types_write::attribute::AttributeStaticType;
-use stun_types_write::reading::{text_of, value_of};
 
 /// The authentication attributes that are visible in a message. Of several attributes of one type,
 /// the last one counts, and a malformed one counts as absent. The exception: an integrity attribute
@@ -33,9 +35,10 @@ pub struct Claim<'a> {
 }
 
 impl<'a> Model for Claim<'a> {
-    ghost use Rattle.stun_types_wire.specs.Registry.{longest_text, longest_username};
-    ghost use Rattle.stun_types_wire.specs.Registry.{nonce_kind, realm_kind, username_kind};
-    ghost use Rattle.stun_proto_auth.specs.Claims.{Claimed, algorithm_decoded, algorithms_decoded, hash_decoded, list_decoded, text_decoded};
+    ghost use Rattle.stun_types_message.specs.Wire.Registry.{longest_text, longest_username};
+    ghost use Rattle.stun_types_message.specs.Wire.Registry.{nonce_kind, realm_kind, username_kind};
+    ghost use Rattle.stun_proto_auth.specs.Claims.{Claimed, algorithm_decoded, algorithms_decoded};
+    ghost use Rattle.stun_proto_auth.specs.Claims.{hash_decoded, list_decoded, text_decoded};
 
     ghost Value = { Claimed };
 

@@ -1,18 +1,18 @@
 //! The last attributes of a message.
 
 ghost use Rattle.std.specs.Prelude.{◌≡◌};
-ghost use Rattle.stun_types_wire.specs.Grammar.{visible};
+ghost use Rattle.stun_types_message.specs.Wire.Grammar.{visible};
 ghost use Rattle.stun_proto_auth.specs.Claims.{last_of_kind, lasts, with_later};
 
-use stun_types_auth_attributes::nonce::Nonce;
-use stun_types_auth_attributes::realm::Realm;
-use stun_types_auth_attributes::username::Username;
-use stun_types_integrity::algorithm::algorithm_of;
+use crate::stun_types_auth_attributes::nonce::Nonce;
+use crate::stun_types_auth_attributes::realm::Realm;
+use crate::stun_types_auth_attributes::username::Username;
+use crate::stun_types_integrity::algorithm::algorithm_of;
+use crate::stun_types_wire::algorithm::IntegrityAlgorithm;
+use crate::stun_types_wire::attribute::{AttributeType, RawAttribute};
+use crate::stun_types_wire::registry;
+use crate::stun_types_write::attribute::AttributeStaticType;
 use stun_types_message::parsed::Message;
-use stun_types_wire::algorithm::IntegrityAlgorithm;
-use stun_types_wire::attribute::{AttributeType, RawAttribute};
-use stun_types_wire::registry;
-use stun_types_write::attribute::AttributeStaticType;
 
 /// Of each authentication attribute type the last attribute, and the algorithm of the last
 /// integrity attribute.

@@ -15,3 +15,10 @@ mod room;
 pub mod signing;
 pub mod size;
 pub mod supported;
+
+pub use stun_types_message;
+use stun_types_message::stun_types_attributes;
+pub use stun_types_message::{
+    stun_types_add, stun_types_auth_attributes, stun_types_base, stun_types_integrity,
+    stun_types_wire, stun_types_write,
+};

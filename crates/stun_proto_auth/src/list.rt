@@ -1,18 +1,19 @@
 //! Lists of password algorithms that may have unknown ones (RFC 8489, section 14.11).
 
-ghost use Rattle.std.specs.Prelude.{◌≡◌, ◌≢◌, ◌≤◌, ◌==◌, ◌&&◌, List, [], MatchOption, None, drop, false, length, true};
-ghost use Rattle.stun_types_wire.specs.declared.algorithm.IntegrityAlgorithm.{IntegrityAlgorithm as Algorithm};
-ghost use Rattle.stun_types_wire.specs.Attributes.{attr_header_at, is_whole, size_at};
-ghost use Rattle.stun_types_wire.specs.Registry.{most_algorithms, password_algorithms_kind};
-ghost use Rattle.stun_types_write.specs.Adding.{attr_of};
+ghost use Rattle.std.specs.Prelude.{◌≡◌, ◌≢◌, ◌≤◌, ◌==◌, ◌&&◌, List, [], MatchOption, None, drop};
+ghost use Rattle.std.specs.Prelude.{false, length, true};
+ghost use Rattle.stun_types_message.specs.Wire.declared.algorithm.IntegrityAlgorithm.{IntegrityAlgorithm as Algorithm};
+ghost use Rattle.stun_types_message.specs.Wire.Attributes.{attr_header_at, is_whole, size_at};
+ghost use Rattle.stun_types_message.specs.Wire.Registry.{most_algorithms, password_algorithms_kind};
+ghost use Rattle.stun_types_message.specs.Write.Adding.{attr_of};
 ghost use Rattle.stun_proto_auth.specs.Lists.{is_list, list_read_refusal, lists};
 ghost use Rattle.stun_proto_auth.specs.Offers.{offers};
 ghost use Rattle.stun_proto_auth.specs.SupportedAlgorithms.{list_of, number_by};
 
 use crate::number::number_by;
+use crate::stun_types_wire::algorithm::IntegrityAlgorithm;
+use crate::stun_types_wire::attribute::{AttributeHeader, pad_attribute_len};
 use std::convert::TryFrom;
-use stun_types_wire::algorithm::IntegrityAlgorithm;
-use stun_types_wire::attribute::{AttributeHeader, pad_attribute_len};
 
 /// Returns whether a PASSWORD-ALGORITHMS value has the password algorithm that derives the keys of
 /// an integrity algorithm (RFC 8489, sections 14.11 and 18.5). It is read entry by entry, so bytes

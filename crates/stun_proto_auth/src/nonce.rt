@@ -2,17 +2,17 @@
 //! 8489, section 9.2).
 
 ghost use Rattle.std.specs.Prelude.{◌≡◌, ◌<◌, ◌≤◌, IfOk, ℕ, List, length};
-ghost use Rattle.stun_types_wire.specs.Registry.{longest_text};
+ghost use Rattle.stun_types_message.specs.Wire.Registry.{longest_text};
 ghost use Rattle.stun_proto_auth.specs.Nonce.{nonce_character, nonce_text, features_in};
 ghost use Rattle.stun_proto_auth.specs.declared.nonce.NonceFeatures.{NonceFeatures};
 
 use crate::feature::Feature;
+use crate::stun_types_base::memory::NoMemory;
+use crate::stun_types_wire::algorithm::IntegrityAlgorithm;
 use crate::supported::SupportedIntegrity;
 use base64::engine::general_purpose::STANDARD;
 use std::alloc::Global;
 use std::marker::Model;
-use stun_types_base::memory::NoMemory;
-use stun_types_wire::algorithm::IntegrityAlgorithm;
 
 /// The nonce cookie: a nonce begins with it if it announces the server's security features.
 pub const LONG_TERM_RFC8489_NONCE_COOKIE: &str = "obMatJos2";
@@ -33,7 +33,8 @@ pub struct NonceFeatures {
 }
 
 impl NonceFeatures {
-    ghost use Rattle.stun_proto_auth.specs.Nonce.{features_offered, feature_bytes, features_decoded, features_of_byte};
+    ghost use Rattle.stun_proto_auth.specs.Nonce.{features_offered, feature_bytes};
+    ghost use Rattle.stun_proto_auth.specs.Nonce.{features_decoded, features_of_byte};
     ghost use Rattle.base64.specs.GeneralPurpose.{decode_of};
     ghost use Rattle.base64.specs.Engines.{standard};
 
@@ -118,7 +119,7 @@ pub struct ServerNonce {
 impl Model for ServerNonce {
     ghost use Rattle.std.specs.Prelude.{List, ℕ, ◌≤◌, length};
     ghost use Rattle.std.specs.String.{string_bytes};
-    ghost use Rattle.stun_types_wire.specs.Registry.{longest_text};
+    ghost use Rattle.stun_types_message.specs.Wire.Registry.{longest_text};
 
     ghost Value = { List ℕ };
 

@@ -3,8 +3,8 @@
 ghost use Rattle.std.specs.Prelude.{◌≡◌};
 ghost use Rattle.stun_proto_auth.specs.SupportedAlgorithms.{number_by};
 
-use stun_types_wire::algorithm::IntegrityAlgorithm;
-use stun_types_wire::registry::{MD5_NUMBER, SHA256_NUMBER, SHA512_NUMBER};
+use crate::stun_types_wire::algorithm::IntegrityAlgorithm;
+use crate::stun_types_wire::registry::{MD5_NUMBER, SHA256_NUMBER, SHA512_NUMBER};
 
 /// Returns the number of the password algorithm that derives the keys of an integrity algorithm
 /// (RFC 8489, section 18.5.1). The number for `Sha512` is specific to this project: no RFC assigns

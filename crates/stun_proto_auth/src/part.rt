@@ -1,26 +1,28 @@
 //! An attribute that is added before the integrity attribute.
 
 ghost use Rattle.std.specs.Prelude.{◌≡◌, ◌≤◌, length, None, OnOk};
-ghost use Rattle.stun_types_base.specs.Refusals.{RefusesFor};
-ghost use Rattle.stun_types_wire.specs.Registry.{longest_text, userhash_length};
-ghost use Rattle.stun_types_write.specs.Adding.{IsStarted};
-ghost use Rattle.stun_types_write.specs.Outcomes.{TakesNoMemory, IsAdded};
-ghost use Rattle.stun_types_wire.specs.Shape.{rank};
-ghost use Rattle.stun_proto_auth.specs.Addition.{algorithm_of, algorithms_of, attr_of_part, hash_of, nonce_of, one_refusal, realm_of, username_of};
+ghost use Rattle.stun_types_message.specs.Base.Refusals.{RefusesFor};
+ghost use Rattle.stun_types_message.specs.Wire.Registry.{longest_text, userhash_length};
+ghost use Rattle.stun_types_message.specs.Write.Adding.{IsStarted};
+ghost use Rattle.stun_types_message.specs.Write.Outcomes.{TakesNoMemory, IsAdded};
+ghost use Rattle.stun_types_message.specs.Wire.Shape.{rank};
+ghost use Rattle.stun_proto_auth.specs.Addition.{algorithm_of, algorithms_of, attr_of_part};
+ghost use Rattle.stun_proto_auth.specs.Addition.{hash_of, nonce_of, one_refusal, realm_of};
+ghost use Rattle.stun_proto_auth.specs.Addition.{username_of};
 
+use crate::stun_types_add::ext::add_as;
+use crate::stun_types_auth_attributes::nonce::Nonce;
+use crate::stun_types_auth_attributes::password_algorithm::PasswordAlgorithm;
+use crate::stun_types_auth_attributes::password_algorithms::PasswordAlgorithms;
+use crate::stun_types_auth_attributes::realm::Realm;
+use crate::stun_types_auth_attributes::userhash::Userhash;
+use crate::stun_types_auth_attributes::username::Username;
+use crate::stun_types_wire::attribute::{AttributeType, RawAttribute};
+use crate::stun_types_wire::error::StunWriteError;
+use crate::stun_types_wire::registry::{MAX_PASSWORD_ALGORITHMS, USERHASH_LENGTH};
+use crate::stun_types_write::attribute::AttributeStaticType;
+use crate::stun_types_write::writer::MessageWrite;
 use std::marker::Model;
-use stun_types_add::ext::add_as;
-use stun_types_auth_attributes::nonce::Nonce;
-use stun_types_auth_attributes::password_algorithm::PasswordAlgorithm;
-use stun_types_auth_attributes::password_algorithms::PasswordAlgorithms;
-use stun_types_auth_attributes::realm::Realm;
-use stun_types_auth_attributes::userhash::Userhash;
-use stun_types_auth_attributes::username::Username;
-use stun_types_wire::attribute::{AttributeType, RawAttribute};
-use stun_types_wire::error::StunWriteError;
-use stun_types_wire::registry::{MAX_PASSWORD_ALGORITHMS, USERHASH_LENGTH};
-use stun_types_write::attribute::AttributeStaticType;
-use stun_types_write::writer::MessageWrite;
 
 /// The size of one entry in PASSWORD-ALGORITHM and PASSWORD-ALGORITHMS: two bytes for the
 /// algorithm's number and two for the length of its parameters (RFC 8489, sections 14.11 and
@@ -39,8 +41,8 @@ pub struct Part<'a> {
 
 impl<'a> Model for Part<'a> {
     ghost use Rattle.std.specs.Prelude.{◌≡◌, ◌≤◌};
-    ghost use Rattle.stun_types_wire.specs.Registry.{longest_text};
-    ghost use Rattle.stun_types_wire.specs.Shape.{rank};
+    ghost use Rattle.stun_types_message.specs.Wire.Registry.{longest_text};
+    ghost use Rattle.stun_types_message.specs.Wire.Shape.{rank};
     ghost use Rattle.stun_proto_auth.specs.Addition.{PartOf};
 
     ghost Value = { PartOf };

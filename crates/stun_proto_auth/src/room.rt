@@ -1,18 +1,19 @@
 //! Checks, made before anything is added, that all attributes may be added and fit.
 
 ghost use Rattle.std.specs.Prelude.{◌≡◌, ◌≤◌, length, MatchResult, None};
-ghost use Rattle.stun_types_write.specs.Adding.{IsStarted};
-ghost use Rattle.stun_types_wire.specs.Registry.{greatest_size};
+ghost use Rattle.stun_types_message.specs.Write.Adding.{IsStarted};
+ghost use Rattle.stun_types_message.specs.Wire.Registry.{greatest_size};
 ghost use Rattle.stun_proto_auth.specs.Addition.{parts_refusal};
-ghost use Rattle.stun_proto_auth.specs.AdditionStages.{FitsAfter, IsNamed, PartsFit, refusal_after, signing_refusal_after};
+ghost use Rattle.stun_proto_auth.specs.AdditionStages.{FitsAfter, IsNamed, PartsFit, refusal_after};
+ghost use Rattle.stun_proto_auth.specs.AdditionStages.{signing_refusal_after};
 
 use crate::part::Part;
-use stun_types_add::room::{end_of_add, may_sign};
-use stun_types_integrity::algorithm::hmac_length;
-use stun_types_wire::algorithm::IntegrityAlgorithm;
-use stun_types_wire::attribute::pad_attribute_len;
-use stun_types_wire::error::StunWriteError;
-use stun_types_write::writer::MessageWrite;
+use crate::stun_types_add::room::{end_of_add, may_sign};
+use crate::stun_types_integrity::algorithm::hmac_length;
+use crate::stun_types_wire::algorithm::IntegrityAlgorithm;
+use crate::stun_types_wire::attribute::pad_attribute_len;
+use crate::stun_types_wire::error::StunWriteError;
+use crate::stun_types_write::writer::MessageWrite;
 
 /// Checks that a part can be added after `before` further bytes, and returns `before` plus the size
 /// of its attribute.
@@ -21,7 +22,7 @@ use stun_types_write::writer::MessageWrite;
 ///
 /// 1. `TooLarge`: the part's value is over its limit.
 /// 2. The errors of `add_attribute`.
-#[tactic(auto, unfolding(stun_types_write::specs::Adding::add_refusal))]
+#[tactic(auto, unfolding(stun_types_message::specs::Write::Adding::add_refusal))]
 fn fits_after<W: MessageWrite>(
     writer: &W,
     before: usize,

@@ -2,18 +2,18 @@
 
 ghost use Rattle.std.specs.Prelude.{◌≡◌, IfOk, None, OnOk, Some};
 ghost use Rattle.std.specs.Option.{option_copied};
-ghost use Rattle.stun_types_base.specs.Refusals.{RefusesFor};
-ghost use Rattle.stun_types_write.specs.Adding.{IsStarted};
-ghost use Rattle.stun_types_write.specs.Outcomes.{TakesNoMemory};
+ghost use Rattle.stun_types_message.specs.Base.Refusals.{RefusesFor};
+ghost use Rattle.stun_types_message.specs.Write.Adding.{IsStarted};
+ghost use Rattle.stun_types_message.specs.Write.Outcomes.{TakesNoMemory};
 ghost use Rattle.stun_proto_auth.specs.Addition.{addition_refusal, parts_refusal};
 ghost use Rattle.stun_proto_auth.specs.AdditionStages.{AreAdded, IsMade};
 
 use crate::part::Part;
 use crate::room::{parts_fit, signature_fits};
-use stun_types_add::ext::MessageWriteExt;
-use stun_types_integrity::key::IntegrityKey;
-use stun_types_wire::error::StunWriteError;
-use stun_types_write::writer::MessageWrite;
+use crate::stun_types_add::ext::MessageWriteExt;
+use crate::stun_types_integrity::key::IntegrityKey;
+use crate::stun_types_wire::error::StunWriteError;
+use crate::stun_types_write::writer::MessageWrite;
 
 /// Adds authentication attributes to a message and returns the writer (RFC 8489, sections 9.1 and
 /// 9.2). Each part is added as an attribute of its own, in the given order. If there is a key, the

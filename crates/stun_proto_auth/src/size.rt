@@ -1,15 +1,15 @@
 //! The number of bytes that signing adds.
 
 ghost use Rattle.std.specs.Prelude.{◌≡◌, ◌≤◌, length, min};
-ghost use Rattle.stun_types_wire.specs.RawBytes.{greatest_len};
-ghost use Rattle.stun_types_wire.specs.Registry.{longest_text};
+ghost use Rattle.stun_types_message.specs.Wire.RawBytes.{greatest_len};
+ghost use Rattle.stun_types_message.specs.Wire.Registry.{longest_text};
 ghost use Rattle.stun_proto_auth.specs.Addition.{size_of_part};
 ghost use Rattle.stun_proto_auth.specs.Sizes.{size_of_addition, size_of_signature};
 
 use crate::part::Part;
-use stun_types_integrity::algorithm::hmac_length;
-use stun_types_wire::algorithm::IntegrityAlgorithm;
-use stun_types_wire::attribute::pad_attribute_len;
+use crate::stun_types_integrity::algorithm::hmac_length;
+use crate::stun_types_wire::algorithm::IntegrityAlgorithm;
+use crate::stun_types_wire::attribute::pad_attribute_len;
 
 /// Returns how many bytes `sign` adds to a message with these parts and, if an algorithm is given,
 /// a key of that algorithm. The result is 0 if a part is over its limit, since nothing is added

@@ -2,12 +2,13 @@
 
 ghost use Rattle.std.specs.Prelude.{◌≡◌, ◌≢◌, [], ◌∷◌};
 ghost use Rattle.std.specs.List.{IsDistinct, list_any};
-ghost use Rattle.stun_proto_auth.specs.SupportedAlgorithms.{is_same_algorithm, list_of, with_algorithm};
+ghost use Rattle.stun_proto_auth.specs.SupportedAlgorithms.{is_same_algorithm, list_of};
+ghost use Rattle.stun_proto_auth.specs.SupportedAlgorithms.{with_algorithm};
 
 use crate::number::number_by;
+use crate::stun_types_wire::algorithm::IntegrityAlgorithm;
 use std::fmt;
 use std::marker::Model;
-use stun_types_wire::algorithm::IntegrityAlgorithm;
 
 /// The integrity algorithms that a side supports, in order: at least one, and none twice. Contracts
 /// see the list of them.
@@ -23,7 +24,7 @@ pub struct SupportedIntegrity {
 
 impl Model for SupportedIntegrity {
     ghost use Rattle.std.specs.Prelude.{List, take};
-    ghost use Rattle.stun_types_wire.specs.declared.algorithm.IntegrityAlgorithm.{IntegrityAlgorithm};
+    ghost use Rattle.stun_types_message.specs.Wire.declared.algorithm.IntegrityAlgorithm.{IntegrityAlgorithm};
 
     ghost Value = { List IntegrityAlgorithm };
 
@@ -116,7 +117,7 @@ fn entries_of(algorithms: &[IntegrityAlgorithm; 3]) -> [u8; 12]
 impl PartialEq for SupportedIntegrity {
     ghost use Rattle.std.specs.Cmp.{nat_eq_equiv, on_equiv, partial_equiv_from_equiv};
     ghost use Rattle.std.specs.Cmp.Lexicographic.{lists_equiv, pointwise};
-    ghost use Rattle.stun_types_wire.specs.Strength.{strength};
+    ghost use Rattle.stun_types_message.specs.Wire.Strength.{strength};
     ghost use Rattle.stun_proto_auth.specs.SupportedAlgorithms.{is_same_algorithm};
 
     ghost eq = { λ a b. pointwise is_same_algorithm a b };
@@ -131,7 +132,7 @@ impl PartialEq for SupportedIntegrity {
 impl Eq for SupportedIntegrity {
     ghost use Rattle.std.specs.Cmp.{nat_eq_equiv, on_equiv};
     ghost use Rattle.std.specs.Cmp.Lexicographic.{lists_equiv};
-    ghost use Rattle.stun_types_wire.specs.Strength.{strength};
+    ghost use Rattle.stun_types_message.specs.Wire.Strength.{strength};
 
     ghost laws = { lists_equiv (on_equiv strength nat_eq_equiv) };
 }

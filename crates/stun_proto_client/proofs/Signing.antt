@@ -3,20 +3,20 @@ use Rattle.std.proofs.Common.{◌≡◌, ℕ, ◌<◌, ◌≤◌, ◌^◌, Bool,
 use Rattle.std.specs.List.{AllByRecursion}
 use Rattle.std.specs.Option.{option_or}
 use Rattle.std.proofs.lemmas.Bool.{cases_Bool, ltb-false}
-use Rattle.stun_types_wire.specs.declared.algorithm.IntegrityAlgorithm.{IntegrityAlgorithm}
-use Rattle.stun_types_wire.specs.declared.class.MessageClass.{MessageClass}
-use Rattle.stun_types_wire.specs.declared.class.MessageClass.TheVariants.{Request, Indication, Success, Error}
-use Rattle.stun_types_wire.specs.declared.error.StunWriteError.{StunWriteError}
-use Rattle.stun_types_integrity.specs.Credentials.{Key}
-use Rattle.stun_types_write.specs.Drafts.{Draft}
-use Rattle.stun_types_write.specs.Outcomes.{added}
-use Rattle.stun_types_wire.specs.Shape.{rank}
-use Rattle.stun_types_auth_attributes.specs.Texts.{text_refusal}
-use Rattle.stun_types_integrity.specs.Signing.{text_to_sign}
-use Rattle.stun_types_wire.specs.Text.{message_text}
-use Rattle.stun_types_add.specs.Calls.{Add, Integrity, IsLawful, IsWritten, after_calls, attributes_of}
-use Rattle.stun_types_wire.specs.MessageReading.{IsReadAs}
-use Rattle.stun_types_message.proofs.Composed.{calls_read, calls_validate}
+use Rattle.stun_proto_auth.specs.Wire.declared.algorithm.IntegrityAlgorithm.{IntegrityAlgorithm}
+use Rattle.stun_proto_auth.specs.Wire.declared.class.MessageClass.{MessageClass}
+use Rattle.stun_proto_auth.specs.Wire.declared.class.MessageClass.TheVariants.{Request, Indication, Success, Error}
+use Rattle.stun_proto_auth.specs.Wire.declared.error.StunWriteError.{StunWriteError}
+use Rattle.stun_proto_auth.specs.Integrity.Credentials.{Key}
+use Rattle.stun_proto_auth.specs.Write.Drafts.{Draft}
+use Rattle.stun_proto_auth.specs.Write.Outcomes.{added}
+use Rattle.stun_proto_auth.specs.Wire.Shape.{rank}
+use Rattle.stun_proto_auth.specs.AuthAttributes.Texts.{text_refusal}
+use Rattle.stun_proto_auth.specs.Integrity.Signing.{text_to_sign}
+use Rattle.stun_proto_auth.specs.Wire.Text.{message_text}
+use Rattle.stun_proto_auth.specs.Add.Calls.{Add, Integrity, IsLawful, IsWritten, after_calls, attributes_of}
+use Rattle.stun_proto_auth.specs.Wire.MessageReading.{IsReadAs}
+use Rattle.stun_proto_auth.proofs.Message.Composed.{calls_read, calls_validate}
 use Rattle.stun_proto_auth.specs.declared.feature.Feature.{Feature}
 use Rattle.stun_proto_auth.specs.Addition.{Addition, PartOf, addition_refusal, attr_of_part, calls_of, calls_of_parts, calls_of_signer, one_refusal, parts_refusal, signer_refusal}
 use Rattle.stun_proto_auth.specs.AdditionStages.{IsMade}

@@ -2,11 +2,11 @@
 use Rattle.std.proofs.Common.{◌≡◌, ℕ, List, Option, Some, None, refl, sym, ap, ◌∙◌, subst, inl, inr}
 use Rattle.std.specs.Option.{option_or}
 use Rattle.std.specs.Prelude.{Result, Ok, Err, MatchResult}
-use Rattle.stun_types_wire.specs.declared.algorithm.IntegrityAlgorithm.{IntegrityAlgorithm}
-use Rattle.stun_types_wire.specs.declared.class.MessageClass.{MessageClass}
-use Rattle.stun_types_wire.specs.declared.class.MessageClass.TheVariants.{Request, Indication, Success, Error}
-use Rattle.stun_types_integrity.specs.Credentials.{Key, NameAndPassword}
-use Rattle.stun_types_message.proofs.Validating.{validates_last}
+use Rattle.stun_proto_auth.specs.Wire.declared.algorithm.IntegrityAlgorithm.{IntegrityAlgorithm}
+use Rattle.stun_proto_auth.specs.Wire.declared.class.MessageClass.{MessageClass}
+use Rattle.stun_proto_auth.specs.Wire.declared.class.MessageClass.TheVariants.{Request, Indication, Success, Error}
+use Rattle.stun_proto_auth.specs.Integrity.Credentials.{Key, NameAndPassword}
+use Rattle.stun_proto_auth.proofs.Message.Validating.{validates_last}
 use Rattle.stun_proto_client.specs.Challenges.{challenge_visible}
 use Rattle.stun_proto_client.specs.Client.{Challenge, Client, Standing, standing_by, standing_key, standing_of}
 use Rattle.stun_proto_client.specs.ClientSigning.{addition_by, addition_for}

@@ -1,11 +1,11 @@
 -- Which messages validate under a key.
 use Rattle.std.proofs.Common.{◌≡◌, ◌≢◌, ℕ, List, Some, None}
-use Rattle.stun_types_wire.specs.declared.algorithm.IntegrityAlgorithm.{IntegrityAlgorithm}
-use Rattle.stun_types_integrity.specs.Credentials.{Key}
-use Rattle.stun_types_wire.specs.Grammar.{visible}
-use Rattle.stun_types_integrity.specs.Integrity.{IsSigned}
-use Rattle.stun_types_message.specs.MessageValidation.{last_algorithm}
-use Rattle.stun_types_message.proofs.Validating.{none_validates, signed_validates, validates_last}
+use Rattle.stun_proto_auth.specs.Wire.declared.algorithm.IntegrityAlgorithm.{IntegrityAlgorithm}
+use Rattle.stun_proto_auth.specs.Integrity.Credentials.{Key}
+use Rattle.stun_proto_auth.specs.Wire.Grammar.{visible}
+use Rattle.stun_proto_auth.specs.Integrity.Integrity.{IsSigned}
+use Rattle.stun_proto_auth.specs.Message.MessageValidation.{last_algorithm}
+use Rattle.stun_proto_auth.proofs.Message.Validating.{none_validates, signed_validates, validates_last}
 use Rattle.stun_proto_client.specs.Digests.{IsRight, IsWrong}
 
 -- A message without an integrity attribute, or whose last one is of another algorithm, does not validate.

@@ -1,10 +1,10 @@
 -- What a client reads from a server's challenge (RFC 8489, sections 9.2.4 and 9.2.5).
 use Rattle.std.specs.Prelude.{ℕ, ◌==◌, Bool, not, ◌&&◌, ◌||◌, true, false, if◌then◌else◌, List, Option, Some, None, is_none}
-use Rattle.stun_types_wire.specs.Attributes.{kind_at}
-use Rattle.stun_types_wire.specs.Types.{class_of}
-use Rattle.stun_types_wire.specs.declared.class.MessageClass.{MessageClass}
-use Rattle.stun_types_wire.specs.declared.class.MessageClass.TheVariants.{Request, Indication, Success, Error}
-use Rattle.stun_types_wire.specs.Registry.{stale_nonce_code, unauthorized_code}
+use Rattle.stun_proto_auth.specs.Wire.Attributes.{kind_at}
+use Rattle.stun_proto_auth.specs.Wire.Types.{class_of}
+use Rattle.stun_proto_auth.specs.Wire.declared.class.MessageClass.{MessageClass}
+use Rattle.stun_proto_auth.specs.Wire.declared.class.MessageClass.TheVariants.{Request, Indication, Success, Error}
+use Rattle.stun_proto_auth.specs.Wire.Registry.{stale_nonce_code, unauthorized_code}
 use Rattle.stun_proto_auth.specs.Nonce.{features_in}
 use Rattle.stun_proto_auth.specs.declared.feature.Feature.{Feature}
 use Rattle.stun_proto_auth.specs.declared.feature.Feature.TheVariants.{Auto, Required, Disabled}

@@ -1,9 +1,9 @@
 -- The choice of an algorithm that client and server have in common (RFC 8489, sections 9.2.5 and 14.11).
 use Rattle.std.specs.Prelude.{◌≡◌, ℕ, Bool, ◌&&◌, true, false, List, Option, Some, None}
 use Rattle.std.specs.List.{list_any}
-use Rattle.stun_types_wire.specs.declared.algorithm.IntegrityAlgorithm.{IntegrityAlgorithm}
-use Rattle.stun_types_wire.specs.declared.algorithm.IntegrityAlgorithm.TheVariants.{Sha1}
-use Rattle.stun_types_wire.specs.Strength.{is_stronger}
+use Rattle.stun_proto_auth.specs.Wire.declared.algorithm.IntegrityAlgorithm.{IntegrityAlgorithm}
+use Rattle.stun_proto_auth.specs.Wire.declared.algorithm.IntegrityAlgorithm.TheVariants.{Sha1}
+use Rattle.stun_proto_auth.specs.Wire.Strength.{is_stronger}
 use Rattle.stun_proto_auth.specs.SupportedAlgorithms.{is_same_algorithm}
 use Rattle.stun_proto_auth.specs.Lists.{lists}
 use Rattle.stun_proto_auth.specs.Offers.{offers}

@@ -1,8 +1,8 @@
 -- What contracts see of a client's side of long-term authentication (RFC 8489, section 9.2).
 use Rattle.std.specs.Prelude.{ℕ, Bool, false, List, Option, Some, None}
 use Rattle.std.specs.Option.{option_map, option_or}
-use Rattle.stun_types_wire.specs.declared.algorithm.IntegrityAlgorithm.{IntegrityAlgorithm}
-use Rattle.stun_types_integrity.specs.Credentials.{Key, NameAndPassword, long_term_key}
+use Rattle.stun_proto_auth.specs.Wire.declared.algorithm.IntegrityAlgorithm.{IntegrityAlgorithm}
+use Rattle.stun_proto_auth.specs.Integrity.Credentials.{Key, NameAndPassword, long_term_key}
 use Rattle.stun_proto_auth.specs.declared.feature.Feature.{Feature}
 
 -- A stored challenge: realm, nonce, the PASSWORD-ALGORITHMS value from which the choice was made, and the

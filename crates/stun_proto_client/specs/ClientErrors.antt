@@ -1,6 +1,6 @@
 -- What a validation error reports.
 use Rattle.std.specs.Prelude.{Option, Some, None}
-use Rattle.stun_types_wire.specs.declared.algorithm.IntegrityAlgorithm.{IntegrityAlgorithm}
+use Rattle.stun_proto_auth.specs.Wire.declared.algorithm.IntegrityAlgorithm.{IntegrityAlgorithm}
 use Rattle.stun_proto_client.specs.declared.error.LongTermClientAuthError.{LongTermClientAuthError}
 use Rattle.stun_proto_client.specs.declared.error.LongTermClientAuthError.TheVariants.{Unauthorized, IntegrityFailed, UnsupportedFeature, NoMemory}
 use Rattle.stun_proto_client.specs.declared.error.LongTermClientAuthErrorReason.{LongTermClientAuthErrorReason}

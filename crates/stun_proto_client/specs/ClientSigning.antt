@@ -1,10 +1,10 @@
 -- What a client adds to a message that it sends (RFC 8489, sections 9.2.3 and 9.2.5).
 use Rattle.std.specs.Prelude.{ℕ, Bool, false, if◌then◌else◌, List, [], ◌∷◌, Option, Some, None}
-use Rattle.stun_types_wire.specs.declared.algorithm.IntegrityAlgorithm.{IntegrityAlgorithm}
-use Rattle.stun_types_wire.specs.declared.class.MessageClass.{MessageClass}
-use Rattle.stun_types_wire.specs.declared.class.MessageClass.TheVariants.{Request, Indication, Success, Error}
-use Rattle.stun_types_auth_attributes.specs.Entries.{entry}
-use Rattle.stun_types_auth_attributes.specs.Userhashes.{userhash_of}
+use Rattle.stun_proto_auth.specs.Wire.declared.algorithm.IntegrityAlgorithm.{IntegrityAlgorithm}
+use Rattle.stun_proto_auth.specs.Wire.declared.class.MessageClass.{MessageClass}
+use Rattle.stun_proto_auth.specs.Wire.declared.class.MessageClass.TheVariants.{Request, Indication, Success, Error}
+use Rattle.stun_proto_auth.specs.AuthAttributes.Entries.{entry}
+use Rattle.stun_proto_auth.specs.AuthAttributes.Userhashes.{userhash_of}
 use Rattle.stun_proto_auth.specs.Nonce.{features_in}
 use Rattle.stun_proto_auth.specs.SupportedAlgorithms.{number_by}
 use Rattle.stun_proto_auth.specs.declared.feature.Feature.{Feature}

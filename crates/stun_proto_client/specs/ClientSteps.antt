@@ -1,7 +1,7 @@
 -- What a validation preserves and accepts, as seen by the layers above (RFC 8489, section 9.2).
 use Rattle.std.specs.Prelude.{◌≡◌, ℕ, List, Option, Some, None, Result, Ok, Err, IfSome}
-use Rattle.stun_types_wire.specs.declared.algorithm.IntegrityAlgorithm.{IntegrityAlgorithm}
-use Rattle.stun_types_integrity.specs.Credentials.{Key, NameAndPassword}
+use Rattle.stun_proto_auth.specs.Wire.declared.algorithm.IntegrityAlgorithm.{IntegrityAlgorithm}
+use Rattle.stun_proto_auth.specs.Integrity.Credentials.{Key, NameAndPassword}
 use Rattle.stun_proto_client.specs.Client.{Client, account_key}
 use Rattle.stun_proto_client.specs.Digests.{IsRight}
 use Rattle.stun_proto_client.specs.declared.error.LongTermClientAuthError.{LongTermClientAuthError}

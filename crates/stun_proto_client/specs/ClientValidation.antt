@@ -1,7 +1,7 @@
 -- The result of validating a message at the client, and the client afterwards (RFC 8489, sections 9.2.4 and
 -- 9.2.5). The cases exclude each other, and each states its premises.
 use Rattle.std.specs.Prelude.{◌≡◌, ◌⊎◌, ℕ, true, false, List, Option, Some, None}
-use Rattle.stun_types_wire.specs.declared.algorithm.IntegrityAlgorithm.{IntegrityAlgorithm}
+use Rattle.stun_proto_auth.specs.Wire.declared.algorithm.IntegrityAlgorithm.{IntegrityAlgorithm}
 use Rattle.stun_proto_auth.specs.Claims.{claimed}
 use Rattle.stun_proto_client.specs.Challenges.{ChallengeFields, challenge_visible, is_anonymous_enough, is_listed_enough, list_for_choice}
 use Rattle.stun_proto_client.specs.Choice.{HasNoneCommon, IsStrongest}

@@ -1,7 +1,7 @@
 -- Whether a message was signed by a holder of a key (RFC 8489, sections 14.5 and 14.6).
 use Rattle.std.specs.Prelude.{ℕ, List}
-use Rattle.stun_types_integrity.specs.Credentials.{Key}
-use Rattle.stun_types_integrity.specs.Integrity.{Validates}
+use Rattle.stun_proto_auth.specs.Integrity.Credentials.{Key}
+use Rattle.stun_proto_auth.specs.Integrity.Integrity.{Validates}
 
 -- The last integrity attribute is of the key's algorithm and validates under the key; `text` is the text that
 -- it covers.

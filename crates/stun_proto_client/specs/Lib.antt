@@ -8,5 +8,5 @@ pub mod ClientValidation
 pub mod Digests
 pub mod ShortTerm
 -- Re-exported for the crates that depend on this one.
-pub use Rattle.stun_types_integrity.specs as StunTypesIntegrity
-pub use Rattle.stun_types_message.specs as StunTypesMessage
+pub use Rattle.stun_proto_auth.specs.Integrity as StunTypesIntegrity
+pub use Rattle.stun_proto_auth.specs.Message as StunTypesMessage

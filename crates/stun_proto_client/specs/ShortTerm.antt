@@ -1,7 +1,7 @@
 -- What contracts see of short-term authentication (RFC 8489, section 9.1).
 use Rattle.std.specs.Prelude.{◌≡◌, ℕ, List, [], Option, Some, None}
-use Rattle.stun_types_wire.specs.declared.algorithm.IntegrityAlgorithm.{IntegrityAlgorithm}
-use Rattle.stun_types_integrity.specs.Credentials.{Key, ShortTermSecret, short_term_key}
+use Rattle.stun_proto_auth.specs.Wire.declared.algorithm.IntegrityAlgorithm.{IntegrityAlgorithm}
+use Rattle.stun_proto_auth.specs.Integrity.Credentials.{Key, ShortTermSecret, short_term_key}
 use Rattle.stun_proto_auth.specs.Addition.{Addition, no_addition}
 use Rattle.stun_proto_client.specs.Digests.{IsRight, IsWrong}
 

@@ -3,15 +3,17 @@
 ghost use Rattle.std.specs.Prelude.{◌≡◌, ◌↔◌};
 ghost use Rattle.std.specs.Option.{option_copied};
 ghost use Rattle.stun_proto_auth.specs.Claims.{claimed};
-ghost use Rattle.stun_proto_client.specs.Challenges.{asks_again, challenge_visible, is_anonymous_enough, is_listed_enough, list_by, list_for_choice, reported_of};
+ghost use Rattle.stun_proto_client.specs.Challenges.{asks_again, challenge_visible};
+ghost use Rattle.stun_proto_client.specs.Challenges.{is_anonymous_enough, is_listed_enough};
+ghost use Rattle.stun_proto_client.specs.Challenges.{list_by, list_for_choice, reported_of};
 
+use crate::stun_types_message::parsed::Message;
+use crate::stun_types_wire::class::MessageClass;
+use crate::stun_types_wire::registry::{STALE_NONCE, UNAUTHORIZED};
 use std::marker::Model;
 use stun_proto_auth::claim::{Claim, error_code_of};
 use stun_proto_auth::feature::Feature;
 use stun_proto_auth::nonce::NonceFeatures;
-use stun_types_message::parsed::Message;
-use stun_types_wire::class::MessageClass;
-use stun_types_wire::registry::{STALE_NONCE, UNAUTHORIZED};
 
 /// A challenge as read from a message: its realm, its nonce and, if the nonce announces password
 /// algorithms and the list is present, the PASSWORD-ALGORITHMS value: as `offered` if each algorithm

@@ -3,8 +3,8 @@
 ghost use Rattle.std.specs.Prelude.{◌≡◌};
 ghost use Rattle.stun_proto_client.specs.ClientErrors.{integrity_of, reason_of};
 
-use stun_types_base::memory::NoMemory;
-use stun_types_wire::algorithm::IntegrityAlgorithm;
+use crate::stun_types_base::memory::NoMemory;
+use crate::stun_types_wire::algorithm::IntegrityAlgorithm;
 use thiserror::Error;
 
 /// Why a message is not validated: the kind of error, without its data.

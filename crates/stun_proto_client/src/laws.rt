@@ -3,13 +3,13 @@
 
 ghost use Rattle.std.specs.Prelude.{◌≡◌, ◌<◌, ◌^◌, ◌++◌, ℕ, List, Some, None, Result, MatchResult};
 ghost use Rattle.std.specs.List.{AllByRecursion};
-ghost use Rattle.stun_types_add.specs.Calls.{Add, IsLawful, IsWritten, attributes_of};
-ghost use Rattle.stun_types_write.specs.Drafts.{Draft};
-ghost use Rattle.stun_types_wire.specs.MessageReading.{IsReadAs};
+ghost use Rattle.stun_proto_auth.specs.Add.Calls.{Add, IsLawful, IsWritten, attributes_of};
+ghost use Rattle.stun_proto_auth.specs.Write.Drafts.{Draft};
+ghost use Rattle.stun_proto_auth.specs.Wire.MessageReading.{IsReadAs};
 ghost use Rattle.stun_proto_auth.specs.Addition.{addition_refusal, calls_of};
 ghost use Rattle.stun_proto_auth.specs.AdditionStages.{IsMade};
-ghost use Rattle.stun_types_integrity.specs.Credentials.{Key};
-ghost use Rattle.stun_types_wire.specs.declared.class.MessageClass.{MessageClass as Class};
+ghost use Rattle.stun_proto_auth.specs.Integrity.Credentials.{Key};
+ghost use Rattle.stun_proto_auth.specs.Wire.declared.class.MessageClass.{MessageClass as Class};
 ghost use Rattle.stun_proto_client.specs.declared.error.LongTermClientAuthError.{LongTermClientAuthError};
 ghost use Rattle.stun_proto_client.specs.declared.validation.LongTermClientValidation.{LongTermClientValidation};
 ghost use Rattle.stun_proto_client.specs.Challenges.{challenge_visible};

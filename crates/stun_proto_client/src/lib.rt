@@ -12,3 +12,8 @@ mod stored;
 mod strongest;
 pub mod style;
 pub mod validation;
+
+use stun_proto_auth::{
+    stun_types_add, stun_types_auth_attributes, stun_types_base, stun_types_integrity,
+    stun_types_message, stun_types_wire, stun_types_write,
+};

@@ -3,20 +3,20 @@
 ghost use Rattle.std.specs.Prelude.{◌≡◌, ◌≢◌, [], ◌∷◌, Some, None, false};
 ghost use Rattle.std.specs.List.{IsDistinct};
 ghost use Rattle.std.specs.Option.{option_copied, option_map};
-ghost use Rattle.stun_types_wire.specs.declared.algorithm.IntegrityAlgorithm.TheVariants.{Sha1};
+ghost use Rattle.stun_proto_auth.specs.Wire.declared.algorithm.IntegrityAlgorithm.TheVariants.{Sha1};
 ghost use Rattle.stun_proto_auth.specs.SupportedAlgorithms.{is_same_algorithm, with_algorithm};
 ghost use Rattle.stun_proto_auth.specs.declared.feature.Feature.TheVariants.{Auto};
 ghost use Rattle.stun_proto_client.specs.Client.{Standing, plain_style, standing_key, standing_of};
 
 use crate::stored::{StoredChallenge, key_of_both};
+use crate::stun_types_auth_attributes::software::Software;
+use crate::stun_types_integrity::credentials::LongTermCredentials;
+use crate::stun_types_integrity::key::IntegrityKey;
+use crate::stun_types_wire::algorithm::IntegrityAlgorithm;
 use std::alloc::Global;
 use std::marker::Model;
 use stun_proto_auth::feature::Feature;
 use stun_proto_auth::supported::SupportedIntegrity;
-use stun_types_auth_attributes::software::Software;
-use stun_types_integrity::credentials::LongTermCredentials;
-use stun_types_integrity::key::IntegrityKey;
-use stun_types_wire::algorithm::IntegrityAlgorithm;
 
 /// The client's side of long-term authentication: its credentials, the features that it supports,
 /// and the last challenge that it accepted. Without credentials it behaves as if it had no

@@ -2,38 +2,40 @@
 
 ghost use Rattle.std.specs.Prelude.{◌≡◌, [], ◌∷◌, None, IsSome, IfOk, min};
 ghost use Rattle.std.specs.Result.{IsOk};
-ghost use Rattle.stun_types_base.specs.Refusals.{RefusesFor};
-ghost use Rattle.stun_types_wire.specs.RawBytes.{greatest_len};
-ghost use Rattle.stun_types_wire.specs.Attributes.{kind_at};
-ghost use Rattle.stun_types_wire.specs.Types.{class_of};
-ghost use Rattle.stun_types_wire.specs.declared.class.MessageClass.TheVariants.{Request};
-ghost use Rattle.stun_types_write.specs.Adding.{IsStarted};
-ghost use Rattle.stun_types_write.specs.Outcomes.{TakesNoMemory};
-ghost use Rattle.stun_types_auth_attributes.specs.Entries.{entry};
+ghost use Rattle.stun_proto_auth.specs.Base.Refusals.{RefusesFor};
+ghost use Rattle.stun_proto_auth.specs.Wire.RawBytes.{greatest_len};
+ghost use Rattle.stun_proto_auth.specs.Wire.Attributes.{kind_at};
+ghost use Rattle.stun_proto_auth.specs.Wire.Types.{class_of};
+ghost use Rattle.stun_proto_auth.specs.Wire.declared.class.MessageClass.TheVariants.{Request};
+ghost use Rattle.stun_proto_auth.specs.Write.Adding.{IsStarted};
+ghost use Rattle.stun_proto_auth.specs.Write.Outcomes.{TakesNoMemory};
+ghost use Rattle.stun_proto_auth.specs.AuthAttributes.Entries.{entry};
 ghost use Rattle.stun_proto_auth.specs.SupportedAlgorithms.{number_by};
-ghost use Rattle.stun_proto_auth.specs.Addition.{addition_refusal, algorithm_of, algorithms_of, nonce_of, realm_of};
+ghost use Rattle.stun_proto_auth.specs.Addition.{addition_refusal, algorithm_of, algorithms_of};
+ghost use Rattle.stun_proto_auth.specs.Addition.{nonce_of, realm_of};
 ghost use Rattle.stun_proto_auth.specs.AdditionStages.{IsMade};
 ghost use Rattle.stun_proto_auth.specs.Sizes.{size_of};
 ghost use Rattle.stun_proto_client.specs.Client.{standing_key};
-ghost use Rattle.stun_proto_client.specs.ClientSigning.{addition_for, hides_name, name_part, standing_addition};
+ghost use Rattle.stun_proto_client.specs.ClientSigning.{addition_for, hides_name, name_part};
+ghost use Rattle.stun_proto_client.specs.ClientSigning.{standing_addition};
 
 use crate::long_term::LongTermClientAuth;
 use crate::stored::StoredChallenge;
+use crate::stun_types_add::ext::MessageWriteExt;
+use crate::stun_types_auth_attributes::userhash::Userhash;
+use crate::stun_types_base::memory::NoMemory;
+use crate::stun_types_integrity::credentials::LongTermCredentials;
+use crate::stun_types_integrity::key::IntegrityKey;
+use crate::stun_types_wire::algorithm::IntegrityAlgorithm;
+use crate::stun_types_wire::class::MessageClass;
+use crate::stun_types_wire::error::StunWriteError;
+use crate::stun_types_write::writer::MessageWrite;
 use stun_proto_auth::feature::Feature;
 use stun_proto_auth::nonce::NonceFeatures;
 use stun_proto_auth::number::number_by;
 use stun_proto_auth::part::Part;
 use stun_proto_auth::signing::sign;
 use stun_proto_auth::size::signature_bytes;
-use stun_types_add::ext::MessageWriteExt;
-use stun_types_auth_attributes::userhash::Userhash;
-use stun_types_base::memory::NoMemory;
-use stun_types_integrity::credentials::LongTermCredentials;
-use stun_types_integrity::key::IntegrityKey;
-use stun_types_wire::algorithm::IntegrityAlgorithm;
-use stun_types_wire::class::MessageClass;
-use stun_types_wire::error::StunWriteError;
-use stun_types_write::writer::MessageWrite;
 
 impl LongTermClientAuth {
     /// Signs a message and returns the writer (RFC 8489, sections 9.2.3 and 9.2.5). If credentials

@@ -2,29 +2,30 @@
 
 ghost use Rattle.std.specs.Prelude.{◌≡◌, Some, None, IfOk, IsSome, MatchResult};
 ghost use Rattle.std.specs.Result.{IsOk};
-ghost use Rattle.stun_types_base.specs.Refusals.{RefusesFor};
-ghost use Rattle.stun_types_write.specs.Adding.{IsStarted};
-ghost use Rattle.stun_types_write.specs.Outcomes.{TakesNoMemory};
+ghost use Rattle.stun_proto_auth.specs.Base.Refusals.{RefusesFor};
+ghost use Rattle.stun_proto_auth.specs.Write.Adding.{IsStarted};
+ghost use Rattle.stun_proto_auth.specs.Write.Outcomes.{TakesNoMemory};
 ghost use Rattle.stun_proto_auth.specs.Addition.{addition_refusal};
 ghost use Rattle.stun_proto_auth.specs.AdditionStages.{IsMade};
 ghost use Rattle.stun_proto_auth.specs.Sizes.{size_of};
 ghost use Rattle.std.specs.Bool.{MatchBool};
 ghost use Rattle.stun_proto_client.specs.Digests.{IsRight, IsWrong};
 ghost use Rattle.std.specs.Option.{option_map};
-ghost use Rattle.stun_types_wire.specs.declared.error.ValidateError.TheVariants as invalid;
-ghost use Rattle.stun_proto_client.specs.ShortTerm.{IsShortAnswer, IsShortRefused, short_addition, short_key};
+ghost use Rattle.stun_proto_auth.specs.Wire.declared.error.ValidateError.TheVariants as invalid;
+ghost use Rattle.stun_proto_client.specs.ShortTerm.{IsShortAnswer, IsShortRefused, short_addition};
+ghost use Rattle.stun_proto_client.specs.ShortTerm.{short_key};
 
+use crate::stun_types_base::memory::NoMemory;
+use crate::stun_types_integrity::algorithm::hmac_length;
+use crate::stun_types_integrity::credentials::{ShortTermCredentials, ShortTermKeyCredentials};
+use crate::stun_types_integrity::key::IntegrityKey;
+use crate::stun_types_message::parsed::Message;
+use crate::stun_types_wire::algorithm::IntegrityAlgorithm;
+use crate::stun_types_wire::error::{StunWriteError, ValidateError};
+use crate::stun_types_write::writer::MessageWrite;
 use crate::validation::is_right;
 use std::marker::Model;
 use stun_proto_auth::signing::sign;
-use stun_types_base::memory::NoMemory;
-use stun_types_integrity::algorithm::hmac_length;
-use stun_types_integrity::credentials::{ShortTermCredentials, ShortTermKeyCredentials};
-use stun_types_integrity::key::IntegrityKey;
-use stun_types_message::parsed::Message;
-use stun_types_wire::algorithm::IntegrityAlgorithm;
-use stun_types_wire::error::{StunWriteError, ValidateError};
-use stun_types_write::writer::MessageWrite;
 
 /// Authentication with a password that both sides know and that is valid for one session. It stores
 /// the initial HMAC states under its key. Contracts see the record `ShortTerm` of

@@ -6,12 +6,12 @@ ghost use Rattle.stun_proto_client.specs.Challenges.{list_for_choice};
 ghost use Rattle.stun_proto_client.specs.Client.{key_by, standing_key};
 
 use crate::challenge::ChallengeFields;
+use crate::stun_types_base::memory::NoMemory;
+use crate::stun_types_integrity::credentials::LongTermCredentials;
+use crate::stun_types_integrity::key::IntegrityKey;
+use crate::stun_types_wire::algorithm::IntegrityAlgorithm;
 use std::alloc::Global;
 use std::marker::Model;
-use stun_types_base::memory::NoMemory;
-use stun_types_integrity::credentials::LongTermCredentials;
-use stun_types_integrity::key::IntegrityKey;
-use stun_types_wire::algorithm::IntegrityAlgorithm;
 
 /// A stored challenge: its realm and nonce, the chosen algorithm and, if the choice was made from a
 /// list, the PASSWORD-ALGORITHMS value. Contracts see the record `Challenge`.

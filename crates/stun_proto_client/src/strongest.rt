@@ -4,10 +4,10 @@ ghost use Rattle.std.specs.Prelude.{◌≡◌, MatchOption};
 ghost use Rattle.std.specs.Option.{option_copied};
 ghost use Rattle.stun_proto_client.specs.Choice.{HasNoneCommon, IsStrongest, is_common, takes};
 
+use crate::stun_types_wire::algorithm::IntegrityAlgorithm;
 use stun_proto_auth::algorithms::offers;
 use stun_proto_auth::list::lists;
 use stun_proto_auth::supported::SupportedIntegrity;
-use stun_types_wire::algorithm::IntegrityAlgorithm;
 
 /// Returns the strongest algorithm that the client supports and the server accepts, or `None` if
 /// they have none in common. The server accepts the algorithms that its PASSWORD-ALGORITHMS lists,

@@ -5,7 +5,7 @@ ghost use Rattle.std.specs.Prelude.{◌≡◌};
 ghost use Rattle.std.specs.Option.{option_copied};
 
 use crate::long_term::LongTermClientAuth;
-use stun_types_auth_attributes::software::Software;
+use crate::stun_types_auth_attributes::software::Software;
 
 impl LongTermClientAuth {
     /// Returns the SOFTWARE of the client's requests, if one is set.

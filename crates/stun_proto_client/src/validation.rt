@@ -5,7 +5,8 @@ ghost use Rattle.stun_proto_auth.specs.Claims.{claimed};
 ghost use Rattle.std.specs.Bool.{MatchBool};
 ghost use Rattle.std.specs.Option.{option_or};
 ghost use Rattle.stun_proto_client.specs.Challenges.{challenge_visible};
-ghost use Rattle.stun_proto_client.specs.ClientValidation.{IsAnswerable, IsTaken, IsRejected, IsUnanswerable};
+ghost use Rattle.stun_proto_client.specs.ClientValidation.{IsAnswerable, IsTaken, IsRejected};
+ghost use Rattle.stun_proto_client.specs.ClientValidation.{IsUnanswerable};
 ghost use Rattle.stun_proto_client.specs.Digests.{IsRight, IsWrong};
 
 use crate::challenge::{ChallengeFields, is_anonymous_enough, is_listed_enough};
@@ -13,11 +14,11 @@ use crate::error::LongTermClientAuthError;
 use crate::long_term::LongTermClientAuth;
 use crate::stored::{StoredChallenge, key_of_both};
 use crate::strongest::strongest;
+use crate::stun_types_integrity::credentials::LongTermCredentials;
+use crate::stun_types_integrity::key::IntegrityKey;
+use crate::stun_types_message::parsed::Message;
+use crate::stun_types_wire::algorithm::IntegrityAlgorithm;
 use stun_proto_auth::claim::Claim;
-use stun_types_integrity::credentials::LongTermCredentials;
-use stun_types_integrity::key::IntegrityKey;
-use stun_types_message::parsed::Message;
-use stun_types_wire::algorithm::IntegrityAlgorithm;
 
 /// The result for a message that a client accepts.
 #[derive(Clone, Copy, Debug, PartialEq, Eq)]

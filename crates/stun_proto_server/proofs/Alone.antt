@@ -3,7 +3,7 @@ use Rattle.std.proofs.Common.{◌≡◌, ℕ, List, [], ◌∷◌, Bool, true, f
 use Rattle.std.specs.FinMap as finite
 use Rattle.std.specs.declared.net.socket_addr.SocketAddr.{SocketAddr}
 use Rattle.rand_core.specs.Stream.{Stream}
-use Rattle.stun_proto_auth.specs.Claims.{Claimed, claimed}
+use Rattle.stun_proto_verify.specs.Auth.Claims.{Claimed, claimed}
 use Rattle.stun_proto_verify.specs.Judgement.{is_response}
 use Rattle.stun_proto_verify.specs.Knowledge.{Outcome}
 use Rattle.stun_proto_server.specs.declared.validation.LongTermServerValidation.TheVariants.{Validated}

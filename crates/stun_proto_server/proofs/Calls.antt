@@ -4,17 +4,17 @@ use Rattle.std.specs.Prelude.{if◌then◌else◌}
 use Rattle.std.specs.FinMap as map
 use Rattle.std.specs.declared.net.socket_addr.SocketAddr.{SocketAddr}
 use Rattle.rand_core.specs.Stream.{Stream}
-use Rattle.stun_proto_auth.specs.Addition.{Addition}
-use Rattle.stun_types_wire.specs.Attributes.{kind_at}
-use Rattle.stun_types_write.specs.Drafts.{Draft}
-use Rattle.stun_types_base.specs.GeneratorWords.{stream_after}
-use Rattle.stun_types_wire.specs.declared.algorithm.IntegrityAlgorithm.{IntegrityAlgorithm}
-use Rattle.stun_types_base.specs.SocketAddrs.{socket_addr_cmp, socket_addr_cmp-IsAntisymmetric}
-use Rattle.stun_types_wire.specs.Types.{class_of}
+use Rattle.stun_proto_verify.specs.Auth.Addition.{Addition}
+use Rattle.stun_proto_verify.specs.Wire.Attributes.{kind_at}
+use Rattle.stun_proto_verify.specs.Write.Drafts.{Draft}
+use Rattle.stun_proto_verify.specs.Base.GeneratorWords.{stream_after}
+use Rattle.stun_proto_verify.specs.Wire.declared.algorithm.IntegrityAlgorithm.{IntegrityAlgorithm}
+use Rattle.stun_proto_verify.specs.Base.SocketAddrs.{socket_addr_cmp, socket_addr_cmp-IsAntisymmetric}
+use Rattle.stun_proto_verify.specs.Wire.Types.{class_of}
 use Rattle.stun_proto_verify.specs.Judgement.{is_response}
 use Rattle.stun_proto_verify.specs.Knowledge.{Outcome}
-use Rattle.stun_proto_auth.specs.SupportedAlgorithms.{with_algorithm}
-use Rattle.stun_proto_auth.specs.declared.feature.Feature.{Feature}
+use Rattle.stun_proto_verify.specs.Auth.SupportedAlgorithms.{with_algorithm}
+use Rattle.stun_proto_verify.specs.Auth.declared.feature.Feature.{Feature}
 use Rattle.stun_proto_server.specs.declared.validation.LongTermServerValidation.TheVariants.{Validated}
 use Rattle.stun_proto_server.specs.AuthCalls.{AuthAnswer, AuthCall, IsCalled, IsJudged, IsSignedBy}
 use Rattle.stun_proto_server.specs.AuthCalls as call

@@ -5,14 +5,14 @@ use Rattle.std.specs.Prelude.{if◌then◌else◌, IsSomeAnd}
 use Rattle.std.specs.Option.{option_or}
 use Rattle.std.specs.declared.net.socket_addr.SocketAddr.{SocketAddr}
 use Rattle.rand_core.specs.Stream.{Stream}
-use Rattle.stun_proto_auth.specs.Addition.{Addition}
-use Rattle.stun_proto_auth.specs.AdditionStages.{IsMade}
-use Rattle.stun_types_wire.specs.Attributes.{kind_at}
-use Rattle.stun_types_write.specs.Drafts.{Draft}
-use Rattle.stun_types_wire.specs.declared.algorithm.IntegrityAlgorithm.{IntegrityAlgorithm}
-use Rattle.stun_types_wire.specs.Types.{class_of}
-use Rattle.stun_types_wire.specs.declared.error.StunWriteError.{StunWriteError}
-use Rattle.stun_proto_auth.specs.Claims.{Claimed, claimed}
+use Rattle.stun_proto_verify.specs.Auth.Addition.{Addition}
+use Rattle.stun_proto_verify.specs.Auth.AdditionStages.{IsMade}
+use Rattle.stun_proto_verify.specs.Wire.Attributes.{kind_at}
+use Rattle.stun_proto_verify.specs.Write.Drafts.{Draft}
+use Rattle.stun_proto_verify.specs.Wire.declared.algorithm.IntegrityAlgorithm.{IntegrityAlgorithm}
+use Rattle.stun_proto_verify.specs.Wire.Types.{class_of}
+use Rattle.stun_proto_verify.specs.Wire.declared.error.StunWriteError.{StunWriteError}
+use Rattle.stun_proto_verify.specs.Auth.Claims.{Claimed, claimed}
 use Rattle.stun_proto_verify.specs.Judgement.{HasWrongDigest, IsRefused, claim_refusal, is_response, judgement}
 use Rattle.stun_proto_verify.specs.Knowledge.{Knowledge, Named}
 use Rattle.stun_proto_verify.specs.declared.error.LongTermServerAuthError.{LongTermServerAuthError}

@@ -5,8 +5,8 @@ use Rattle.std.specs.Cmp.Lexicographic.{nat_list_eq_equiv, pointwise, same_text,
 use Rattle.std.specs.FinMap as map
 use Rattle.std.specs.List.{list_any}
 use Rattle.std.specs.Ordering.{eq_by_cmp, nat_cmp}
-use Rattle.stun_types_auth_attributes.specs.Userhashes.{userhash_of}
-use Rattle.stun_proto_auth.specs.Claims.{Claimed}
+use Rattle.stun_proto_verify.specs.AuthAttributes.Userhashes.{userhash_of}
+use Rattle.stun_proto_verify.specs.Auth.Claims.{Claimed}
 use Rattle.stun_proto_verify.specs.Knowledge.{Named}
 use Rattle.stun_proto_server.specs.Server.{Server}
 use Rattle.stun_proto_server.specs.Users.{IsClaimedName, IsFound, IsFoundBy, IsUser}

@@ -7,13 +7,13 @@ use Rattle.std.specs.Ordering.{is_eq}
 use Rattle.std.specs.Option.{option_and_then, option_map}
 use Rattle.std.specs.declared.net.socket_addr.SocketAddr.{SocketAddr}
 use Rattle.rand_core.specs.Stream.{Stream}
-use Rattle.stun_types_wire.specs.declared.algorithm.IntegrityAlgorithm.{IntegrityAlgorithm}
-use Rattle.stun_types_base.specs.GeneratorWords.{words_of}
-use Rattle.stun_types_base.specs.SocketAddrs.{socket_addr_cmp, socket_addr_cmp_total}
-use Rattle.stun_proto_auth.specs.Nonce.{features_offered, nonce_text}
-use Rattle.stun_proto_auth.specs.SupportedAlgorithms.{with_algorithm}
-use Rattle.stun_proto_auth.specs.declared.nonce.TheConstants.{NONCE_WORDS}
-use Rattle.stun_proto_auth.specs.Claims.{Claimed, claimed}
+use Rattle.stun_proto_verify.specs.Wire.declared.algorithm.IntegrityAlgorithm.{IntegrityAlgorithm}
+use Rattle.stun_proto_verify.specs.Base.GeneratorWords.{words_of}
+use Rattle.stun_proto_verify.specs.Base.SocketAddrs.{socket_addr_cmp, socket_addr_cmp_total}
+use Rattle.stun_proto_verify.specs.Auth.Nonce.{features_offered, nonce_text}
+use Rattle.stun_proto_verify.specs.Auth.SupportedAlgorithms.{with_algorithm}
+use Rattle.stun_proto_verify.specs.Auth.declared.nonce.TheConstants.{NONCE_WORDS}
+use Rattle.stun_proto_verify.specs.Auth.Claims.{Claimed, claimed}
 use Rattle.stun_proto_verify.specs.declared.error.LongTermServerAuthError.{LongTermServerAuthError}
 use Rattle.stun_proto_verify.specs.Knowledge.{Knowledge, Named, Outcome}
 use Rattle.stun_proto_verify.specs.Judgement.{IsRefused, ServerAccepts}

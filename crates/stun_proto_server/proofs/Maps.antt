@@ -17,8 +17,8 @@ use Rattle.stun_proto_server.specs.Server.{Client, Clients, Server, room_for, se
 use Rattle.stun_proto_server.specs.View.{client_of, clients_of, server_of}
 use Rattle.stun_proto_server.specs.declared.long_term.ClientRecord.{ClientRecord}
 use Rattle.stun_proto_server.specs.declared.long_term.LongTermServerAuth.TheInside.{Inside}
-use Rattle.stun_types_base.proofs.MapView.{get-finite_map, insert-finite_map, remove-finite_map}
-use Rattle.stun_types_base.specs.SocketAddrs.{socket_addr_cmp, socket_addr_cmp_total, socket_addr_cmp-IsAntisymmetric}
+use Rattle.stun_proto_verify.proofs.Base.MapView.{get-finite_map, insert-finite_map, remove-finite_map}
+use Rattle.stun_proto_verify.specs.Base.SocketAddrs.{socket_addr_cmp, socket_addr_cmp_total, socket_addr_cmp-IsAntisymmetric}
 use Rattle.stun_proto_server.specs.declared.users.KeyedUser.{KeyedUser}
 use Rattle.stun_proto_server.specs.declared.users.Users.{Users}
 use Rattle.stun_proto_server.proofs.Texts.{same_name, users_updates}

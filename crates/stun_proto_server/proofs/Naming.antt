@@ -5,7 +5,7 @@ use Rattle.std.specs.BTreeMap as tree
 use Rattle.std.specs.FinMap as map
 use Rattle.std.specs.Option.{option_map}
 use Rattle.std.specs.String.{string_bytes}
-use Rattle.stun_types_auth_attributes.specs.Userhashes.{userhash_of}
+use Rattle.stun_proto_verify.specs.AuthAttributes.Userhashes.{userhash_of}
 use Rattle.stun_proto_verify.specs.Knowledge.{Named}
 use Rattle.stun_proto_server.specs.StoredKeys.{AllHaveKeys, HasKeys, IsHashed, IsKeyed, NoneHashed}
 use Rattle.stun_proto_server.specs.Server.{Server}

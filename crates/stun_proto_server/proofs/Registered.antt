@@ -12,7 +12,7 @@ use Rattle.std.specs.Ordering.{is_eq, nat_cmp}
 use Rattle.std.specs.String.{string_bytes, string_cmp}
 use Rattle.std.specs.declared.alloc.Global.{Global}
 use Rattle.std.specs.declared.string.String.{String}
-use Rattle.stun_types_wire.specs.Registry.{userhash_length}
+use Rattle.stun_proto_verify.specs.Wire.Registry.{userhash_length}
 use Rattle.stun_proto_server.specs.StoredKeys.{AllRegistered, IsHashed, IsRegistered, NoneHashed, UpdatesUser, UserMap, name_under}
 use Rattle.stun_proto_server.specs.View.{pair_of}
 use Rattle.stun_proto_server.specs.declared.users.KeyedUser.{KeyedUser}

@@ -3,7 +3,7 @@ use Rattle.std.proofs.Common.{◌≡◌, false, true, Option, Some, None, refl}
 use Rattle.std.specs.Prelude.{IsSome}
 use Rattle.std.specs.Option.{option_and_then}
 use Rattle.std.specs.declared.net.socket_addr.SocketAddr.{SocketAddr}
-use Rattle.stun_types_wire.specs.declared.class.MessageClass.TheVariants.{Success, Error}
+use Rattle.stun_proto_verify.specs.Wire.declared.class.MessageClass.TheVariants.{Success, Error}
 use Rattle.stun_proto_server.specs.Server.{Server}
 use Rattle.stun_proto_server.specs.ServerSigning.{Party, Signer, addition, addition_by, addition_for, party_at, size_for}
 

@@ -3,7 +3,7 @@ use Rattle.std.proofs.Common.{◌≡◌, ◌≢◌, ℕ, ◌/◌, nat_lt, Bool, 
 use Rattle.std.specs.FinMap as map
 use Rattle.std.specs.declared.net.socket_addr.SocketAddr.{SocketAddr}
 use Rattle.rand_core.specs.Stream.{Stream}
-use Rattle.stun_types_base.specs.SocketAddrs.{socket_addr_cmp}
+use Rattle.stun_proto_verify.specs.Base.SocketAddrs.{socket_addr_cmp}
 use Rattle.stun_proto_verify.specs.Knowledge.{Outcome}
 use Rattle.stun_proto_server.specs.Server.{Client, Clients, Server, has_standing_nonce, is_full, is_validated, new_client, refreshed, room_for, staying_by, validated_clients, with_new_nonce, with_outcome}
 use Rattle.stun_proto_server.proofs.Apart.{get-insert-other, outcome_others}

@@ -4,12 +4,12 @@ use Rattle.std.specs.Prelude.{Result, Ok, Err, IfOk, IfErr, MatchResult, MatchOp
 use Rattle.std.specs.Option.{option_or}
 use Rattle.std.specs.declared.net.socket_addr.SocketAddr.{SocketAddr}
 use Rattle.rand_core.specs.Stream.{Stream}
-use Rattle.stun_types_base.proofs.WordLemmas.{stream_after-zero}
-use Rattle.stun_types_base.specs.GeneratorWords.{stream_after}
-use Rattle.stun_types_wire.specs.declared.algorithm.IntegrityAlgorithm.{IntegrityAlgorithm}
+use Rattle.stun_proto_verify.proofs.Base.WordLemmas.{stream_after-zero}
+use Rattle.stun_proto_verify.specs.Base.GeneratorWords.{stream_after}
+use Rattle.stun_proto_verify.specs.Wire.declared.algorithm.IntegrityAlgorithm.{IntegrityAlgorithm}
 use Rattle.stun_proto_verify.specs.declared.error.LongTermServerAuthError.{LongTermServerAuthError}
 use Rattle.stun_proto_verify.specs.declared.error.LongTermServerAuthError.TheVariants.{Unauthorized, IntegrityFailed, BadRequest, StaleNonce, NoMemory}
-use Rattle.stun_proto_auth.specs.Claims.{Claimed, claimed}
+use Rattle.stun_proto_verify.specs.Auth.Claims.{Claimed, claimed}
 use Rattle.stun_proto_verify.specs.Knowledge.{Knowledge}
 use Rattle.stun_proto_verify.specs.Judgement.{HasWrongDigest, IsRefused, is_response, claim_refusal, judgement}
 use Rattle.stun_proto_server.proofs.Named.{never_both}

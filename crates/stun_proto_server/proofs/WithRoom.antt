@@ -14,13 +14,13 @@ use Rattle.std.specs.declared.net.socket_addr.SocketAddr.{SocketAddr}
 use Rattle.std.proofs.lemmas.Map.{lookup-none}
 use Rattle.std.proofs.lemmas.Map.Entries.{none_past_head, option_filter}
 use Rattle.std.proofs.lemmas.Map.Keys.{IsDistinct-from_sorted, IsDistinct-tail}
-use Rattle.stun_types_base.specs.SocketAddrs.{socket_addr_cmp, socket_addr_cmp_total, socket_addr_cmp-IsAntisymmetric}
+use Rattle.stun_proto_verify.specs.Base.SocketAddrs.{socket_addr_cmp, socket_addr_cmp_total, socket_addr_cmp-IsAntisymmetric}
 use Rattle.stun_proto_server.specs.Rooms.{beside, room_beside, room_by, room_due}
 use Rattle.stun_proto_server.specs.Server.{Client, Clients, is_full, is_validated, room_for, staying, staying_by, validated_clients}
 use Rattle.stun_proto_server.specs.View.{client_of, clients_of, stays}
 use Rattle.stun_proto_server.specs.declared.long_term.ClientRecord.{ClientRecord}
 use Rattle.stun_proto_server.proofs.Filters.{lookup-filter_pairs}
-use Rattle.stun_types_base.proofs.MapView.{get-finite_map, insert-finite_map}
+use Rattle.stun_proto_verify.proofs.Base.MapView.{get-finite_map, insert-finite_map}
 
 -- ---- what is retained
 

@@ -4,21 +4,21 @@ use Rattle.std.specs.Prelude.{◌≡◌, ◌≢◌, ◌≤◌, ◌*◌, ℕ, Boo
 use Rattle.std.specs.FinMap as map
 use Rattle.std.specs.declared.net.socket_addr.SocketAddr.{SocketAddr}
 use Rattle.rand_core.specs.Stream.{Stream}
-use Rattle.stun_proto_auth.specs.Addition.{Addition}
-use Rattle.stun_proto_auth.specs.AdditionStages.{IsMade}
-use Rattle.stun_types_write.specs.Adding.{IsStarted}
-use Rattle.stun_types_wire.specs.Attributes.{kind_at}
-use Rattle.stun_types_write.specs.Drafts.{Draft}
-use Rattle.stun_types_base.specs.GeneratorWords.{stream_after}
-use Rattle.stun_types_wire.specs.declared.algorithm.IntegrityAlgorithm.{IntegrityAlgorithm}
-use Rattle.stun_types_wire.specs.Types.{class_of}
-use Rattle.stun_types_wire.specs.declared.error.StunWriteError.{StunWriteError}
-use Rattle.stun_types_wire.specs.declared.error.StunWriteError.TheVariants as write
+use Rattle.stun_proto_verify.specs.Auth.Addition.{Addition}
+use Rattle.stun_proto_verify.specs.Auth.AdditionStages.{IsMade}
+use Rattle.stun_proto_verify.specs.Write.Adding.{IsStarted}
+use Rattle.stun_proto_verify.specs.Wire.Attributes.{kind_at}
+use Rattle.stun_proto_verify.specs.Write.Drafts.{Draft}
+use Rattle.stun_proto_verify.specs.Base.GeneratorWords.{stream_after}
+use Rattle.stun_proto_verify.specs.Wire.declared.algorithm.IntegrityAlgorithm.{IntegrityAlgorithm}
+use Rattle.stun_proto_verify.specs.Wire.Types.{class_of}
+use Rattle.stun_proto_verify.specs.Wire.declared.error.StunWriteError.{StunWriteError}
+use Rattle.stun_proto_verify.specs.Wire.declared.error.StunWriteError.TheVariants as write
 use Rattle.stun_proto_verify.specs.Knowledge.{Outcome}
-use Rattle.stun_proto_auth.specs.SupportedAlgorithms.{with_algorithm}
+use Rattle.stun_proto_verify.specs.Auth.SupportedAlgorithms.{with_algorithm}
 use Rattle.stun_proto_verify.specs.declared.error.LongTermServerAuthError.{LongTermServerAuthError}
 use Rattle.stun_proto_verify.specs.declared.error.LongTermServerAuthError.TheVariants as refusal
-use Rattle.stun_proto_auth.specs.declared.feature.Feature.{Feature}
+use Rattle.stun_proto_verify.specs.Auth.declared.feature.Feature.{Feature}
 use Rattle.stun_proto_server.specs.declared.long_term.TheConstants.{MIN_NONCE_EXPIRY}
 use Rattle.stun_proto_server.specs.declared.validation.LongTermServerValidation.{LongTermServerValidation}
 use Rattle.stun_proto_server.specs.Server.{Server, nonce_at, outcome_at, refreshed, words_generated}

@@ -4,8 +4,8 @@ use Rattle.std.specs.FinMap as finite
 use Rattle.std.specs.List.{AllByRecursion}
 use Rattle.std.specs.Ordering.{eq_by_cmp}
 use Rattle.std.specs.declared.net.socket_addr.SocketAddr.{SocketAddr}
-use Rattle.stun_types_base.specs.SocketAddrs.{socket_addr_cmp}
-use Rattle.stun_proto_auth.specs.Claims.{claimed}
+use Rattle.stun_proto_verify.specs.Base.SocketAddrs.{socket_addr_cmp}
+use Rattle.stun_proto_verify.specs.Auth.Claims.{claimed}
 use Rattle.stun_proto_server.specs.AuthCalls.{AuthAnswer, AuthCall, IsCalled}
 use Rattle.stun_proto_server.specs.AuthCalls as call
 use Rattle.stun_proto_server.specs.Server.{SameFor, Server, makes_room}

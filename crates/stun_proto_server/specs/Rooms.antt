@@ -3,7 +3,7 @@ use Rattle.std.specs.Prelude.{ℕ, ◌/◌, ◌+◌, nat_lt, Bool, ◌&&◌, ◌
 use Rattle.std.specs.FinMap as map
 use Rattle.std.specs.Ordering.{eq_by_cmp}
 use Rattle.std.specs.declared.net.socket_addr.SocketAddr.{SocketAddr}
-use Rattle.stun_types_base.specs.SocketAddrs.{socket_addr_cmp}
+use Rattle.stun_proto_verify.specs.Base.SocketAddrs.{socket_addr_cmp}
 use Rattle.stun_proto_server.specs.Server.{Clients, is_full, is_validated}
 
 -- The limit, if an address can't be added within it.

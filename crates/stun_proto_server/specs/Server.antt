@@ -8,16 +8,16 @@ use Rattle.std.specs.Ordering.{nat_cmp}
 use Rattle.std.specs.contracts.net.socket_addr.SocketAddr as addr
 use Rattle.std.specs.declared.net.socket_addr.SocketAddr.{SocketAddr}
 use Rattle.rand_core.specs.Stream.{Stream}
-use Rattle.stun_types_base.specs.Times.{time_after}
-use Rattle.stun_proto_auth.specs.contracts.feature.Feature as feature
-use Rattle.stun_proto_auth.specs.declared.feature.Feature.{Feature}
-use Rattle.stun_proto_auth.specs.Nonce.{features_offered, nonce_text}
-use Rattle.stun_proto_auth.specs.declared.nonce.TheConstants.{NONCE_WORDS}
+use Rattle.stun_proto_verify.specs.Base.Times.{time_after}
+use Rattle.stun_proto_verify.specs.Auth.contracts.feature.Feature as feature
+use Rattle.stun_proto_verify.specs.Auth.declared.feature.Feature.{Feature}
+use Rattle.stun_proto_verify.specs.Auth.Nonce.{features_offered, nonce_text}
+use Rattle.stun_proto_verify.specs.Auth.declared.nonce.TheConstants.{NONCE_WORDS}
 use Rattle.stun_proto_verify.specs.Knowledge.{Outcome}
-use Rattle.stun_types_base.specs.SocketAddrs.{socket_addr_cmp}
-use Rattle.stun_types_base.specs.GeneratorWords.{words_of}
-use Rattle.stun_types_wire.specs.contracts.algorithm.IntegrityAlgorithm as algorithm
-use Rattle.stun_types_wire.specs.declared.algorithm.IntegrityAlgorithm.{IntegrityAlgorithm}
+use Rattle.stun_proto_verify.specs.Base.SocketAddrs.{socket_addr_cmp}
+use Rattle.stun_proto_verify.specs.Base.GeneratorWords.{words_of}
+use Rattle.stun_proto_verify.specs.Wire.contracts.algorithm.IntegrityAlgorithm as algorithm
+use Rattle.stun_proto_verify.specs.Wire.declared.algorithm.IntegrityAlgorithm.{IntegrityAlgorithm}
 
 -- What is stored for one address: the text of the nonce, the time of its generation, and the last outcome
 -- under it if that was a validation.

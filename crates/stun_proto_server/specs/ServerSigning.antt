@@ -4,18 +4,18 @@ use Rattle.std.specs.Prelude.{ℕ, List, [], ◌∷◌, Bool, true, false, Optio
 use Rattle.std.specs.FinMap as map
 use Rattle.std.specs.Option.{option_and_then}
 use Rattle.std.specs.declared.net.socket_addr.SocketAddr.{SocketAddr}
-use Rattle.stun_types_wire.specs.declared.algorithm.IntegrityAlgorithm.{IntegrityAlgorithm}
-use Rattle.stun_types_integrity.specs.Credentials.{Key, long_term_key}
-use Rattle.stun_types_write.specs.Drafts.{Draft}
-use Rattle.stun_types_wire.specs.declared.class.MessageClass.{MessageClass}
-use Rattle.stun_types_wire.specs.declared.class.MessageClass.TheVariants.{Request, Indication, Success, Error}
-use Rattle.stun_types_wire.specs.declared.error.StunWriteError.{StunWriteError}
-use Rattle.stun_types_wire.specs.declared.error.StunWriteError.TheVariants.{IntegrityFailed}
-use Rattle.stun_proto_auth.specs.Nonce.{features_in}
-use Rattle.stun_proto_auth.specs.SupportedAlgorithms.{list_of}
+use Rattle.stun_proto_verify.specs.Wire.declared.algorithm.IntegrityAlgorithm.{IntegrityAlgorithm}
+use Rattle.stun_proto_verify.specs.Integrity.Credentials.{Key, long_term_key}
+use Rattle.stun_proto_verify.specs.Write.Drafts.{Draft}
+use Rattle.stun_proto_verify.specs.Wire.declared.class.MessageClass.{MessageClass}
+use Rattle.stun_proto_verify.specs.Wire.declared.class.MessageClass.TheVariants.{Request, Indication, Success, Error}
+use Rattle.stun_proto_verify.specs.Wire.declared.error.StunWriteError.{StunWriteError}
+use Rattle.stun_proto_verify.specs.Wire.declared.error.StunWriteError.TheVariants.{IntegrityFailed}
+use Rattle.stun_proto_verify.specs.Auth.Nonce.{features_in}
+use Rattle.stun_proto_verify.specs.Auth.SupportedAlgorithms.{list_of}
 use Rattle.stun_proto_verify.specs.Knowledge.{Outcome}
-use Rattle.stun_proto_auth.specs.Addition.{Addition, PartOf, addition_refusal, algorithms_of, no_addition, nonce_of, realm_of, username_of}
-use Rattle.stun_proto_auth.specs.Sizes.{size_of}
+use Rattle.stun_proto_verify.specs.Auth.Addition.{Addition, PartOf, addition_refusal, algorithms_of, no_addition, nonce_of, realm_of, username_of}
+use Rattle.stun_proto_verify.specs.Auth.Sizes.{size_of}
 use Rattle.stun_proto_server.specs.Server.{Client, Server}
 
 -- ---- what is known of a party

@@ -8,8 +8,8 @@ use Rattle.std.specs.Ordering.{nat_cmp}
 use Rattle.std.specs.String.{string_bytes, string_cmp}
 use Rattle.std.specs.declared.alloc.Global.{Global}
 use Rattle.std.specs.declared.string.String.{String}
-use Rattle.stun_types_auth_attributes.specs.Userhashes.{userhash_of}
-use Rattle.stun_types_wire.specs.Registry.{userhash_length}
+use Rattle.stun_proto_verify.specs.AuthAttributes.Userhashes.{userhash_of}
+use Rattle.stun_proto_verify.specs.Wire.Registry.{userhash_length}
 use Rattle.stun_proto_verify.specs.UserKeys.{AreKeysOf}
 use Rattle.stun_proto_server.specs.declared.users.KeyedUser.{KeyedUser}
 

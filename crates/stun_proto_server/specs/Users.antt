@@ -1,8 +1,8 @@
 -- How a message names a user of a server (RFC 8489, sections 9.2.4 and 14.4).
 use Rattle.std.specs.Prelude.{◌≡◌, ℕ, List, Option, Some, None, IsSome, MatchOption}
 use Rattle.std.specs.FinMap as map
-use Rattle.stun_types_auth_attributes.specs.Userhashes.{userhash_of}
-use Rattle.stun_proto_auth.specs.Claims.{Claimed}
+use Rattle.stun_proto_verify.specs.AuthAttributes.Userhashes.{userhash_of}
+use Rattle.stun_proto_verify.specs.Auth.Claims.{Claimed}
 use Rattle.stun_proto_verify.specs.Knowledge.{Named}
 use Rattle.stun_proto_server.specs.Server.{Server}
 

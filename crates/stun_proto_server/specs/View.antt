@@ -8,7 +8,7 @@ use Rattle.std.specs.String.{string_bytes}
 use Rattle.std.specs.declared.alloc.Global.{Global}
 use Rattle.std.specs.declared.net.socket_addr.SocketAddr.{SocketAddr}
 use Rattle.std.specs.declared.string.String.{String}
-use Rattle.stun_types_base.specs.SocketAddrs.{socket_addr_cmp}
+use Rattle.stun_proto_verify.specs.Base.SocketAddrs.{socket_addr_cmp}
 use Rattle.stun_proto_server.specs.Server.{Client, Clients, Server}
 use Rattle.stun_proto_server.specs.declared.long_term.ClientRecord.{ClientRecord}
 use Rattle.stun_proto_server.specs.declared.long_term.LongTermServerAuth.TheInside.{Inside}

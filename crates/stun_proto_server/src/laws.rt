@@ -3,12 +3,15 @@
 
 ghost use Rattle.std.specs.Prelude.{◌≡◌, ◌≢◌, ℕ, List, None};
 ghost use Rattle.std.specs.declared.net.socket_addr.SocketAddr.{SocketAddr as Addr};
-ghost use Rattle.stun_proto_auth.specs.Claims.{claimed};
+ghost use Rattle.stun_proto_verify.specs.Auth.Claims.{claimed};
 ghost use Rattle.stun_proto_verify.specs.declared.error.LongTermServerAuthError.{LongTermServerAuthError as Error};
-ghost use Rattle.stun_types_wire.specs.declared.algorithm.IntegrityAlgorithm.{IntegrityAlgorithm};
+ghost use Rattle.stun_proto_verify.specs.Wire.declared.algorithm.IntegrityAlgorithm.{IntegrityAlgorithm};
 ghost use Rattle.stun_proto_server.specs.AuthCalls.{AuthAnswer, AuthCall};
-ghost use Rattle.stun_proto_server.specs.AuthRuns.{AreAnsweredAlike, EachNamesOne, IsAuthRun, IsIsolated, MakeNoRoom, SetNoLimit, calls_concerning};
-ghost use Rattle.stun_proto_server.specs.Isolation.{AnswersAlike, LeavesAlike, LeavesAlone, SetsAlike};
+ghost use Rattle.stun_proto_server.specs.AuthRuns.{AreAnsweredAlike, EachNamesOne, IsAuthRun};
+ghost use Rattle.stun_proto_server.specs.AuthRuns.{IsIsolated, MakeNoRoom, SetNoLimit};
+ghost use Rattle.stun_proto_server.specs.AuthRuns.{calls_concerning};
+ghost use Rattle.stun_proto_server.specs.Isolation.{AnswersAlike, LeavesAlike, LeavesAlone};
+ghost use Rattle.stun_proto_server.specs.Isolation.{SetsAlike};
 ghost use Rattle.stun_proto_server.specs.Server.{SameFor, Server};
 ghost use Rattle.stun_proto_server.specs.ServerValidation.{Accepts, Refuses};
 ghost use Rattle.stun_proto_server.specs.Users.{NamesOne};

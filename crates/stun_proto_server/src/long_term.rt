@@ -1,6 +1,7 @@
 //! The server's side of long-term credentials: its users, and a nonce for each client address.
 
-ghost use Rattle.std.specs.Prelude.{◌≡◌, ◌≢◌, ◌*◌, ◌≤◌, nat_lt, length, [], ◌∷◌, false, None, Ok, Some, IfOk, IfSome, OnOk, OnErr, MatchOption, IsTrue};
+ghost use Rattle.std.specs.Prelude.{◌≡◌, ◌≢◌, ◌*◌, ◌≤◌, nat_lt, length, [], ◌∷◌, false, None, Ok};
+ghost use Rattle.std.specs.Prelude.{Some, IfOk, IfSome, OnOk, OnErr, MatchOption, IsTrue};
 ghost use Rattle.std.specs.BTreeMap as tree;
 ghost use Rattle.std.specs.Duration.{as_nanos};
 ghost use Rattle.std.specs.FinMap as map;
@@ -8,19 +9,32 @@ ghost use Rattle.std.specs.List.{IsDistinct};
 ghost use Rattle.std.specs.Option.{option_copied, option_map};
 ghost use Rattle.std.specs.String.{string_bytes};
 ghost use Rattle.std.specs.declared.net.socket_addr.SocketAddr.{SocketAddr};
-ghost use Rattle.stun_types_base.specs.Times.{time_after};
-ghost use Rattle.stun_proto_auth.specs.SupportedAlgorithms.{is_same_algorithm, with_algorithm};
-ghost use Rattle.stun_types_base.specs.SocketAddrs.{socket_addr_cmp};
-ghost use Rattle.stun_types_base.specs.GeneratorWords.{stream_after};
-ghost use Rattle.stun_types_wire.specs.Registry.{longest_text};
-ghost use Rattle.stun_types_wire.specs.declared.algorithm.IntegrityAlgorithm.TheVariants.{Sha1};
-ghost use Rattle.stun_proto_auth.specs.declared.feature.Feature.TheVariants.{Auto};
-ghost use Rattle.stun_proto_server.specs.Server.{nonce_at, has_standing_nonce, outcome_at, words_generated, with_new_nonce, with_outcome, makes_room, refreshed, SameFor};
+ghost use Rattle.stun_proto_verify.specs.Base.Times.{time_after};
+ghost use Rattle.stun_proto_verify.specs.Auth.SupportedAlgorithms.{is_same_algorithm};
+ghost use Rattle.stun_proto_verify.specs.Auth.SupportedAlgorithms.{with_algorithm};
+ghost use Rattle.stun_proto_verify.specs.Base.SocketAddrs.{socket_addr_cmp};
+ghost use Rattle.stun_proto_verify.specs.Base.GeneratorWords.{stream_after};
+ghost use Rattle.stun_proto_verify.specs.Wire.Registry.{longest_text};
+ghost use Rattle.stun_proto_verify.specs.Wire.declared.algorithm.IntegrityAlgorithm.TheVariants.{Sha1};
+ghost use Rattle.stun_proto_verify.specs.Auth.declared.feature.Feature.TheVariants.{Auto};
+ghost use Rattle.stun_proto_server.specs.Server.{nonce_at, has_standing_nonce, outcome_at};
+ghost use Rattle.stun_proto_server.specs.Server.{words_generated, with_new_nonce, with_outcome};
+ghost use Rattle.stun_proto_server.specs.Server.{makes_room, refreshed, SameFor};
 ghost use Rattle.stun_proto_server.specs.StoredKeys.{HasKeys, IsKeyed};
 ghost use Rattle.stun_proto_server.specs.Users.{IsFound, IsFoundBy};
-ghost use Rattle.stun_types_auth_attributes.specs.Userhashes.{userhash_of};
+ghost use Rattle.stun_proto_verify.specs.AuthAttributes.Userhashes.{userhash_of};
 
 use crate::room::put_within;
+use crate::stun_proto_auth::claim::Claim;
+use crate::stun_proto_auth::feature::Feature;
+use crate::stun_proto_auth::nonce::{NONCE_WORDS, NonceFeatures, ServerNonce, write_nonce};
+use crate::stun_proto_auth::supported::SupportedIntegrity;
+use crate::stun_types_auth_attributes::userhash::Userhash;
+use crate::stun_types_base::instant::Instant;
+use crate::stun_types_base::memory::NoMemory;
+use crate::stun_types_base::words::draw_words;
+use crate::stun_types_integrity::credentials::LongTermCredentials;
+use crate::stun_types_wire::algorithm::IntegrityAlgorithm;
 use crate::users::{KeyedUser, Users};
 use rand_core::Rng;
 use std::alloc::Global;
@@ -28,19 +42,9 @@ use std::collections::BTreeMap;
 use std::marker::Model;
 use std::net::SocketAddr;
 use std::time::Duration;
-use stun_proto_auth::claim::Claim;
-use stun_proto_auth::feature::Feature;
-use stun_proto_auth::nonce::{NONCE_WORDS, NonceFeatures, ServerNonce, write_nonce};
-use stun_proto_auth::supported::SupportedIntegrity;
 use stun_proto_verify::keys::UserKeys;
 use stun_proto_verify::known::NamedUser;
 use stun_proto_verify::user::ValidatedUser;
-use stun_types_auth_attributes::userhash::Userhash;
-use stun_types_base::instant::Instant;
-use stun_types_base::memory::NoMemory;
-use stun_types_base::words::draw_words;
-use stun_types_integrity::credentials::LongTermCredentials;
-use stun_types_wire::algorithm::IntegrityAlgorithm;
 
 /// The shortest allowed lifetime of a nonce, in seconds.
 pub const MIN_NONCE_EXPIRY: u64 = 30;
@@ -83,7 +87,7 @@ impl Model for LongTermServerAuth {
 
     ghost use Rattle.std.specs.Prelude.{◌≤◌, length};
     ghost use Rattle.std.specs.String.{string_bytes};
-    ghost use Rattle.stun_types_wire.specs.Registry.{longest_text};
+    ghost use Rattle.stun_proto_verify.specs.Wire.Registry.{longest_text};
     ghost use Rattle.stun_proto_server.specs.StoredKeys.{AllHaveKeys};
     ghost use Rattle.stun_proto_server.specs.StoredUsers.{IsSound};
 

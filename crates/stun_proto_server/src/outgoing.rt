@@ -2,22 +2,24 @@
 
 ghost use Rattle.std.specs.Prelude.{◌≡◌, None, IsSome, IsSomeAnd, IfOk, false};
 ghost use Rattle.std.specs.Result.{IsOk};
-ghost use Rattle.stun_types_base.specs.Refusals.{RefusesFor};
-ghost use Rattle.stun_types_wire.specs.Attributes.{kind_at};
-ghost use Rattle.stun_types_wire.specs.Types.{class_of};
-ghost use Rattle.stun_types_write.specs.Adding.{IsStarted};
-ghost use Rattle.stun_proto_auth.specs.AdditionStages.{IsMade};
-ghost use Rattle.stun_types_wire.specs.declared.class.MessageClass.TheVariants.{Success};
-ghost use Rattle.stun_proto_server.specs.ServerSigning.{addition_for, class_requested as class_of_size, party_at, signing_refusal_for, size_for};
-ghost use Rattle.stun_types_write.specs.Outcomes.{TakesNoMemory};
+ghost use Rattle.stun_proto_verify.specs.Base.Refusals.{RefusesFor};
+ghost use Rattle.stun_proto_verify.specs.Wire.Attributes.{kind_at};
+ghost use Rattle.stun_proto_verify.specs.Wire.Types.{class_of};
+ghost use Rattle.stun_proto_verify.specs.Write.Adding.{IsStarted};
+ghost use Rattle.stun_proto_verify.specs.Auth.AdditionStages.{IsMade};
+ghost use Rattle.stun_proto_verify.specs.Wire.declared.class.MessageClass.TheVariants.{Success};
+ghost use Rattle.stun_proto_server.specs.ServerSigning.{addition_for};
+ghost use Rattle.stun_proto_server.specs.ServerSigning.{class_requested as class_of_size, party_at};
+ghost use Rattle.stun_proto_server.specs.ServerSigning.{signing_refusal_for, size_for};
+ghost use Rattle.stun_proto_verify.specs.Write.Outcomes.{TakesNoMemory};
 
 use crate::long_term::LongTermServerAuth;
 use crate::party::{Party, SigningUser};
+use crate::stun_types_base::memory::NoMemory;
+use crate::stun_types_wire::class::MessageClass;
+use crate::stun_types_wire::error::StunWriteError;
+use crate::stun_types_write::writer::MessageWrite;
 use std::net::SocketAddr;
-use stun_types_base::memory::NoMemory;
-use stun_types_wire::class::MessageClass;
-use stun_types_wire::error::StunWriteError;
-use stun_types_write::writer::MessageWrite;
 
 impl LongTermServerAuth {
     /// Signs a message to an address with what is stored for that address, and returns the writer

@@ -2,31 +2,33 @@
 
 ghost use Rattle.std.specs.Prelude.{◌≡◌, IfOk, IfSome, IsSomeAnd, None, Some};
 ghost use Rattle.std.specs.Option.{option_map};
-ghost use Rattle.stun_types_base.specs.Refusals.{RefusesFor};
-ghost use Rattle.stun_types_wire.specs.Attributes.{kind_at};
-ghost use Rattle.stun_types_wire.specs.Types.{class_of};
-ghost use Rattle.stun_types_wire.specs.declared.class.MessageClass.TheVariants.{Error};
-ghost use Rattle.stun_types_write.specs.Adding.{IsStarted};
-ghost use Rattle.stun_types_write.specs.Outcomes.{TakesNoMemory};
-ghost use Rattle.stun_proto_auth.specs.Nonce.{features_in};
-ghost use Rattle.stun_proto_auth.specs.Addition.{addition_refusal};
-ghost use Rattle.stun_proto_auth.specs.AdditionStages.{IsMade};
-ghost use Rattle.stun_proto_auth.specs.Sizes.{size_of};
-ghost use Rattle.stun_proto_server.specs.ServerSigning.{addition, addition_for_user, addition_unvalidated, signing_refusal_for, size_for};
+ghost use Rattle.stun_proto_verify.specs.Base.Refusals.{RefusesFor};
+ghost use Rattle.stun_proto_verify.specs.Wire.Attributes.{kind_at};
+ghost use Rattle.stun_proto_verify.specs.Wire.Types.{class_of};
+ghost use Rattle.stun_proto_verify.specs.Wire.declared.class.MessageClass.TheVariants.{Error};
+ghost use Rattle.stun_proto_verify.specs.Write.Adding.{IsStarted};
+ghost use Rattle.stun_proto_verify.specs.Write.Outcomes.{TakesNoMemory};
+ghost use Rattle.stun_proto_verify.specs.Auth.Nonce.{features_in};
+ghost use Rattle.stun_proto_verify.specs.Auth.Addition.{addition_refusal};
+ghost use Rattle.stun_proto_verify.specs.Auth.AdditionStages.{IsMade};
+ghost use Rattle.stun_proto_verify.specs.Auth.Sizes.{size_of};
+ghost use Rattle.stun_proto_server.specs.ServerSigning.{addition, addition_for_user};
+ghost use Rattle.stun_proto_server.specs.ServerSigning.{addition_unvalidated, signing_refusal_for};
+ghost use Rattle.stun_proto_server.specs.ServerSigning.{size_for};
 ghost use Rattle.stun_proto_server.specs.SigningUsers.{HasKeyIn, signer_of};
 
+use crate::stun_proto_auth::nonce::NonceFeatures;
+use crate::stun_proto_auth::part::Part;
+use crate::stun_proto_auth::signing::sign;
+use crate::stun_proto_auth::size::signature_bytes;
+use crate::stun_proto_auth::supported::SupportedIntegrity;
+use crate::stun_types_add::ext::MessageWriteExt;
+use crate::stun_types_integrity::key::IntegrityKey;
+use crate::stun_types_wire::algorithm::IntegrityAlgorithm;
+use crate::stun_types_wire::class::MessageClass;
+use crate::stun_types_wire::error::StunWriteError;
+use crate::stun_types_write::writer::MessageWrite;
 use std::marker::Model;
-use stun_proto_auth::nonce::NonceFeatures;
-use stun_proto_auth::part::Part;
-use stun_proto_auth::signing::sign;
-use stun_proto_auth::size::signature_bytes;
-use stun_proto_auth::supported::SupportedIntegrity;
-use stun_types_add::ext::MessageWriteExt;
-use stun_types_integrity::key::IntegrityKey;
-use stun_types_wire::algorithm::IntegrityAlgorithm;
-use stun_types_wire::class::MessageClass;
-use stun_types_wire::error::StunWriteError;
-use stun_types_write::writer::MessageWrite;
 
 /// A user under whose key messages are signed: its name, its password, the algorithm of the
 /// integrity attribute, and the key.

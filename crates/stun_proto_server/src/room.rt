@@ -8,10 +8,10 @@ ghost use Rattle.stun_proto_server.specs.Server.{room_for};
 ghost use Rattle.stun_proto_server.specs.View.{client_of, clients_of, stays};
 
 use crate::long_term::ClientRecord;
+use crate::stun_types_base::memory::NoMemory;
 use std::cmp::Ordering;
 use std::collections::BTreeMap;
 use std::net::SocketAddr;
-use stun_types_base::memory::NoMemory;
 
 /// Stores a record for an address. If nothing was stored for it, and the limit was reached, it then
 /// removes the other records whose last message was not validated and, if more than half of the

@@ -1,6 +1,7 @@
 //! The users of a server, and how a message names one.
 
-ghost use Rattle.std.specs.Prelude.{◌≡◌, ℕ, nat_eq, ◌||◌, not, List, All, Some, MatchOption, OnOk, OnErr};
+ghost use Rattle.std.specs.Prelude.{◌≡◌, ℕ, nat_eq, ◌||◌, not, List, All, Some, MatchOption, OnOk};
+ghost use Rattle.std.specs.Prelude.{OnErr};
 ghost use Rattle.std.specs.BTreeMap as tree;
 ghost use Rattle.std.specs.Cmp.Lexicographic.{pointwise};
 ghost use Rattle.std.specs.List.{find};
@@ -11,13 +12,13 @@ ghost use Rattle.stun_proto_server.specs.StoredUsers.{IsSound};
 ghost use Rattle.stun_proto_server.specs.View.{pair_of};
 ghost use Rattle.stun_proto_server.specs.declared.users.KeyedUser.{KeyedUser as Keyed};
 
+use crate::stun_types_auth_attributes::userhash::Userhash;
+use crate::stun_types_base::memory::NoMemory;
+use crate::stun_types_integrity::credentials::LongTermCredentials;
 use std::alloc::Global;
 use std::collections::BTreeMap;
 use std::convert::TryFrom;
 use stun_proto_verify::keys::UserKeys;
-use stun_types_auth_attributes::userhash::Userhash;
-use stun_types_base::memory::NoMemory;
-use stun_types_integrity::credentials::LongTermCredentials;
 
 /// A user, with its keys and the hash of its name in the server's realm. The keys are in a box of
 /// their own, so that the map does not move them.

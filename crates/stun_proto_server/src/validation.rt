@@ -2,25 +2,27 @@
 
 ghost use Rattle.std.specs.Prelude.{◌≡◌, ◌≢◌, ℕ, List, None, IfOk, IfErr, MatchResult, false};
 ghost use Rattle.std.specs.declared.net.socket_addr.SocketAddr.{SocketAddr};
-ghost use Rattle.stun_types_wire.specs.declared.algorithm.IntegrityAlgorithm.{IntegrityAlgorithm as Algorithm};
-ghost use Rattle.stun_types_base.specs.GeneratorWords.{stream_after};
-ghost use Rattle.stun_proto_auth.specs.Claims.{claimed};
+ghost use Rattle.stun_proto_verify.specs.Wire.declared.algorithm.IntegrityAlgorithm.{IntegrityAlgorithm as Algorithm};
+ghost use Rattle.stun_proto_verify.specs.Base.GeneratorWords.{stream_after};
+ghost use Rattle.stun_proto_verify.specs.Auth.Claims.{claimed};
 ghost use Rattle.stun_proto_verify.specs.Judgement.{is_response};
 ghost use Rattle.stun_proto_server.specs.Server.{SameFor, makes_room, refreshed, with_outcome};
-ghost use Rattle.stun_proto_server.specs.ServerValidation.{Accepts, AcceptsSome, IsAfterNoMemory, IsValidated, Refuses, WantsMemory, after_refusal, words_of_validation};
+ghost use Rattle.stun_proto_server.specs.ServerValidation.{Accepts, AcceptsSome, IsAfterNoMemory};
+ghost use Rattle.stun_proto_server.specs.ServerValidation.{IsValidated, Refuses, WantsMemory};
+ghost use Rattle.stun_proto_server.specs.ServerValidation.{after_refusal, words_of_validation};
 ghost use Rattle.stun_proto_server.specs.Users.{NamesOne};
 
 use crate::long_term::LongTermServerAuth;
+use crate::stun_proto_auth::claim::Claim;
+use crate::stun_types_base::instant::Instant;
+use crate::stun_types_message::parsed::Message;
+use crate::stun_types_wire::algorithm::IntegrityAlgorithm;
 use rand_core::Rng;
 use std::net::SocketAddr;
-use stun_proto_auth::claim::Claim;
 use stun_proto_verify::error::LongTermServerAuthError;
 use stun_proto_verify::judgement::{judge_claim, judge_user};
 use stun_proto_verify::known::Known;
 use stun_proto_verify::user::ValidatedUser;
-use stun_types_base::instant::Instant;
-use stun_types_message::parsed::Message;
-use stun_types_wire::algorithm::IntegrityAlgorithm;
 
 /// The result for a message that a server accepts.
 #[derive(Clone, Copy, Debug, PartialEq, Eq)]

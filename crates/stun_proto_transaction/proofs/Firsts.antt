@@ -3,7 +3,7 @@ use Rattle.std.proofs.Common.{◌≡◌, ℕ, ◌<◌, ◌≤◌, Bool, true, fa
 use Rattle.std.specs.Prelude.{nat_le, ◌&&◌, ◌||◌, if◌then◌else◌}
 use Rattle.std.proofs.lemmas.Bool.{cases_lt, le-leb, lt-leb}
 use Rattle.std.proofs.lemmas.List.{get_or_default}
-use Rattle.stun_types_base.specs.Times.{greatest_time}
+use Rattle.stun_types_message.specs.Base.Times.{greatest_time}
 use Rattle.stun_proto_transaction.specs.Schedule.{end_at}
 use Rattle.stun_proto_transaction.specs.Agents.{Transaction, ends_from, has_left, is_due, is_ended, is_over, next_slot, sends_from}
 use Rattle.stun_proto_transaction.specs.StoredTimes as times

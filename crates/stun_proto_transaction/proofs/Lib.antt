@@ -9,3 +9,5 @@ pub mod Nexts
 pub mod Slots
 pub mod Sounds
 pub mod Views
+-- Re-exports for the crates above this one.
+pub use Rattle.stun_types_message.proofs.Base as Base

@@ -5,7 +5,7 @@ use Rattle.std.specs.FinMap as finite
 use Rattle.std.proofs.lemmas.Bool.{cases_lt}
 use Rattle.std.proofs.lemmas.List.Elements.{All-get_or}
 use Rattle.std.proofs.lemmas.Grind.{get_or_default_zero}
-use Rattle.stun_types_base.specs.Times.{greatest_time}
+use Rattle.stun_types_message.specs.Base.Times.{greatest_time}
 use Rattle.stun_proto_transaction.specs.Schedule.{end_at}
 use Rattle.stun_proto_transaction.proofs.Slots.{slot_before_end}
 use Rattle.stun_proto_transaction.specs.Agents.{Transaction, ends_from, has_left, is_ended, is_over, next_time, next_slot, sends_from}

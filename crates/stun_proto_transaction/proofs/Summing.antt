@@ -1,7 +1,7 @@
 -- The sums of the waits after the first transmissions.
 use Rattle.std.proofs.Common.{◌≡◌, ℕ, zero, suc, ◌+◌, ◌*◌, ◌<◌, ◌≤◌, ◌^◌, arith, [], ◌∷◌, ◌++◌, Option, Some, None, refl, sym, ap, ◌∙◌, subst}
 use Rattle.std.specs.Prelude.{true, false, map, min, nat_le, ◌-◌}
-use Rattle.stun_types_base.specs.Times.{greatest_time}
+use Rattle.stun_types_message.specs.Base.Times.{greatest_time}
 use Rattle.std.specs.List.{range_with_len, sum}
 use Rattle.std.proofs.lemmas.Bool.{leb-false, leb-true}
 use Rattle.std.proofs.lemmas.List.{map-append}

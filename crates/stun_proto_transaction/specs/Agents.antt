@@ -1,15 +1,15 @@
 -- An agent's outstanding request, and what the agent does next for it (RFC 8489, section 6.2).
 use Rattle.std.specs.Prelude.{ℕ, ◌+◌, nat_lt, nat_le, Bool, ◌&&◌, ◌||◌, true, false, List, if◌then◌else◌, Option, Some, None}
 use Rattle.std.specs.declared.net.socket_addr.SocketAddr.{SocketAddr}
-use Rattle.stun_types_wire.specs.Grammar.{refusal, visible}
-use Rattle.stun_types_wire.specs.declared.algorithm.IntegrityAlgorithm.{IntegrityAlgorithm}
+use Rattle.stun_types_message.specs.Wire.Grammar.{refusal, visible}
+use Rattle.stun_types_message.specs.Wire.declared.algorithm.IntegrityAlgorithm.{IntegrityAlgorithm}
 use Rattle.stun_types_message.specs.MessageValidation.{last_algorithm}
-use Rattle.stun_types_wire.specs.declared.error.StunParseError.{StunParseError}
+use Rattle.stun_types_message.specs.Wire.declared.error.StunParseError.{StunParseError}
 use Rattle.stun_proto_transaction.specs.declared.transaction.Change.{Change}
 use Rattle.stun_proto_transaction.specs.declared.transaction.Change.TheVariants.{Cancel, CancelRetransmissions, ConfigureTimeout}
 use Rattle.stun_proto_transaction.specs.declared.transaction.Cancelled.{Cancelled}
 use Rattle.stun_proto_transaction.specs.declared.transaction.Cancelled.TheVariants.{Nothing, Retransmissions, Whole}
-use Rattle.stun_types_base.specs.Times.{greatest_time}
+use Rattle.stun_types_message.specs.Base.Times.{greatest_time}
 use Rattle.stun_proto_transaction.specs.Schedule.{Waits, end_at, slot_at, transmissions}
 
 -- An outstanding request: its bytes and their destination, the time of the first transmission, the number of

@@ -2,7 +2,7 @@
 -- 6.2.1).
 use Rattle.std.specs.Prelude.{ℕ, ◌+◌, ◌-◌, ◌*◌, ◌^◌, min, max, nat_le, Bool, true, false, List, map, Option, Some, None}
 use Rattle.std.specs.List.{range_with_len, sum}
-use Rattle.stun_types_base.specs.Times.{time_after}
+use Rattle.stun_types_message.specs.Base.Times.{time_after}
 
 -- The wait after the first transmission, the maximum wait, the number of transmissions, and the wait after
 -- the last transmission. Waits are in nanoseconds.

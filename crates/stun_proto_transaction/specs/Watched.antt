@@ -1,6 +1,6 @@
 -- The invariant of a list of times: a lower bound on those before a cursor.
 use Rattle.std.specs.Prelude.{◌≡◌, ◌⊎◌, ℕ, ◌<◌, ◌≤◌, Bool, true, List, length, slice_index}
-use Rattle.stun_types_base.specs.Times.{greatest_time}
+use Rattle.stun_types_message.specs.Base.Times.{greatest_time}
 use Rattle.stun_proto_transaction.specs.declared.times.Times.TheInside.{Inside}
 
 -- The time `least` is not later than any of the first `passed` times.

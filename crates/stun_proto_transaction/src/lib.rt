@@ -7,3 +7,6 @@ mod stored;
 mod times;
 pub mod transaction;
 pub mod waits;
+
+pub use stun_types_message;
+pub use stun_types_message::{stun_types_base, stun_types_wire};

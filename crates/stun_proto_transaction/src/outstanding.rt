@@ -1,23 +1,26 @@
 //! The table of outstanding requests: a vector sorted by transaction ID, and two times for each
 //! request.
 
-ghost use Rattle.std.specs.Prelude.{◌≡◌, ◌≤◌, IfErr, IfOk, MatchOption, None, OnErr, OnOk, Some, length, max, min};
+ghost use Rattle.std.specs.Prelude.{◌≡◌, ◌≤◌, IfErr, IfOk, MatchOption, None, OnErr, OnOk, Some};
+ghost use Rattle.std.specs.Prelude.{length, max, min};
 ghost use Rattle.std.specs.FinMap as finite;
 ghost use Rattle.std.specs.List.{insert};
-ghost use Rattle.stun_types_base.specs.Times.{greatest_time};
-ghost use Rattle.stun_proto_transaction.specs.Agents.{Transaction, changed, is_due, is_ended, is_over, transmitted};
-ghost use Rattle.stun_proto_transaction.specs.StoredRequests.{IsFirstFrom, IsNext, NoneDue, NoneEnded, NoneFrom, with_number};
+ghost use Rattle.stun_types_message.specs.Base.Times.{greatest_time};
+ghost use Rattle.stun_proto_transaction.specs.Agents.{Transaction, changed, is_due, is_ended};
+ghost use Rattle.stun_proto_transaction.specs.Agents.{is_over, transmitted};
+ghost use Rattle.stun_proto_transaction.specs.StoredRequests.{IsFirstFrom, IsNext, NoneDue};
+ghost use Rattle.stun_proto_transaction.specs.StoredRequests.{NoneEnded, NoneFrom, with_number};
 ghost use Rattle.stun_proto_transaction.specs.Least.{IsLeast};
 ghost use Rattle.stun_proto_transaction.specs.Sorted.{IsAt, IsGap, IsStrictlySorted};
 
 use crate::stored::Stored;
+use crate::stun_types_base::instant::Instant;
+use crate::stun_types_base::memory::NoMemory;
+use crate::stun_types_wire::transaction::TransactionId;
 use crate::times::Times;
 use crate::transaction::{Change, Transaction};
 use std::alloc::Global;
 use std::marker::Model;
-use stun_types_base::instant::Instant;
-use stun_types_base::memory::NoMemory;
-use stun_types_wire::transaction::TransactionId;
 
 /// The outstanding requests over one transport. Contracts see the record `Requests` of
 /// `specs/StoredRequests.antt`, a map from transaction ID to request.

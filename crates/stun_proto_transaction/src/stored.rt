@@ -3,10 +3,10 @@
 ghost use Rattle.std.specs.Prelude.{◌≡◌, IfOk};
 ghost use Rattle.stun_proto_transaction.specs.Agents.{changed, transmitted};
 
+use crate::stun_types_base::memory::NoMemory;
 use crate::transaction::{Change, Transaction};
 use std::alloc::Global;
 use std::marker::Model;
-use stun_types_base::memory::NoMemory;
 
 /// A boxed request. Contracts see the request.
 #[derive(Debug, Drop)]

@@ -4,12 +4,12 @@ ghost use Rattle.std.specs.Prelude.{◌≡◌, ◌<◌, ◌≤◌, [], OnErr, On
 ghost use Rattle.std.specs.List.{insert, remove};
 ghost use Rattle.stun_proto_transaction.specs.StoredTimes.{AllLater, IsFirst};
 ghost use Rattle.stun_proto_transaction.specs.Least.{IsLeastOf};
-ghost use Rattle.stun_types_base.specs.Times.{greatest_time};
+ghost use Rattle.stun_types_message.specs.Base.Times.{greatest_time};
 
+use crate::stun_types_base::instant::Instant;
+use crate::stun_types_base::memory::NoMemory;
 use std::alloc::Global;
 use std::marker::Model;
-use stun_types_base::instant::Instant;
-use stun_types_base::memory::NoMemory;
 
 /// A list of times. Contracts see the list.
 ///

@@ -2,17 +2,20 @@
 //! other crates use `Cancelled` and `Change`.
 
 ghost use Rattle.std.specs.Prelude.{◌≡◌, ◌+◌, ◌<◌, ◌≤◌, ◌^◌, true};
-ghost use Rattle.stun_types_wire.specs.Grammar.{visible};
+ghost use Rattle.stun_types_message.specs.Wire.Grammar.{visible};
 ghost use Rattle.stun_types_message.specs.MessageValidation.{last_algorithm};
-ghost use Rattle.stun_proto_transaction.specs.Agents.{changed, ends_from, continues, has_left, integrity_of, is_due, is_over, next_slot, sends_from, transmitted, without_retransmissions};
+ghost use Rattle.stun_proto_transaction.specs.Agents.{changed, ends_from, continues, has_left};
+ghost use Rattle.stun_proto_transaction.specs.Agents.{integrity_of, is_due, is_over, next_slot};
+ghost use Rattle.stun_proto_transaction.specs.Agents.{sends_from, transmitted};
+ghost use Rattle.stun_proto_transaction.specs.Agents.{without_retransmissions};
 ghost use Rattle.stun_proto_transaction.specs.Schedule.{transmissions};
 
+use crate::stun_types_base::instant::Instant;
+use crate::stun_types_wire::algorithm::IntegrityAlgorithm;
 use crate::waits::Waits;
 use std::marker::Model;
 use std::net::SocketAddr;
-use stun_types_base::instant::Instant;
 use stun_types_message::parsed::Message;
-use stun_types_wire::algorithm::IntegrityAlgorithm;
 
 /// How far a transaction is cancelled. Contracts use it; no call of the public crate returns it.
 #[derive(Clone, Copy, Debug, PartialEq, Eq)]

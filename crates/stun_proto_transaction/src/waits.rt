@@ -4,12 +4,13 @@ ghost use Rattle.std.specs.Prelude.{◌≡◌, ◌+◌, ◌*◌, ◌<◌, ◌≤
 ghost use Rattle.std.specs.List.{sum};
 ghost use Rattle.std.specs.Duration.{as_nanos};
 ghost use Rattle.std.specs.Option.{option_map};
-ghost use Rattle.stun_types_base.specs.Times.{greatest_time, time_after};
-ghost use Rattle.stun_proto_transaction.specs.Schedule.{end_at, greatest_wait, is_reached, slot_at, transmissions, waits_after};
+ghost use Rattle.stun_types_message.specs.Base.Times.{greatest_time, time_after};
+ghost use Rattle.stun_proto_transaction.specs.Schedule.{end_at, greatest_wait, is_reached, slot_at};
+ghost use Rattle.stun_proto_transaction.specs.Schedule.{transmissions, waits_after};
 
+use crate::stun_types_base::instant::Instant;
 use std::marker::Model;
 use std::time::Duration;
-use stun_types_base::instant::Instant;
 
 /// The timing of a request's transmissions: the wait after the first transmission, the maximum
 /// wait, the number of transmissions, and the wait after the last transmission. Contracts see the

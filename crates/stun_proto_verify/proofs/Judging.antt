@@ -3,14 +3,14 @@ use Rattle.std.proofs.Common.{◌≡◌, ◌≢◌, ℕ, Bool, true, false, ◌&
 use Rattle.std.specs.Prelude.{Result, Ok, Err, IfOk, IfErr, IsErrAnd, MatchResult, MatchOption, if◌then◌else◌}
 use Rattle.std.specs.Cmp.Lexicographic.{pointwise, same_text, nat_list_eq_equiv}
 use Rattle.std.specs.Option.{option_or}
-use Rattle.stun_types_wire.specs.declared.algorithm.IntegrityAlgorithm.{IntegrityAlgorithm}
-use Rattle.stun_types_wire.specs.declared.error.ValidateError.{ValidateError}
-use Rattle.stun_types_wire.specs.declared.error.ValidateError.TheVariants as invalid
-use Rattle.stun_types_wire.specs.Grammar.{visible}
-use Rattle.stun_types_integrity.specs.Credentials.{Key, long_term_key}
-use Rattle.stun_types_integrity.specs.Integrity.{IsSigned, Validates}
-use Rattle.stun_types_message.specs.MessageValidation.{last_algorithm}
-use Rattle.stun_types_message.proofs.Validating.{signed_validates}
+use Rattle.stun_proto_auth.specs.Wire.declared.algorithm.IntegrityAlgorithm.{IntegrityAlgorithm}
+use Rattle.stun_proto_auth.specs.Wire.declared.error.ValidateError.{ValidateError}
+use Rattle.stun_proto_auth.specs.Wire.declared.error.ValidateError.TheVariants as invalid
+use Rattle.stun_proto_auth.specs.Wire.Grammar.{visible}
+use Rattle.stun_proto_auth.specs.Integrity.Credentials.{Key, long_term_key}
+use Rattle.stun_proto_auth.specs.Integrity.Integrity.{IsSigned, Validates}
+use Rattle.stun_proto_auth.specs.Message.MessageValidation.{last_algorithm}
+use Rattle.stun_proto_auth.proofs.Message.Validating.{signed_validates}
 use Rattle.stun_proto_verify.specs.declared.error.LongTermServerAuthError.{LongTermServerAuthError}
 use Rattle.stun_proto_verify.specs.declared.error.LongTermServerAuthError.TheVariants.{Unauthorized, IntegrityFailed, BadRequest, StaleNonce, NoMemory}
 use Rattle.stun_proto_verify.specs.AuthErrors.{digest_error}

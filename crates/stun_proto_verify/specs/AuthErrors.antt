@@ -1,8 +1,8 @@
 -- What a validation error reports.
 use Rattle.std.specs.Prelude.{Option, Some, None}
-use Rattle.stun_types_wire.specs.declared.algorithm.IntegrityAlgorithm.{IntegrityAlgorithm}
-use Rattle.stun_types_wire.specs.declared.error.ValidateError.{ValidateError}
-use Rattle.stun_types_wire.specs.declared.error.ValidateError.TheVariants as invalid
+use Rattle.stun_proto_auth.specs.Wire.declared.algorithm.IntegrityAlgorithm.{IntegrityAlgorithm}
+use Rattle.stun_proto_auth.specs.Wire.declared.error.ValidateError.{ValidateError}
+use Rattle.stun_proto_auth.specs.Wire.declared.error.ValidateError.TheVariants as invalid
 use Rattle.stun_proto_verify.specs.declared.error.LongTermServerAuthError.{LongTermServerAuthError}
 use Rattle.stun_proto_verify.specs.declared.error.LongTermServerAuthError.TheVariants.{Unauthorized, IntegrityFailed, BadRequest, StaleNonce, NoMemory}
 use Rattle.stun_proto_verify.specs.declared.error.LongTermServerAuthErrorReason.{LongTermServerAuthErrorReason}

@@ -2,11 +2,11 @@
 use Rattle.std.specs.Prelude.{◌≡◌, ℕ, Bool, ◌&&◌, ◌||◌, nat_eq, true, false, if◌then◌else◌, List, Option, Some, None, is_some, MatchOption}
 use Rattle.std.specs.Cmp.Lexicographic.{pointwise}
 use Rattle.std.specs.Option.{option_or}
-use Rattle.stun_types_wire.specs.declared.algorithm.IntegrityAlgorithm.{IntegrityAlgorithm}
-use Rattle.stun_types_wire.specs.Attributes.{kind_at}
-use Rattle.stun_types_wire.specs.Types.{class_of, is_response_class}
-use Rattle.stun_types_integrity.specs.Credentials.{Key, long_term_key}
-use Rattle.stun_types_integrity.specs.Integrity.{Validates}
+use Rattle.stun_proto_auth.specs.Wire.declared.algorithm.IntegrityAlgorithm.{IntegrityAlgorithm}
+use Rattle.stun_proto_auth.specs.Wire.Attributes.{kind_at}
+use Rattle.stun_proto_auth.specs.Wire.Types.{class_of, is_response_class}
+use Rattle.stun_proto_auth.specs.Integrity.Credentials.{Key, long_term_key}
+use Rattle.stun_proto_auth.specs.Integrity.Integrity.{Validates}
 use Rattle.stun_proto_verify.specs.declared.error.LongTermServerAuthError.{LongTermServerAuthError}
 use Rattle.stun_proto_verify.specs.declared.error.LongTermServerAuthError.TheVariants.{Unauthorized, IntegrityFailed, BadRequest, StaleNonce}
 use Rattle.stun_proto_auth.specs.Claims.{Claimed, claimed}

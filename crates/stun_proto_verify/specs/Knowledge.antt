@@ -1,6 +1,6 @@
 -- What a server knows when it checks a message, and the outcome of the check (RFC 8489, section 9.2.4).
 use Rattle.std.specs.Prelude.{ℕ, List, Option}
-use Rattle.stun_types_wire.specs.declared.algorithm.IntegrityAlgorithm.{IntegrityAlgorithm}
+use Rattle.stun_proto_auth.specs.Wire.declared.algorithm.IntegrityAlgorithm.{IntegrityAlgorithm}
 use Rattle.stun_proto_auth.specs.declared.feature.Feature.{Feature}
 
 -- A user of a server.

@@ -1,7 +1,7 @@
 -- The stored keys of a user in a realm.
 use Rattle.std.specs.Prelude.{◌≡◌}
-use Rattle.stun_types_wire.specs.declared.algorithm.IntegrityAlgorithm.TheVariants.{Sha1, Sha256, Sha512}
-use Rattle.stun_types_integrity.specs.Credentials.{LongTermSecret, long_term_key}
+use Rattle.stun_proto_auth.specs.Wire.declared.algorithm.IntegrityAlgorithm.TheVariants.{Sha1, Sha256, Sha512}
+use Rattle.stun_proto_auth.specs.Integrity.Credentials.{LongTermSecret, long_term_key}
 use Rattle.stun_proto_verify.specs.declared.keys.UserKeys.{UserKeys}
 
 -- The keys are those derived from a user's name, password and realm, one for each algorithm.

@@ -2,19 +2,20 @@
 
 ghost use Rattle.std.specs.Prelude.{◌≡◌, ◌==◌, Some, None, MatchResult};
 ghost use Rattle.std.specs.Option.{option_copied, option_map};
-ghost use Rattle.stun_types_auth_attributes.specs.PasswordAlgorithmNumbers.{number_of};
+ghost use Rattle.stun_proto_auth.specs.AuthAttributes.PasswordAlgorithmNumbers.{number_of};
 ghost use Rattle.stun_proto_auth.specs.Nonce.{takes_anonymous_username};
 ghost use Rattle.stun_proto_auth.specs.SupportedAlgorithms.{number_by};
 ghost use Rattle.stun_proto_verify.specs.Consistency.{fits_visible, is_consistent};
-ghost use Rattle.stun_proto_verify.specs.Judgement.{algorithms_refusal, integrity_refusal, names_user, nonce_refusal, parts_refusal};
+ghost use Rattle.stun_proto_verify.specs.Judgement.{algorithms_refusal, integrity_refusal};
+ghost use Rattle.stun_proto_verify.specs.Judgement.{names_user, nonce_refusal, parts_refusal};
 
 use crate::error::LongTermServerAuthError;
 use crate::known::Known;
+use crate::stun_types_auth_attributes::algorithm::PasswordAlgorithmValue;
+use crate::stun_types_wire::algorithm::IntegrityAlgorithm;
 use stun_proto_auth::claim::Claim;
 use stun_proto_auth::feature::Feature;
 use stun_proto_auth::supported::SupportedIntegrity;
-use stun_types_auth_attributes::algorithm::PasswordAlgorithmValue;
-use stun_types_wire::algorithm::IntegrityAlgorithm;
 
 /// Returns the algorithm of the last integrity attribute. Fails with `Unauthorized` if there is
 /// none.

@@ -3,10 +3,10 @@
 ghost use Rattle.std.specs.Prelude.{◌≡◌};
 ghost use Rattle.stun_proto_verify.specs.AuthErrors.{digest_error, integrity_of, reason_of};
 
+use crate::stun_types_base::memory::NoMemory;
+use crate::stun_types_wire::algorithm::IntegrityAlgorithm;
+use crate::stun_types_wire::error::ValidateError;
 use std::alloc::AllocError;
-use stun_types_base::memory::NoMemory;
-use stun_types_wire::algorithm::IntegrityAlgorithm;
-use stun_types_wire::error::ValidateError;
 use thiserror::Error;
 
 /// Why a message is not validated: the kind of error, without its data.

@@ -1,22 +1,24 @@
 //! The decision whether a message is accepted.
 
-ghost use Rattle.std.specs.Prelude.{◌≡◌, ◌≢◌, ℕ, List, Some, None, Err, IfOk, IfErr, IfSome, OnOk, MatchResult, false};
-ghost use Rattle.stun_types_wire.specs.Grammar.{visible};
-ghost use Rattle.stun_types_message.specs.MessageValidation.{last_algorithm};
-ghost use Rattle.stun_types_wire.specs.declared.algorithm.IntegrityAlgorithm.{IntegrityAlgorithm as Algorithm};
-ghost use Rattle.stun_types_integrity.specs.Integrity.{Validates};
+ghost use Rattle.std.specs.Prelude.{◌≡◌, ◌≢◌, ℕ, List, Some, None, Err, IfOk, IfErr, IfSome, OnOk};
+ghost use Rattle.std.specs.Prelude.{MatchResult, false};
+ghost use Rattle.stun_proto_auth.specs.Wire.Grammar.{visible};
+ghost use Rattle.stun_proto_auth.specs.Message.MessageValidation.{last_algorithm};
+ghost use Rattle.stun_proto_auth.specs.Wire.declared.algorithm.IntegrityAlgorithm.{IntegrityAlgorithm as Algorithm};
+ghost use Rattle.stun_proto_auth.specs.Integrity.Integrity.{Validates};
 ghost use Rattle.stun_proto_auth.specs.Claims.{claimed};
-ghost use Rattle.stun_proto_verify.specs.Judgement.{IsAccepted, IsRefused, ServerAccepts, full_key, is_response, unnamed_refusal, user_key};
+ghost use Rattle.stun_proto_verify.specs.Judgement.{IsAccepted, IsRefused, ServerAccepts, full_key};
+ghost use Rattle.stun_proto_verify.specs.Judgement.{is_response, unnamed_refusal, user_key};
 
 use crate::check::{check_algorithms, check_integrity, check_nonce, check_parts};
 use crate::error::LongTermServerAuthError;
 use crate::known::Known;
+use crate::stun_types_integrity::key::IntegrityKey;
+use crate::stun_types_message::parsed::Message;
+use crate::stun_types_wire::algorithm::IntegrityAlgorithm;
 use crate::user::ValidatedUser;
 use std::alloc::Global;
 use stun_proto_auth::claim::Claim;
-use stun_types_integrity::key::IntegrityKey;
-use stun_types_message::parsed::Message;
-use stun_types_wire::algorithm::IntegrityAlgorithm;
 
 /// Decides whether the server accepts a message as one of its user's, from the message's claim and
 /// what the server knows. The message must not be a response. Returns the user and the algorithm of

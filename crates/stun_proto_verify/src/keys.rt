@@ -1,11 +1,11 @@
 //! The keys of a user in a realm.
 
 ghost use Rattle.std.specs.Prelude.{◌≡◌};
-ghost use Rattle.stun_types_integrity.specs.Credentials.{LongTermSecret, long_term_key};
+ghost use Rattle.stun_proto_auth.specs.Integrity.Credentials.{LongTermSecret, long_term_key};
 ghost use Rattle.stun_proto_verify.specs.UserKeys.{AreKeysOf};
 
-use stun_types_integrity::key::IntegrityKey;
-use stun_types_wire::algorithm::IntegrityAlgorithm;
+use crate::stun_types_integrity::key::IntegrityKey;
+use crate::stun_types_wire::algorithm::IntegrityAlgorithm;
 
 /// The keys of a user in a realm, one for each algorithm, derived once and stored as long as the
 /// user exists.

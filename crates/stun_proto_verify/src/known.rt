@@ -2,16 +2,16 @@
 
 ghost use Rattle.std.specs.Prelude.{◌≡◌, IfSome};
 ghost use Rattle.std.specs.Option.{option_copied};
-ghost use Rattle.stun_types_integrity.specs.Credentials.{long_term_key};
+ghost use Rattle.stun_proto_auth.specs.Integrity.Credentials.{long_term_key};
 ghost use Rattle.stun_proto_auth.specs.declared.feature.Feature.TheVariants.{Auto};
 ghost use Rattle.stun_proto_verify.specs.UserKeys.{AreKeysOf};
 
 use crate::keys::UserKeys;
+use crate::stun_types_integrity::key::IntegrityKey;
+use crate::stun_types_wire::algorithm::IntegrityAlgorithm;
 use std::marker::Model;
 use stun_proto_auth::feature::Feature;
 use stun_proto_auth::supported::SupportedIntegrity;
-use stun_types_integrity::key::IntegrityKey;
-use stun_types_wire::algorithm::IntegrityAlgorithm;
 
 /// The stored keys of a user, and the realm for which they were derived.
 #[derive(Debug, Drop)]

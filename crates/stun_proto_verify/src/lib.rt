@@ -8,3 +8,9 @@ pub mod judgement;
 pub mod keys;
 pub mod known;
 pub mod user;
+
+pub use stun_proto_auth;
+pub use stun_proto_auth::{
+    stun_types_add, stun_types_auth_attributes, stun_types_base, stun_types_integrity,
+    stun_types_message, stun_types_wire, stun_types_write,
+};

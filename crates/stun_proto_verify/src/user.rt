@@ -3,8 +3,8 @@
 ghost use Rattle.std.specs.Prelude.{◌≡◌};
 ghost use Rattle.std.specs.String.{string_bytes};
 
+use crate::stun_types_wire::algorithm::IntegrityAlgorithm;
 use std::marker::Model;
-use stun_types_wire::algorithm::IntegrityAlgorithm;
 
 /// The user under whose key a message was validated, and the algorithm that was used. Contracts see
 /// the bytes of the name and the algorithm.

@@ -1,20 +1,20 @@
 -- How adding an attribute changes a draft.
 use Rattle.std.proofs.Common.{◌≡◌, ℕ, ◌+◌, ◌-◌, ◌≤◌, List, ◌++◌, length, refl, sym, ap, subst, ◌∙◌, arith}
 use Rattle.std.specs.Prelude.{IfSome}
-use Rattle.stun_types_wire.specs.declared.algorithm.IntegrityAlgorithm.{IntegrityAlgorithm}
-use Rattle.stun_types_wire.specs.declared.algorithm.IntegrityAlgorithm.TheVariants.{Sha1, Sha256, Sha512}
-use Rattle.stun_types_wire.specs.Attributes.{Attr, attr_size, padded}
-use Rattle.stun_types_wire.specs.Covered.{with_length}
-use Rattle.stun_types_wire.specs.Fingerprints.{fingerprint_of, fingerprint_value}
-use Rattle.stun_types_wire.specs.Registry.{fingerprint_kind}
-use Rattle.stun_types_wire.specs.Text.{attribute_text}
-use Rattle.stun_types_write.specs.Adding.{attr_of, IsStarted}
-use Rattle.stun_types_wire.specs.Registry.{greatest_size}
+use Rattle.stun_types_integrity.specs.Wire.declared.algorithm.IntegrityAlgorithm.{IntegrityAlgorithm}
+use Rattle.stun_types_integrity.specs.Wire.declared.algorithm.IntegrityAlgorithm.TheVariants.{Sha1, Sha256, Sha512}
+use Rattle.stun_types_integrity.specs.Wire.Attributes.{Attr, attr_size, padded}
+use Rattle.stun_types_integrity.specs.Wire.Covered.{with_length}
+use Rattle.stun_types_integrity.specs.Wire.Fingerprints.{fingerprint_of, fingerprint_value}
+use Rattle.stun_types_integrity.specs.Wire.Registry.{fingerprint_kind}
+use Rattle.stun_types_integrity.specs.Wire.Text.{attribute_text}
+use Rattle.stun_types_integrity.specs.Write.Adding.{attr_of, IsStarted}
+use Rattle.stun_types_integrity.specs.Wire.Registry.{greatest_size}
 use Rattle.stun_types_integrity.specs.Integrity.{attribute_kind, integrity_hmac}
 use Rattle.stun_types_integrity.specs.Signing.{hmac_length, signature, text_to_sign}
 use Rattle.stun_types_add.proofs.Adds.{added as bytes_added, added_started, added_text, length-with_length, long_enough, pushed_long as bytes_long, with_length-append}
-use Rattle.stun_types_write.specs.Drafts.{Draft, HasRoom, pushed_attribute, with_bytes}
-use Rattle.stun_types_write.specs.Outcomes.{IsAdded, added}
+use Rattle.stun_types_integrity.specs.Write.Drafts.{Draft, HasRoom, pushed_attribute, with_bytes}
+use Rattle.stun_types_integrity.specs.Write.Outcomes.{IsAdded, added}
 
 -- An attribute is added if it is pushed and the length field is then set to count through it.
 pub is_added : (old middle new : Draft) (a : Attr) (end : ℕ) → IsStarted old.bytes → middle ≡ pushed_attribute a old → end ≡ length old.bytes + attr_size a → end ≤ greatest_size

@@ -2,14 +2,14 @@
 use Rattle.std.proofs.Common.{◌≡◌, ℕ, ◌+◌, ◌-◌, ◌*◌, ◌/◌, ◌%◌, ◌^◌, ◌<◌, ◌≤◌, true, not, ltb, List, [], ◌∷◌, ◌++◌, length, get_or, replicate, None, refl, sym, ap, ◌∙◌, append_assoc, Fits, w8, arith, inl, inr}
 use Rattle.std.proofs.lemmas.Bool.{cases_Bool, ltb-false, le-ltb, lt-ltb}
 use Rattle.std.proofs.lemmas.List.{length-append, length-replicate, append-nil}
-use Rattle.stun_types_wire.specs.Attributes.{Attr, padded, padding_len, attr_size}
-use Rattle.stun_types_wire.specs.Grammar.{may_begin, header_refusal}
-use Rattle.stun_types_wire.specs.Text.{header_text, padded_text, attribute_text, body_text, message_text}
-use Rattle.stun_types_write.specs.Adding.{attr_of, after_add, IsStarted}
-use Rattle.stun_types_wire.specs.Registry.{greatest_size}
-use Rattle.stun_types_wire.specs.Covered.{with_length}
+use Rattle.stun_types_integrity.specs.Wire.Attributes.{Attr, padded, padding_len, attr_size}
+use Rattle.stun_types_integrity.specs.Wire.Grammar.{may_begin, header_refusal}
+use Rattle.stun_types_integrity.specs.Wire.Text.{header_text, padded_text, attribute_text, body_text, message_text}
+use Rattle.stun_types_integrity.specs.Write.Adding.{attr_of, after_add, IsStarted}
+use Rattle.stun_types_integrity.specs.Wire.Registry.{greatest_size}
+use Rattle.stun_types_integrity.specs.Wire.Covered.{with_length}
 use Rattle.stun_types_integrity.specs.Signing.{signing_refusal}
-use Rattle.stun_types_write.specs.Adding.{add_refusal, fingerprint_add_refusal}
+use Rattle.stun_types_integrity.specs.Write.Adding.{add_refusal, fingerprint_add_refusal}
 
 -- ---- headers
 

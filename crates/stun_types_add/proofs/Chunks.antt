@@ -2,7 +2,7 @@
 use Rattle.std.proofs.Common.{◌≡◌, ℕ, ◌≤◌, List, [], ◌∷◌, ◌++◌, length, drop, get_or, refl, arith}
 use Rattle.std.proofs.lemmas.List.{append-nil}
 use Rattle.byteorder.specs.Endian.{big_bytes}
-use Rattle.stun_types_wire.specs.Covered.{with_length}
+use Rattle.stun_types_integrity.specs.Wire.Covered.{with_length}
 
 -- The type, the new length, the bytes after them and an empty chunk are the message with the length field
 -- changed.

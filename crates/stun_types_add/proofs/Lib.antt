@@ -6,3 +6,6 @@ pub mod Started
 pub mod Chunks
 pub mod Taken
 pub mod Numbers
+-- Re-exports for the crates above this one.
+pub use Rattle.stun_types_integrity.proofs as Integrity
+pub use Rattle.stun_types_integrity.proofs.Write as Write

@@ -1,9 +1,9 @@
 -- How writing a header changes a draft.
 use Rattle.std.proofs.Common.{◌≡◌, ℕ, ◌<◌, ◌^◌, List, [], ◌++◌, drop, length, refl, ap, ◌∙◌, arith}
-use Rattle.stun_types_wire.specs.Text.{body_text, header_text, message_text}
+use Rattle.stun_types_integrity.specs.Wire.Text.{body_text, header_text, message_text}
 use Rattle.stun_types_add.proofs.Adds.{text_started}
-use Rattle.stun_types_write.specs.Drafts.{Draft, pushed}
-use Rattle.stun_types_write.specs.Outcomes.{CanBegin, IsStartedAs}
+use Rattle.stun_types_integrity.specs.Write.Drafts.{Draft, pushed}
+use Rattle.stun_types_integrity.specs.Write.Outcomes.{CanBegin, IsStartedAs}
 
 text_size : (mtype number : ℕ) → length (message_text mtype number []) ≡ 20
 unfolding message_text body_text header_text

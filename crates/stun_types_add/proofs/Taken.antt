@@ -2,14 +2,14 @@
 use Rattle.std.proofs.Common.{◌≡◌, ℕ, ◌+◌, eqb, false, List, [], ◌∷◌, ◌++◌, drop, length, map, None, refl, sym, ap, subst, ◌∙◌, inl, inr}
 use Rattle.std.proofs.lemmas.Bool.{cases_Bool}
 use Rattle.std.proofs.lemmas.List.{drop-drop}
-use Rattle.stun_types_wire.specs.Attributes.{Attr, attr_size}
-use Rattle.stun_types_wire.specs.Shape.{rank}
-use Rattle.stun_types_wire.specs.Registry.{fingerprint_kind, integrity_kind, sha256_kind, sha512_kind}
-use Rattle.stun_types_wire.specs.Text.{message_text}
-use Rattle.stun_types_write.specs.declared.ended.Ended.{Ended}
-use Rattle.stun_types_write.specs.Adding.{add_refusal}
-use Rattle.stun_types_write.specs.Drafts.{Draft, ended_by, none_ended}
-use Rattle.stun_types_write.specs.Outcomes.{IsAdded, IsStartedAs, added}
+use Rattle.stun_types_integrity.specs.Wire.Attributes.{Attr, attr_size}
+use Rattle.stun_types_integrity.specs.Wire.Shape.{rank}
+use Rattle.stun_types_integrity.specs.Wire.Registry.{fingerprint_kind, integrity_kind, sha256_kind, sha512_kind}
+use Rattle.stun_types_integrity.specs.Wire.Text.{message_text}
+use Rattle.stun_types_integrity.specs.Write.declared.ended.Ended.{Ended}
+use Rattle.stun_types_integrity.specs.Write.Adding.{add_refusal}
+use Rattle.stun_types_integrity.specs.Write.Drafts.{Draft, ended_by, none_ended}
+use Rattle.stun_types_integrity.specs.Write.Outcomes.{IsAdded, IsStartedAs, added}
 use Rattle.stun_types_add.specs.Calls.{Add, AreAccepted, IsComposed, IsWritten, Ordinary, after_call, after_calls, attribute_of, attributes_after, refusal_of}
 use Rattle.stun_types_add.proofs.Adds.{length-after_add, one_more}
 

@@ -6,13 +6,13 @@ use Rattle.std.proofs.lemmas.Bool.{cases_Bool, eqb-true, eq-eqb, false_from_ne_t
 use Rattle.std.proofs.lemmas.Slice.Eq.{bytes_eq-Decides}
 use Rattle.byteorder.specs.Endian.{big_bytes, big_number}
 use Rattle.byteorder.specs.Numbers.{big_number-reads_back}
-use Rattle.stun_types_write.specs.Adding.{attr_of}
-use Rattle.stun_types_write.specs.ValueReading.{value_refusal}
-use Rattle.stun_types_write.proofs.Values.{value_is_accepted}
-use Rattle.stun_types_wire.specs.Registry.{fingerprint_mask}
+use Rattle.stun_types_integrity.specs.Write.Adding.{attr_of}
+use Rattle.stun_types_integrity.specs.Write.ValueReading.{value_refusal}
+use Rattle.stun_types_integrity.proofs.Write.Values.{value_is_accepted}
+use Rattle.stun_types_integrity.specs.Wire.Registry.{fingerprint_mask}
 use Rattle.stun_types_add.specs.FingerprintValues.{turned_bytes}
 use Rattle.stun_types_add.specs.FingerprintValues.{crc_bytes}
-use Rattle.stun_types_wire.specs.Fingerprints.{fingerprint_value}
+use Rattle.stun_types_integrity.specs.Wire.Fingerprints.{fingerprint_value}
 
 -- Encoding the number decoded from four bytes gives these bytes.
 pub bytes_again : (bytes : List ℕ) (n : ℕ) → length bytes ≡ 4 → ((k : ℕ) → slice_index bytes k < 256) → n ≡ big_number 4 bytes → big_bytes 4 n ≡ bytes

@@ -1,14 +1,14 @@
 -- The bytes of a writer of any kind after some calls (RFC 8489, sections 5 and 14).
 use Rattle.std.specs.Prelude.{◌≡◌, ℕ, List, [], ◌∷◌, ◌++◌, drop, length, map, Option, None, ⊤}
-use Rattle.stun_types_wire.specs.declared.algorithm.IntegrityAlgorithm.{IntegrityAlgorithm}
-use Rattle.stun_types_wire.specs.declared.error.StunWriteError.{StunWriteError}
-use Rattle.stun_types_wire.specs.Attributes.{Attr, attr_size}
-use Rattle.stun_types_wire.specs.Fingerprints.{fingerprint_of}
-use Rattle.stun_types_wire.specs.Shape.{rank}
-use Rattle.stun_types_wire.specs.Text.{FitsAttribute, message_text}
-use Rattle.stun_types_write.specs.Adding.{IsStarted, add_refusal, fingerprint_add_refusal}
-use Rattle.stun_types_write.specs.Drafts.{Draft, none_ended}
-use Rattle.stun_types_write.specs.Outcomes.{IsStartedAs, added}
+use Rattle.stun_types_integrity.specs.Wire.declared.algorithm.IntegrityAlgorithm.{IntegrityAlgorithm}
+use Rattle.stun_types_integrity.specs.Wire.declared.error.StunWriteError.{StunWriteError}
+use Rattle.stun_types_integrity.specs.Wire.Attributes.{Attr, attr_size}
+use Rattle.stun_types_integrity.specs.Wire.Fingerprints.{fingerprint_of}
+use Rattle.stun_types_integrity.specs.Wire.Shape.{rank}
+use Rattle.stun_types_integrity.specs.Wire.Text.{FitsAttribute, message_text}
+use Rattle.stun_types_integrity.specs.Write.Adding.{IsStarted, add_refusal, fingerprint_add_refusal}
+use Rattle.stun_types_integrity.specs.Write.Drafts.{Draft, none_ended}
+use Rattle.stun_types_integrity.specs.Write.Outcomes.{IsStartedAs, added}
 use Rattle.stun_types_integrity.specs.Signing.{signature, signing_refusal}
 
 -- A call that adds an attribute, the integrity attribute of an algorithm under the bytes of a key, or a

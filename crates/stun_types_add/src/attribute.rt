@@ -1,28 +1,29 @@
 //! FINGERPRINT (RFC 8489, section 14.7).
 
 ghost use Rattle.std.specs.Prelude.{◌≡◌, ◌≤◌, None, length, bit_xor, bytes_eq, MatchResult};
-ghost use Rattle.stun_types_write.specs.ValueReading.{IsNamed};
+ghost use Rattle.stun_types_integrity.specs.Write.ValueReading.{IsNamed};
 ghost use Rattle.byteorder.specs.Endian.{big_bytes, big_number};
-ghost use Rattle.stun_types_wire.specs.Covered.{with_length};
-ghost use Rattle.stun_types_wire.specs.Fingerprints.{fingerprint_value};
-ghost use Rattle.stun_types_wire.specs.Registry.{fingerprint_mask, fingerprint_kind, header_size};
+ghost use Rattle.stun_types_integrity.specs.Wire.Covered.{with_length};
+ghost use Rattle.stun_types_integrity.specs.Wire.Fingerprints.{fingerprint_value};
+ghost use Rattle.stun_types_integrity.specs.Wire.Registry.{fingerprint_mask, fingerprint_kind};
+ghost use Rattle.stun_types_integrity.specs.Wire.Registry.{header_size};
 ghost use Rattle.stun_types_add.specs.FingerprintValues.{crc_bytes, turned_bytes};
-ghost use Rattle.stun_types_write.specs.ValueReading.{value_refusal};
+ghost use Rattle.stun_types_integrity.specs.Write.ValueReading.{value_refusal};
 
+use crate::stun_types_base::memory::NoMemory;
+use crate::stun_types_digest::crc::Crc32;
+use crate::stun_types_wire::attribute::{AttributeType, RawAttribute};
+use crate::stun_types_wire::error::StunParseError;
+use crate::stun_types_wire::registry;
+use crate::stun_types_write::attribute::{
+    Attribute, AttributeFromRaw, AttributeStaticType, AttributeWrite,
+};
+use crate::stun_types_write::reading::value_of;
+use crate::stun_types_write::text::{head_decoded, write_attribute};
 use byteorder::{BigEndian, ByteOrder};
 use std::alloc::Global;
 use std::convert::TryFrom;
 use std::marker::Model;
-use stun_types_base::memory::NoMemory;
-use stun_types_digest::crc::Crc32;
-use stun_types_wire::attribute::{AttributeType, RawAttribute};
-use stun_types_wire::error::StunParseError;
-use stun_types_wire::registry;
-use stun_types_write::attribute::{
-    Attribute, AttributeFromRaw, AttributeStaticType, AttributeWrite,
-};
-use stun_types_write::reading::value_of;
-use stun_types_write::text::{head_decoded, write_attribute};
 
 /// The FINGERPRINT of a message: the CRC-32 of the bytes before the attribute, with the header's
 /// length field counting through the attribute (RFC 8489, section 14.7). Contracts see the CRC-32
@@ -147,9 +148,9 @@ impl AttributeWrite for Fingerprint {
 /// 3. `TooLarge`: the value has more than four bytes.
 impl<'a, 'raw> TryFrom<&'raw RawAttribute<'a>> for Fingerprint {
     ghost use Rattle.std.specs.Prelude.{◌≡◌, MatchResult, Some, None, bit_xor};
-    ghost use Rattle.stun_types_write.specs.ValueReading.{IsNamed};
+    ghost use Rattle.stun_types_integrity.specs.Write.ValueReading.{IsNamed};
     ghost use Rattle.byteorder.specs.Endian.{big_number};
-    ghost use Rattle.stun_types_write.specs.ValueReading.{value_refusal};
+    ghost use Rattle.stun_types_integrity.specs.Write.ValueReading.{value_refusal};
     ghost use Rattle.stun_types_add.specs.FingerprintValues.{turned_bytes};
 
     type Error = StunParseError;
@@ -169,7 +170,7 @@ impl<'a, 'raw> TryFrom<&'raw RawAttribute<'a>> for Fingerprint {
 /// Fails as `try_from` does. It allocates no memory.
 impl<'a> AttributeFromRaw<'a> for Fingerprint {
     ghost use Rattle.std.specs.Prelude.{false};
-    ghost use Rattle.stun_types_write.specs.ValueReading.{value_refusal};
+    ghost use Rattle.stun_types_integrity.specs.Write.ValueReading.{value_refusal};
 
     ghost read_refusal = { value_refusal fingerprint_kind 4 4 };
 

@@ -1,29 +1,30 @@
 //! The header fields of a message being written, and the calls that add attributes, for any writer.
 
 ghost use Rattle.std.specs.Prelude.{◌≡◌, ◌↔◌, IsTrue, OnErr, OnOk, None};
-ghost use Rattle.stun_types_base.specs.Refusals.{RefusesFor};
-ghost use Rattle.stun_types_wire.specs.Attributes.{attr_size, kind_at};
-ghost use Rattle.stun_types_wire.specs.Shape.{rank};
-ghost use Rattle.stun_types_wire.specs.Fingerprints.{fingerprint_of};
-ghost use Rattle.stun_types_wire.specs.Types.{class_of, method_of, is_response_class};
-ghost use Rattle.stun_types_wire.specs.Grammar.{header_at, header_refusal, number_at};
-ghost use Rattle.stun_types_write.specs.Adding.{attr_of, add_refusal, fingerprint_add_refusal, IsStarted};
-ghost use Rattle.stun_types_write.specs.Outcomes.{TakesNoMemory, IsAdded};
+ghost use Rattle.stun_types_integrity.specs.Base.Refusals.{RefusesFor};
+ghost use Rattle.stun_types_integrity.specs.Wire.Attributes.{attr_size, kind_at};
+ghost use Rattle.stun_types_integrity.specs.Wire.Shape.{rank};
+ghost use Rattle.stun_types_integrity.specs.Wire.Fingerprints.{fingerprint_of};
+ghost use Rattle.stun_types_integrity.specs.Wire.Types.{class_of, method_of, is_response_class};
+ghost use Rattle.stun_types_integrity.specs.Wire.Grammar.{header_at, header_refusal, number_at};
+ghost use Rattle.stun_types_integrity.specs.Write.Adding.{attr_of, add_refusal};
+ghost use Rattle.stun_types_integrity.specs.Write.Adding.{fingerprint_add_refusal, IsStarted};
+ghost use Rattle.stun_types_integrity.specs.Write.Outcomes.{TakesNoMemory, IsAdded};
 ghost use Rattle.stun_types_integrity.specs.Keys.{key_of};
 ghost use Rattle.stun_types_integrity.specs.Signing.{signature, signing_refusal};
 
 use crate::fingerprint::mark;
 use crate::room::end_of_add;
 use crate::signing::sign;
+use crate::stun_types_wire::algorithm::IntegrityAlgorithm;
+use crate::stun_types_wire::class::{MessageClass, MessageType, Method};
+use crate::stun_types_wire::error::StunWriteError;
+use crate::stun_types_wire::header::MessageHeader;
+use crate::stun_types_wire::transaction::TransactionId;
+use crate::stun_types_write::attribute::{Attribute, AttributeWrite};
+use crate::stun_types_write::writer::MessageWrite;
 use stun_types_integrity::credentials::MessageIntegrityCredentials;
 use stun_types_integrity::key::IntegrityKey;
-use stun_types_wire::algorithm::IntegrityAlgorithm;
-use stun_types_wire::class::{MessageClass, MessageType, Method};
-use stun_types_wire::error::StunWriteError;
-use stun_types_wire::header::MessageHeader;
-use stun_types_wire::transaction::TransactionId;
-use stun_types_write::attribute::{Attribute, AttributeWrite};
-use stun_types_write::writer::MessageWrite;
 
 /// Reads the header of a message that was started in a writer, and adds attributes to it. Every
 /// writer implements it.

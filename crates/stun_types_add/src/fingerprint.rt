@@ -1,18 +1,18 @@
 //! Adds FINGERPRINT at the end of a message (RFC 8489, section 14.7).
 
 ghost use Rattle.std.specs.Prelude.{◌≡◌, OnOk, OnErr};
-ghost use Rattle.stun_types_wire.specs.Fingerprints.{fingerprint_of};
-ghost use Rattle.stun_types_write.specs.Adding.{IsStarted, fingerprint_add_refusal};
-ghost use Rattle.stun_types_write.specs.Outcomes.{TakesNoMemory, IsAdded};
-ghost use Rattle.stun_types_base.specs.Refusals.{RefusesFor};
+ghost use Rattle.stun_types_integrity.specs.Wire.Fingerprints.{fingerprint_of};
+ghost use Rattle.stun_types_integrity.specs.Write.Adding.{IsStarted, fingerprint_add_refusal};
+ghost use Rattle.stun_types_integrity.specs.Write.Outcomes.{TakesNoMemory, IsAdded};
+ghost use Rattle.stun_types_integrity.specs.Base.Refusals.{RefusesFor};
 
 use crate::attribute::Fingerprint;
 use crate::room::end_of_add;
 use crate::signing::push_as;
-use stun_types_wire::error::StunWriteError;
-use stun_types_wire::header::MessageHeader;
-use stun_types_wire::registry::FINGERPRINT_SIZE;
-use stun_types_write::writer::MessageWrite;
+use crate::stun_types_wire::error::StunWriteError;
+use crate::stun_types_wire::header::MessageHeader;
+use crate::stun_types_wire::registry::FINGERPRINT_SIZE;
+use crate::stun_types_write::writer::MessageWrite;
 
 /// Adds a FINGERPRINT. Its errors are listed at `MessageWriteExt::add_fingerprint`.
 #[tactic(auto, using(crate::proofs::Adds::long), unfolding(crate::proofs::Adds::refusals))]

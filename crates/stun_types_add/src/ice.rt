@@ -2,23 +2,25 @@
 //! ICE-CONTROLLED and ICE-CONTROLLING.
 
 ghost use Rattle.std.specs.Prelude.{◌≡◌, None, length, MatchResult};
-ghost use Rattle.stun_types_write.specs.ValueReading.{IsNamed, value_refusal};
+ghost use Rattle.stun_types_integrity.specs.Write.ValueReading.{IsNamed, value_refusal};
 ghost use Rattle.byteorder.specs.Endian.{big_bytes, big_number};
-ghost use Rattle.stun_types_wire.specs.Registry.{priority_kind, use_candidate_kind, ice_controlled_kind, ice_controlling_kind};
+ghost use Rattle.stun_types_integrity.specs.Wire.Registry.{priority_kind, use_candidate_kind};
+ghost use Rattle.stun_types_integrity.specs.Wire.Registry.{ice_controlled_kind};
+ghost use Rattle.stun_types_integrity.specs.Wire.Registry.{ice_controlling_kind};
 
+use crate::stun_types_base::memory::NoMemory;
+use crate::stun_types_wire::attribute::{AttributeType, RawAttribute};
+use crate::stun_types_wire::error::StunParseError;
+use crate::stun_types_wire::registry;
+use crate::stun_types_write::attribute::{
+    Attribute, AttributeFromRaw, AttributeStaticType, AttributeWrite,
+};
+use crate::stun_types_write::reading::value_of;
+use crate::stun_types_write::text::write_attribute;
 use byteorder::{BigEndian, ByteOrder};
 use std::alloc::Global;
 use std::convert::TryFrom;
 use std::marker::Model;
-use stun_types_base::memory::NoMemory;
-use stun_types_wire::attribute::{AttributeType, RawAttribute};
-use stun_types_wire::error::StunParseError;
-use stun_types_wire::registry;
-use stun_types_write::attribute::{
-    Attribute, AttributeFromRaw, AttributeStaticType, AttributeWrite,
-};
-use stun_types_write::reading::value_of;
-use stun_types_write::text::write_attribute;
 
 /// The priority that a peer-reflexive candidate would have that is learned from the check (RFC 8445,
 /// sections 5.1.2 and 7.1.1). Section 5.1.2 requires a number from 1 to 2^31 - 1; as an attribute any
@@ -94,7 +96,7 @@ impl AttributeWrite for Priority {
 /// 3. `TooLarge`: the value has more than four bytes.
 impl<'a, 'raw> TryFrom<&'raw RawAttribute<'a>> for Priority {
     ghost use Rattle.std.specs.Prelude.{◌≡◌, MatchResult, None};
-    ghost use Rattle.stun_types_write.specs.ValueReading.{IsNamed, value_refusal};
+    ghost use Rattle.stun_types_integrity.specs.Write.ValueReading.{IsNamed, value_refusal};
     ghost use Rattle.byteorder.specs.Endian.{big_number};
 
     type Error = StunParseError;
@@ -113,7 +115,7 @@ impl<'a, 'raw> TryFrom<&'raw RawAttribute<'a>> for Priority {
 /// Fails as `try_from` does. It allocates no memory.
 impl<'a> AttributeFromRaw<'a> for Priority {
     ghost use Rattle.std.specs.Prelude.{false};
-    ghost use Rattle.stun_types_write.specs.ValueReading.{value_refusal};
+    ghost use Rattle.stun_types_integrity.specs.Write.ValueReading.{value_refusal};
 
     ghost read_refusal = { value_refusal priority_kind 4 4 };
 
@@ -192,7 +194,7 @@ impl AttributeWrite for UseCandidate {
 /// 2. `TooLarge`: the value is not empty.
 impl<'a, 'raw> TryFrom<&'raw RawAttribute<'a>> for UseCandidate {
     ghost use Rattle.std.specs.Prelude.{◌≡◌, MatchResult, None};
-    ghost use Rattle.stun_types_write.specs.ValueReading.{IsNamed, value_refusal};
+    ghost use Rattle.stun_types_integrity.specs.Write.ValueReading.{IsNamed, value_refusal};
 
     type Error = StunParseError;
 
@@ -209,7 +211,7 @@ impl<'a, 'raw> TryFrom<&'raw RawAttribute<'a>> for UseCandidate {
 /// Fails as `try_from` does. It allocates no memory.
 impl<'a> AttributeFromRaw<'a> for UseCandidate {
     ghost use Rattle.std.specs.Prelude.{[], false};
-    ghost use Rattle.stun_types_write.specs.ValueReading.{value_refusal};
+    ghost use Rattle.stun_types_integrity.specs.Write.ValueReading.{value_refusal};
 
     ghost read_refusal = { value_refusal use_candidate_kind 0 0 };
 
@@ -229,7 +231,7 @@ impl<'a> AttributeFromRaw<'a> for UseCandidate {
         UseCandidate::from_raw_ref(alloc, &raw)
     }
 
-    #[tactic(auto, using(stun_types_write::proofs::Values::value_is_accepted))]
+    #[tactic(auto, using(stun_types_integrity::proofs::Write::Values::value_is_accepted))]
     fn proof_is_read_back(&self, _read: &UseCandidate) {}
 }
 
@@ -307,7 +309,7 @@ impl AttributeWrite for IceControlled {
 /// 3. `TooLarge`: the value has more than eight bytes.
 impl<'a, 'raw> TryFrom<&'raw RawAttribute<'a>> for IceControlled {
     ghost use Rattle.std.specs.Prelude.{◌≡◌, MatchResult, None};
-    ghost use Rattle.stun_types_write.specs.ValueReading.{IsNamed, value_refusal};
+    ghost use Rattle.stun_types_integrity.specs.Write.ValueReading.{IsNamed, value_refusal};
     ghost use Rattle.byteorder.specs.Endian.{big_number};
 
     type Error = StunParseError;
@@ -326,7 +328,7 @@ impl<'a, 'raw> TryFrom<&'raw RawAttribute<'a>> for IceControlled {
 /// Fails as `try_from` does. It allocates no memory.
 impl<'a> AttributeFromRaw<'a> for IceControlled {
     ghost use Rattle.std.specs.Prelude.{false};
-    ghost use Rattle.stun_types_write.specs.ValueReading.{value_refusal};
+    ghost use Rattle.stun_types_integrity.specs.Write.ValueReading.{value_refusal};
 
     ghost read_refusal = { value_refusal ice_controlled_kind 8 8 };
 
@@ -430,7 +432,7 @@ impl AttributeWrite for IceControlling {
 /// 3. `TooLarge`: the value has more than eight bytes.
 impl<'a, 'raw> TryFrom<&'raw RawAttribute<'a>> for IceControlling {
     ghost use Rattle.std.specs.Prelude.{◌≡◌, MatchResult, None};
-    ghost use Rattle.stun_types_write.specs.ValueReading.{IsNamed, value_refusal};
+    ghost use Rattle.stun_types_integrity.specs.Write.ValueReading.{IsNamed, value_refusal};
     ghost use Rattle.byteorder.specs.Endian.{big_number};
 
     type Error = StunParseError;
@@ -449,7 +451,7 @@ impl<'a, 'raw> TryFrom<&'raw RawAttribute<'a>> for IceControlling {
 /// Fails as `try_from` does. It allocates no memory.
 impl<'a> AttributeFromRaw<'a> for IceControlling {
     ghost use Rattle.std.specs.Prelude.{false};
-    ghost use Rattle.stun_types_write.specs.ValueReading.{value_refusal};
+    ghost use Rattle.stun_types_integrity.specs.Write.ValueReading.{value_refusal};
 
     ghost read_refusal = { value_refusal ice_controlling_kind 8 8 };
 

@@ -9,3 +9,7 @@ mod fingerprint;
 pub mod ice;
 pub mod room;
 mod signing;
+
+pub use stun_types_integrity;
+pub use stun_types_integrity::stun_types_write;
+use stun_types_integrity::{stun_types_base, stun_types_digest, stun_types_wire};

@@ -1,17 +1,17 @@
 //! Checks on what may be added to a message, and how long it may grow.
 
 ghost use Rattle.std.specs.Prelude.{◌≡◌, ◌≢◌, ◌*◌, ◌≤◌, length, IfErr, MatchResult, None, Some};
-ghost use Rattle.stun_types_wire.specs.Registry.{greatest_size};
-ghost use Rattle.stun_types_write.specs.Outcomes.{Fits, IsTooLong};
+ghost use Rattle.stun_types_integrity.specs.Wire.Registry.{greatest_size};
+ghost use Rattle.stun_types_integrity.specs.Write.Outcomes.{Fits, IsTooLong};
 ghost use Rattle.stun_types_integrity.specs.Signing.{order_refusal};
 
+use crate::stun_types_wire::algorithm::IntegrityAlgorithm;
+use crate::stun_types_wire::error::StunWriteError;
+use crate::stun_types_wire::header::MessageHeader;
+use crate::stun_types_wire::registry::{MAX_DATA_LENGTH, MAX_MESSAGE_LENGTH};
+use crate::stun_types_write::ended::Ended;
+use crate::stun_types_write::writer::MessageWrite;
 use stun_types_integrity::algorithm::attribute_type;
-use stun_types_wire::algorithm::IntegrityAlgorithm;
-use stun_types_wire::error::StunWriteError;
-use stun_types_wire::header::MessageHeader;
-use stun_types_wire::registry::{MAX_DATA_LENGTH, MAX_MESSAGE_LENGTH};
-use stun_types_write::ended::Ended;
-use stun_types_write::writer::MessageWrite;
 
 /// Returns the length of the message after `size` more bytes.
 ///

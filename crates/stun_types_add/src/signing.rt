@@ -1,25 +1,25 @@
 //! Adds an integrity attribute at the end of a message (RFC 8489, sections 14.5 and 14.6).
 
 ghost use Rattle.std.specs.Prelude.{◌≡◌, ◌≤◌, ℕ, length, OnOk, OnErr, IsOk, IsSome};
-ghost use Rattle.stun_types_wire.specs.Attributes.{attr_size};
-ghost use Rattle.stun_types_wire.specs.Covered.{with_length};
-ghost use Rattle.stun_types_write.specs.Adding.{attr_of, IsStarted};
-ghost use Rattle.stun_types_wire.specs.Registry.{greatest_size, header_size};
+ghost use Rattle.stun_types_integrity.specs.Wire.Attributes.{attr_size};
+ghost use Rattle.stun_types_integrity.specs.Wire.Covered.{with_length};
+ghost use Rattle.stun_types_integrity.specs.Write.Adding.{attr_of, IsStarted};
+ghost use Rattle.stun_types_integrity.specs.Wire.Registry.{greatest_size, header_size};
 ghost use Rattle.stun_types_integrity.specs.Signing.{signature, signing_refusal};
-ghost use Rattle.stun_types_write.specs.Drafts.{HasRoom, pushed_attribute};
-ghost use Rattle.stun_types_write.specs.Outcomes.{TakesNoMemory, IsAdded};
-ghost use Rattle.stun_types_base.specs.Refusals.{RefusesFor};
+ghost use Rattle.stun_types_integrity.specs.Write.Drafts.{HasRoom, pushed_attribute};
+ghost use Rattle.stun_types_integrity.specs.Write.Outcomes.{TakesNoMemory, IsAdded};
+ghost use Rattle.stun_types_integrity.specs.Base.Refusals.{RefusesFor};
 
 use crate::room::{end_of_add, may_sign};
-use stun_types_base::memory::NoMemory;
+use crate::stun_types_base::memory::NoMemory;
+use crate::stun_types_wire::algorithm::IntegrityAlgorithm;
+use crate::stun_types_wire::attribute::RawAttribute;
+use crate::stun_types_wire::error::StunWriteError;
+use crate::stun_types_wire::header::MessageHeader;
+use crate::stun_types_write::attribute::{Attribute, AttributeWrite};
+use crate::stun_types_write::writer::MessageWrite;
 use stun_types_integrity::algorithm::{attribute_type, hmac_length};
 use stun_types_integrity::key::IntegrityKey;
-use stun_types_wire::algorithm::IntegrityAlgorithm;
-use stun_types_wire::attribute::RawAttribute;
-use stun_types_wire::error::StunWriteError;
-use stun_types_wire::header::MessageHeader;
-use stun_types_write::attribute::{Attribute, AttributeWrite};
-use stun_types_write::writer::MessageWrite;
 
 /// Adds the integrity attribute of an algorithm under a key. Its errors are listed at
 /// `MessageWriteExt::add_message_integrity_with_key`.

@@ -7,7 +7,7 @@ use Rattle.std.specs.Prelude.{None}
 use Rattle.byteorder.specs.Endian.{big_bytes, big_number}
 use Rattle.byteorder.specs.Numbers.{big_number-reads_back}
 use Rattle.std.proofs.lemmas.Grind.{common_steps}
-use Rattle.stun_types_write.specs.Adding.{attr_of}
+use Rattle.stun_types_auth_attributes.specs.Write.Adding.{attr_of}
 use Rattle.stun_types_attributes.specs.Addresses.{value_of_parts, address_value, address_refusal, address_read_refusal, address_again}
 
 -- The octets of segments that were made of octets are these octets.

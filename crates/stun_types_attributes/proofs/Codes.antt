@@ -1,9 +1,9 @@
 -- An encoded ERROR-CODE is decoded as the same code and reason phrase.
 use Rattle.std.proofs.Common.{◌≡◌, ℕ, ◌+◌, ◌*◌, ◌/◌, ◌%◌, ◌≤◌, length, None, sym, ap, ◌∙◌, arith}
 use Rattle.std.proofs.lemmas.Grind.{common_steps}
-use Rattle.stun_types_write.specs.Adding.{attr_of}
-use Rattle.stun_types_write.specs.ValueReading.{utf8_refusal}
-use Rattle.stun_types_write.proofs.Values.{value_is_accepted}
+use Rattle.stun_types_auth_attributes.specs.Write.Adding.{attr_of}
+use Rattle.stun_types_auth_attributes.specs.Write.ValueReading.{utf8_refusal}
+use Rattle.stun_types_auth_attributes.proofs.Write.Values.{value_is_accepted}
 use Rattle.stun_types_wire.specs.Registry.{longest_text}
 use Rattle.stun_types_attributes.specs.ErrorCodes.{CodeAndReason, error_value}
 use Rattle.stun_types_attributes.specs.ErrorCodeReading.{code_refusal, error_decoded, error_read_refusal}

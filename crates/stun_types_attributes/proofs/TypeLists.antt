@@ -4,8 +4,8 @@ use Rattle.std.proofs.lemmas.Grind.{common_steps}
 use Rattle.std.proofs.lemmas.List.{length-append}
 use Rattle.byteorder.specs.Endian.{big_bytes}
 use Rattle.stun_types_wire.specs.declared.error.StunWriteError.TheVariants.{TooLarge}
-use Rattle.stun_types_write.specs.Adding.{attr_of, has_kind}
-use Rattle.stun_types_write.proofs.Values.{value_is_accepted}
+use Rattle.stun_types_auth_attributes.specs.Write.Adding.{attr_of, has_kind}
+use Rattle.stun_types_auth_attributes.proofs.Write.Values.{value_is_accepted}
 use Rattle.stun_types_attributes.specs.UnknownTypes.{types_value, types_decoded, odd_refusal, types_read_refusal, types_refusal, with_type}
 use Rattle.stun_types_wire.specs.Registry.{longest_value}
 

@@ -7,7 +7,7 @@ use Rattle.std.proofs.lemmas.Grind.{get_or-set_at}
 use Rattle.std.proofs.lemmas.List.{get_or-replicate, get_or-set_other, get_or_past, get_or_read, length-replicate}
 use Rattle.std.proofs.lemmas.Nat.{one_shl, pow_pos}
 use Rattle.std.proofs.lemmas.Nat.Bits.{and_pow, bit_at-zero, bit_at-lt, bit_at_set_same, bit_at_set_other}
-use Rattle.stun_types_write.specs.Adding.{has_kind}
+use Rattle.stun_types_auth_attributes.specs.Write.Adding.{has_kind}
 use Rattle.stun_types_attributes.specs.TypeMarks.{is_marked}
 use Rattle.stun_types_attributes.specs.UnknownTypes.{types_decoded}
 use Rattle.stun_types_attributes.proofs.TypeLists.{none_decoded}

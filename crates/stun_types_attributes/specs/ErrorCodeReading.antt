@@ -4,7 +4,7 @@ use Rattle.std.specs.Option.{option_or}
 use Rattle.stun_types_wire.specs.declared.error.StunParseError.{StunParseError}
 use Rattle.stun_types_wire.specs.declared.error.StunParseError.TheVariants.{InvalidAttributeData}
 use Rattle.stun_types_wire.specs.Attributes.{Attr}
-use Rattle.stun_types_write.specs.ValueReading.{value_refusal, utf8_refusal}
+use Rattle.stun_types_auth_attributes.specs.Write.ValueReading.{value_refusal, utf8_refusal}
 use Rattle.stun_types_wire.specs.Registry.{longest_text, error_code_kind}
 use Rattle.stun_types_attributes.specs.ErrorCodes.{CodeAndReason}
 

@@ -1,7 +1,7 @@
 -- Sets of attribute types: one bit for each type, in words of 64 bits.
 use Rattle.std.specs.Prelude.{◌≡◌, ℕ, ◌/◌, ◌%◌, ◌==◌, Bool, List, get_or, Option, IfSome}
 use Rattle.std.specs.Int.{bit_at}
-use Rattle.stun_types_write.specs.Adding.{has_kind}
+use Rattle.stun_types_auth_attributes.specs.Write.Adding.{has_kind}
 use Rattle.stun_types_attributes.specs.declared.type_index.TheConstants.{WORD_TYPES}
 
 -- Whether a type is in the set.

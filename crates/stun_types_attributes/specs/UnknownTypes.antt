@@ -7,8 +7,8 @@ use Rattle.stun_types_wire.specs.declared.error.StunParseError.TheVariants.{Inva
 use Rattle.stun_types_wire.specs.declared.error.StunWriteError.{StunWriteError}
 use Rattle.stun_types_wire.specs.declared.error.StunWriteError.TheVariants.{TooLarge}
 use Rattle.stun_types_wire.specs.Attributes.{Attr}
-use Rattle.stun_types_write.specs.Adding.{has_kind}
-use Rattle.stun_types_write.specs.ValueReading.{value_refusal}
+use Rattle.stun_types_auth_attributes.specs.Write.Adding.{has_kind}
+use Rattle.stun_types_auth_attributes.specs.Write.ValueReading.{value_refusal}
 use Rattle.stun_types_wire.specs.Registry.{unknown_attributes_kind, longest_value}
 
 -- The value: the types in order, each in two bytes, the high byte first.

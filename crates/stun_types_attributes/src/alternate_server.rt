@@ -1,22 +1,22 @@
 //! ALTERNATE-SERVER (RFC 8489, section 14.15).
 
 ghost use Rattle.std.specs.Prelude.{Some, ◌≡◌};
-ghost use Rattle.stun_types_write.specs.ValueReading.{IsNamed};
+ghost use Rattle.stun_types_auth_attributes.specs.Write.ValueReading.{IsNamed};
 ghost use Rattle.stun_types_attributes.specs.Addresses.{address_of, address_value};
 ghost use Rattle.stun_types_wire.specs.Registry.{alternate_server_kind};
 
 use crate::socket_addr::MappedSocketAddr;
+use crate::stun_types_base::memory::NoMemory;
+use crate::stun_types_write::attribute::{
+    Attribute, AttributeFromRaw, AttributeStaticType, AttributeWrite,
+};
 use std::alloc::Global;
 use std::convert::TryFrom;
 use std::marker::Model;
 use std::net::SocketAddr;
-use stun_types_base::memory::NoMemory;
 use stun_types_wire::attribute::{AttributeType, RawAttribute};
 use stun_types_wire::error::StunParseError;
 use stun_types_wire::registry;
-use stun_types_write::attribute::{
-    Attribute, AttributeFromRaw, AttributeStaticType, AttributeWrite,
-};
 
 /// The address of another server that the client should try, not xored (RFC 8489, section 14.15).
 /// Contracts see the bytes of the value.
@@ -95,7 +95,7 @@ impl AttributeWrite for AlternateServer {
 /// - `Truncated` or `TooLarge`: the length of the value is not 8 bytes for IPv4, or 20 for IPv6.
 impl<'a, 'raw> TryFrom<&'raw RawAttribute<'a>> for AlternateServer {
     ghost use Rattle.std.specs.Prelude.{◌≡◌, MatchResult, Some, None};
-    ghost use Rattle.stun_types_write.specs.ValueReading.{IsNamed};
+    ghost use Rattle.stun_types_auth_attributes.specs.Write.ValueReading.{IsNamed};
     ghost use Rattle.stun_types_attributes.specs.Addresses.{address_again, address_read_refusal};
 
     type Error = StunParseError;

@@ -1,25 +1,29 @@
 //! ERROR-CODE (RFC 8489, section 14.8).
 
-ghost use Rattle.std.specs.Prelude.{◌≡◌, ◌≤◌, ◌/◌, ◌%◌, ◌∷◌, [], IfOk, None, Some, length, drop, MatchResult};
+ghost use Rattle.std.specs.Prelude.{◌≡◌, ◌≤◌, ◌/◌, ◌%◌, ◌∷◌, [], IfOk, None, Some, length, drop};
+ghost use Rattle.std.specs.Prelude.{MatchResult};
 ghost use Rattle.std.specs.Option.{option_or};
-ghost use Rattle.stun_types_base.specs.Refusals.{RefusesFor};
-ghost use Rattle.stun_types_write.specs.ValueReading.{IsNamed};
-ghost use Rattle.stun_types_wire.specs.Registry.{longest_text, error_code_kind, greatest_code, least_code};
-ghost use Rattle.stun_types_attributes.specs.ErrorCodes.{CodeAndReason, error_refusal, reason_for, reason_of};
-ghost use Rattle.stun_types_attributes.specs.ErrorCodeReading.{code_refusal, error_read_refusal, error_decoded};
-ghost use Rattle.stun_types_write.specs.ValueReading.{utf8_refusal};
+ghost use Rattle.stun_types_wire.specs.Base.Refusals.{RefusesFor};
+ghost use Rattle.stun_types_auth_attributes.specs.Write.ValueReading.{IsNamed};
+ghost use Rattle.stun_types_wire.specs.Registry.{longest_text, error_code_kind, greatest_code};
+ghost use Rattle.stun_types_wire.specs.Registry.{least_code};
+ghost use Rattle.stun_types_attributes.specs.ErrorCodes.{CodeAndReason, error_refusal, reason_for};
+ghost use Rattle.stun_types_attributes.specs.ErrorCodes.{reason_of};
+ghost use Rattle.stun_types_attributes.specs.ErrorCodeReading.{code_refusal, error_read_refusal};
+ghost use Rattle.stun_types_attributes.specs.ErrorCodeReading.{error_decoded};
+ghost use Rattle.stun_types_auth_attributes.specs.Write.ValueReading.{utf8_refusal};
 
+use crate::stun_types_base::memory::NoMemory;
+use crate::stun_types_write::attribute::{
+    Attribute, AttributeFromRaw, AttributeStaticType, AttributeWrite,
+};
+use crate::stun_types_write::reading::{proof_text_is_read, read_text, value_of};
+use crate::stun_types_write::text::write_attribute_in_two;
 use std::alloc::Global;
 use std::marker::Model;
-use stun_types_base::memory::NoMemory;
 use stun_types_wire::attribute::{AttributeType, RawAttribute};
 use stun_types_wire::error::{StunParseError, StunWriteError};
 use stun_types_wire::registry;
-use stun_types_write::attribute::{
-    Attribute, AttributeFromRaw, AttributeStaticType, AttributeWrite,
-};
-use stun_types_write::reading::{proof_text_is_read, read_text, value_of};
-use stun_types_write::text::write_attribute_in_two;
 
 /// Why a request is rejected: a code from 300 to 699, and a reason phrase of at most 763 bytes.
 #[derive(Debug, Drop)]
@@ -271,7 +275,8 @@ impl AttributeWrite for ErrorCode {
 /// - `NoMemory`: an allocation failed.
 impl<'a> AttributeFromRaw<'a> for ErrorCode {
     ghost use Rattle.stun_types_attributes.specs.ErrorCodes.{error_value};
-    ghost use Rattle.stun_types_attributes.specs.ErrorCodeReading.{error_read_refusal, error_decoded};
+    ghost use Rattle.stun_types_attributes.specs.ErrorCodeReading.{error_read_refusal};
+    ghost use Rattle.stun_types_attributes.specs.ErrorCodeReading.{error_decoded};
 
     ghost read_refusal = { error_read_refusal };
 

@@ -10,3 +10,8 @@ pub mod socket_addr;
 mod type_index;
 pub mod unknown_attributes;
 pub mod xor_mapped_address;
+
+pub use stun_types_auth_attributes;
+use stun_types_auth_attributes::stun_types_write;
+pub use stun_types_wire;
+pub use stun_types_wire::stun_types_base;

@@ -1,22 +1,22 @@
 //! MAPPED-ADDRESS (RFC 8489, section 14.1).
 
 ghost use Rattle.std.specs.Prelude.{Some, ◌≡◌};
-ghost use Rattle.stun_types_write.specs.ValueReading.{IsNamed};
+ghost use Rattle.stun_types_auth_attributes.specs.Write.ValueReading.{IsNamed};
 ghost use Rattle.stun_types_attributes.specs.Addresses.{address_of, address_value};
 ghost use Rattle.stun_types_wire.specs.Registry.{mapped_address_kind};
 
 use crate::socket_addr::MappedSocketAddr;
+use crate::stun_types_base::memory::NoMemory;
+use crate::stun_types_write::attribute::{
+    Attribute, AttributeFromRaw, AttributeStaticType, AttributeWrite,
+};
 use std::alloc::Global;
 use std::convert::TryFrom;
 use std::marker::Model;
 use std::net::SocketAddr;
-use stun_types_base::memory::NoMemory;
 use stun_types_wire::attribute::{AttributeType, RawAttribute};
 use stun_types_wire::error::StunParseError;
 use stun_types_wire::registry;
-use stun_types_write::attribute::{
-    Attribute, AttributeFromRaw, AttributeStaticType, AttributeWrite,
-};
 
 /// The address from which the server received the request, not xored (RFC 8489, section 14.1).
 /// Servers send it for clients of RFC 3489. Others use XOR-MAPPED-ADDRESS, since a NAT may change an
@@ -96,7 +96,7 @@ impl AttributeWrite for MappedAddress {
 /// - `Truncated` or `TooLarge`: the length of the value is not 8 bytes for IPv4, or 20 for IPv6.
 impl<'a, 'raw> TryFrom<&'raw RawAttribute<'a>> for MappedAddress {
     ghost use Rattle.std.specs.Prelude.{◌≡◌, MatchResult, Some, None};
-    ghost use Rattle.stun_types_write.specs.ValueReading.{IsNamed};
+    ghost use Rattle.stun_types_auth_attributes.specs.Write.ValueReading.{IsNamed};
     ghost use Rattle.stun_types_attributes.specs.Addresses.{address_again, address_read_refusal};
 
     type Error = StunParseError;

@@ -1,12 +1,16 @@
 //! The parts of an encoded address: its family, its port and its octets.
 
-ghost use Rattle.std.specs.Prelude.{◌≡◌, ◌∷◌, [], ◌+◌, ◌*◌, ◌≤◌, length, slice_index, None, Some, MatchResult};
-ghost use Rattle.stun_types_write.specs.ValueReading.{IsNamed};
+ghost use Rattle.std.specs.Prelude.{◌≡◌, ◌∷◌, [], ◌+◌, ◌*◌, ◌≤◌, length, slice_index, None, Some};
+ghost use Rattle.std.specs.Prelude.{MatchResult};
+ghost use Rattle.stun_types_auth_attributes.specs.Write.ValueReading.{IsNamed};
 ghost use Rattle.byteorder.specs.Endian.{big_bytes};
-ghost use Rattle.stun_types_attributes.specs.Addresses.{address_again, address_of, address_refusal, address_value, length_refusal, value_of_parts};
+ghost use Rattle.stun_types_attributes.specs.Addresses.{address_again, address_of, address_refusal};
+ghost use Rattle.stun_types_attributes.specs.Addresses.{address_value, length_refusal};
+ghost use Rattle.stun_types_attributes.specs.Addresses.{value_of_parts};
 ghost use Rattle.std.specs.Net.Addr.{octets_of, segments_of};
 ghost use Rattle.stun_types_attributes.specs.Xor.{octets_mask, xor_bytes, xored};
-ghost use Rattle.stun_types_wire.specs.Registry.{cookie_head, ipv4_family, ipv4_value_size, ipv6_family, ipv6_value_size};
+ghost use Rattle.stun_types_wire.specs.Registry.{cookie_head, ipv4_family, ipv4_value_size};
+ghost use Rattle.stun_types_wire.specs.Registry.{ipv6_family, ipv6_value_size};
 
 use std::net::{Ipv4Addr, Ipv6Addr, SocketAddr, SocketAddrV4, SocketAddrV6};
 use stun_types_wire::error::StunParseError;

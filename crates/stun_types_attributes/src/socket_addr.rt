@@ -1,25 +1,28 @@
 //! Encoded addresses, xored or not.
 
-ghost use Rattle.std.specs.Prelude.{◌≡◌, ◌+◌, ◌≤◌, ◌++◌, ℕ, length, drop, None, Some, IfOk, MatchResult};
-ghost use Rattle.stun_types_write.specs.ValueReading.{IsNamed};
+ghost use Rattle.std.specs.Prelude.{◌≡◌, ◌+◌, ◌≤◌, ◌++◌, ℕ, length, drop, None, Some, IfOk};
+ghost use Rattle.std.specs.Prelude.{MatchResult};
+ghost use Rattle.stun_types_auth_attributes.specs.Write.ValueReading.{IsNamed};
 ghost use Rattle.stun_types_wire.specs.Attributes.{padded};
 ghost use Rattle.stun_types_wire.specs.Text.{attribute_text};
-ghost use Rattle.stun_types_write.specs.Adding.{attr_of};
-ghost use Rattle.stun_types_attributes.specs.Addresses.{address_again, address_of, address_read_refusal, address_refusal, address_value, on_the_wire};
+ghost use Rattle.stun_types_auth_attributes.specs.Write.Adding.{attr_of};
+ghost use Rattle.stun_types_attributes.specs.Addresses.{address_again, address_of};
+ghost use Rattle.stun_types_attributes.specs.Addresses.{address_read_refusal, address_refusal};
+ghost use Rattle.stun_types_attributes.specs.Addresses.{address_value, on_the_wire};
 ghost use Rattle.stun_types_attributes.specs.Xor.{xored};
 
 use crate::octets::{
     head_of, proof_segments_are_decoded, read_address, without_scope, xor_address,
 };
+use crate::stun_types_base::memory::NoMemory;
+use crate::stun_types_write::text::write_attribute_in_two;
 use std::alloc::Global;
 use std::marker::Model;
 use std::net::SocketAddr;
-use stun_types_base::memory::NoMemory;
 use stun_types_wire::attribute::{AttributeType, RawAttribute};
 use stun_types_wire::error::StunParseError;
 use stun_types_wire::registry::{IPV4_FAMILY, IPV6_FAMILY};
 use stun_types_wire::transaction::TransactionId;
-use stun_types_write::text::write_attribute_in_two;
 
 /// An address and a port as encoded in an attribute: a zero, the family, the port, and the 4 or 16
 /// bytes of the address (RFC 8489, section 14.1). The flow information and the scope of an IPv6
@@ -31,7 +34,8 @@ pub struct MappedSocketAddr {
 
 impl Model for MappedSocketAddr {
     ghost use Rattle.std.specs.Prelude.{◌≡◌, ℕ, List, None, Some};
-    ghost use Rattle.stun_types_attributes.specs.Addresses.{address_of, address_refusal, address_value};
+    ghost use Rattle.stun_types_attributes.specs.Addresses.{address_of, address_refusal};
+    ghost use Rattle.stun_types_attributes.specs.Addresses.{address_value};
 
     ghost Value = { List ℕ };
 

@@ -3,9 +3,9 @@
 ghost use Rattle.std.specs.Prelude.{◌≡◌, ◌==◌, ◌||◌, ℕ, false, IfOk};
 ghost use Rattle.stun_types_attributes.specs.TypeMarks.{is_marked};
 
+use crate::stun_types_base::memory::NoMemory;
 use std::alloc::Global;
 use std::marker::Model;
-use stun_types_base::memory::NoMemory;
 use stun_types_wire::attribute::AttributeType;
 
 /// The number of types that one word marks.

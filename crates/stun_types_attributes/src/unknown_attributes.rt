@@ -1,26 +1,28 @@
 //! UNKNOWN-ATTRIBUTES (RFC 8489, section 14.13).
 
-ghost use Rattle.std.specs.Prelude.{◌≡◌, ℕ, List, ◌+◌, ◌*◌, ◌%◌, ◌≤◌, ◌++◌, ◌∷◌, [], IfOk, OnOk, OnErr, MatchResult, None, Some, is_some, length, map};
-ghost use Rattle.stun_types_base.specs.Refusals.{RefusesFor};
-ghost use Rattle.stun_types_write.specs.ValueReading.{IsNamed};
-ghost use Rattle.stun_types_write.specs.Adding.{has_kind};
+ghost use Rattle.std.specs.Prelude.{◌≡◌, ℕ, List, ◌+◌, ◌*◌, ◌%◌, ◌≤◌, ◌++◌, ◌∷◌, [], IfOk, OnOk};
+ghost use Rattle.std.specs.Prelude.{OnErr, MatchResult, None, Some, is_some, length, map};
+ghost use Rattle.stun_types_wire.specs.Base.Refusals.{RefusesFor};
+ghost use Rattle.stun_types_auth_attributes.specs.Write.ValueReading.{IsNamed};
+ghost use Rattle.stun_types_auth_attributes.specs.Write.Adding.{has_kind};
 ghost use Rattle.stun_types_attributes.specs.TypeMarks.{IsIndexed};
-ghost use Rattle.stun_types_attributes.specs.UnknownTypes.{types_read_refusal, types_refusal, types_decoded, types_value, with_type};
+ghost use Rattle.stun_types_attributes.specs.UnknownTypes.{types_read_refusal, types_refusal};
+ghost use Rattle.stun_types_attributes.specs.UnknownTypes.{types_decoded, types_value, with_type};
 ghost use Rattle.stun_types_wire.specs.Registry.{longest_value, unknown_attributes_kind};
 
+use crate::stun_types_base::memory::NoMemory;
+use crate::stun_types_write::attribute::{
+    Attribute, AttributeFromRaw, AttributeStaticType, AttributeWrite,
+};
+use crate::stun_types_write::reading::value_of;
+use crate::stun_types_write::text::write_attribute;
 use crate::type_index::TypeIndex;
 use std::alloc::Global;
 use std::fmt;
 use std::marker::Model;
-use stun_types_base::memory::NoMemory;
 use stun_types_wire::attribute::{AttributeType, RawAttribute};
 use stun_types_wire::error::{StunParseError, StunWriteError};
 use stun_types_wire::registry;
-use stun_types_write::attribute::{
-    Attribute, AttributeFromRaw, AttributeStaticType, AttributeWrite,
-};
-use stun_types_write::reading::value_of;
-use stun_types_write::text::write_attribute;
 
 /// The comprehension-required attribute types that a server did not understand (RFC 8489, section
 /// 14.13). A value of at most 65,535 bytes holds them, at two bytes each. Contracts see the list of

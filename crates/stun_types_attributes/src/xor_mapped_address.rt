@@ -1,24 +1,24 @@
 //! XOR-MAPPED-ADDRESS (RFC 8489, section 14.2).
 
 ghost use Rattle.std.specs.Prelude.{Some, ◌≡◌};
-ghost use Rattle.stun_types_write.specs.ValueReading.{IsNamed};
+ghost use Rattle.stun_types_auth_attributes.specs.Write.ValueReading.{IsNamed};
 ghost use Rattle.stun_types_attributes.specs.Addresses.{address_of, address_value};
 ghost use Rattle.stun_types_attributes.specs.Xor.{xored};
 ghost use Rattle.stun_types_wire.specs.Registry.{xor_mapped_address_kind};
 
 use crate::socket_addr::XorSocketAddr;
+use crate::stun_types_base::memory::NoMemory;
+use crate::stun_types_write::attribute::{
+    Attribute, AttributeFromRaw, AttributeStaticType, AttributeWrite,
+};
 use std::alloc::Global;
 use std::convert::TryFrom;
 use std::marker::Model;
 use std::net::SocketAddr;
-use stun_types_base::memory::NoMemory;
 use stun_types_wire::attribute::{AttributeType, RawAttribute};
 use stun_types_wire::error::StunParseError;
 use stun_types_wire::registry;
 use stun_types_wire::transaction::TransactionId;
-use stun_types_write::attribute::{
-    Attribute, AttributeFromRaw, AttributeStaticType, AttributeWrite,
-};
 
 /// The address from which the server received the request, xored. Contracts see the bytes of the
 /// value.
@@ -98,7 +98,7 @@ impl AttributeWrite for XorMappedAddress {
 /// - `Truncated` or `TooLarge`: the length of the value is not 8 bytes for IPv4, or 20 for IPv6.
 impl<'a, 'raw> TryFrom<&'raw RawAttribute<'a>> for XorMappedAddress {
     ghost use Rattle.std.specs.Prelude.{◌≡◌, MatchResult, Some, None};
-    ghost use Rattle.stun_types_write.specs.ValueReading.{IsNamed};
+    ghost use Rattle.stun_types_auth_attributes.specs.Write.ValueReading.{IsNamed};
     ghost use Rattle.stun_types_attributes.specs.Addresses.{address_again, address_read_refusal};
 
     type Error = StunParseError;

@@ -6,7 +6,7 @@ use Rattle.stun_types_auth_attributes.specs.declared.algorithm.PasswordAlgorithm
 use Rattle.stun_types_auth_attributes.specs.declared.algorithm.PasswordAlgorithmValue.TheVariants.{MD5, SHA256, SHA512}
 use Rattle.stun_types_auth_attributes.specs.PasswordAlgorithmNumbers.{number_of, is_known, number_refusal}
 use Rattle.stun_types_auth_attributes.specs.Entries.{entry, algorithm_value, number_decoded, algorithm_read_refusal}
-use Rattle.stun_types_wire.specs.Registry.{password_algorithm_kind}
+use Rattle.stun_types_write.specs.Wire.Registry.{password_algorithm_kind}
 
 -- Decoding an encoded algorithm and encoding it again gives the same value.
 pub decoded_again : (a : PasswordAlgorithmValue) → entry (number_decoded (algorithm_value a)) ≡ algorithm_value a

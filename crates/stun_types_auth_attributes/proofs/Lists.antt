@@ -3,15 +3,15 @@ use Rattle.std.proofs.Common.{◌≡◌, ℕ, ◌+◌, ◌*◌, ◌%◌, ◌<◌
 use Rattle.std.proofs.lemmas.Grind.{common_steps}
 use Rattle.std.proofs.lemmas.List.{append-nil, drop-drop}
 use Rattle.std.specs.List.{list_all}
-use Rattle.stun_types_wire.specs.declared.error.StunParseError.{StunParseError}
-use Rattle.stun_types_wire.specs.RawBytes.{type_and_len_refusal}
+use Rattle.stun_types_write.specs.Wire.declared.error.StunParseError.{StunParseError}
+use Rattle.stun_types_write.specs.Wire.RawBytes.{type_and_len_refusal}
 use Rattle.stun_types_write.specs.Adding.{attr_of}
 use Rattle.stun_types_write.proofs.Values.{value_is_accepted}
 use Rattle.stun_types_auth_attributes.specs.declared.algorithm.PasswordAlgorithmValue.{PasswordAlgorithmValue}
 use Rattle.stun_types_auth_attributes.specs.declared.algorithm.PasswordAlgorithmValue.TheVariants.{MD5, SHA256, SHA512}
 use Rattle.stun_types_auth_attributes.specs.PasswordAlgorithmNumbers.{number_of, is_known, number_refusal}
 use Rattle.stun_types_auth_attributes.specs.Entries.{entries, algorithm_value, algorithms_value, number_decoded, numbers_decoded, none_decoded_refusal, entries_refusal, algorithms_read_refusal}
-use Rattle.stun_types_wire.specs.Registry.{most_algorithms, password_algorithms_kind}
+use Rattle.stun_types_write.specs.Wire.Registry.{most_algorithms, password_algorithms_kind}
 use Rattle.stun_types_auth_attributes.proofs.Algorithms.{same_number}
 
 -- An encoded list has four bytes for each entry.

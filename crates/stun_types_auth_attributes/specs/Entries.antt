@@ -3,16 +3,16 @@ use Rattle.std.specs.Prelude.{ℕ, ◌+◌, ◌*◌, ◌%◌, ◌==◌, ◌&&◌
 use Rattle.std.specs.Option.{option_or}
 use Rattle.std.specs.List.{list_all}
 use Rattle.byteorder.specs.Endian.{big_bytes, big_number}
-use Rattle.stun_types_wire.specs.declared.error.StunParseError.{StunParseError}
-use Rattle.stun_types_wire.specs.declared.error.StunParseError.TheVariants.{InvalidAttributeData, Truncated}
-use Rattle.stun_types_wire.specs.declared.error.StunWriteError.{StunWriteError}
-use Rattle.stun_types_wire.specs.declared.error.StunWriteError.TheVariants.{TooLarge}
-use Rattle.stun_types_wire.specs.Attributes.{Attr}
-use Rattle.stun_types_wire.specs.RawBytes.{greatest_len}
+use Rattle.stun_types_write.specs.Wire.declared.error.StunParseError.{StunParseError}
+use Rattle.stun_types_write.specs.Wire.declared.error.StunParseError.TheVariants.{InvalidAttributeData, Truncated}
+use Rattle.stun_types_write.specs.Wire.declared.error.StunWriteError.{StunWriteError}
+use Rattle.stun_types_write.specs.Wire.declared.error.StunWriteError.TheVariants.{TooLarge}
+use Rattle.stun_types_write.specs.Wire.Attributes.{Attr}
+use Rattle.stun_types_write.specs.Wire.RawBytes.{greatest_len}
 use Rattle.stun_types_write.specs.ValueReading.{value_refusal}
 use Rattle.stun_types_auth_attributes.specs.declared.algorithm.PasswordAlgorithmValue.{PasswordAlgorithmValue}
 use Rattle.stun_types_auth_attributes.specs.PasswordAlgorithmNumbers.{number_of, is_known, number_refusal}
-use Rattle.stun_types_wire.specs.Registry.{password_algorithm_kind, password_algorithms_kind, most_algorithms}
+use Rattle.stun_types_write.specs.Wire.Registry.{password_algorithm_kind, password_algorithms_kind, most_algorithms}
 
 -- An entry: the number of an algorithm, and 0 as the length of its parameters.
 abbrev pub entry : ℕ → List ℕ

@@ -1,10 +1,10 @@
 -- Password algorithms (RFC 8489, section 18.5), and SHA-512, an extension of this project.
 use Rattle.std.specs.Prelude.{ℕ, ◌==◌, ◌||◌, Bool, List, codes, Option, Some, None, if◌then◌else◌}
-use Rattle.stun_types_wire.specs.declared.algorithm.IntegrityAlgorithm.{IntegrityAlgorithm}
-use Rattle.stun_types_wire.specs.declared.algorithm.IntegrityAlgorithm.TheVariants.{Sha1, Sha256, Sha512}
-use Rattle.stun_types_wire.specs.declared.error.StunParseError.{StunParseError}
-use Rattle.stun_types_wire.specs.declared.error.StunParseError.TheVariants.{InvalidAttributeData}
-use Rattle.stun_types_wire.specs.Registry.{md5_number, sha256_number, sha512_number}
+use Rattle.stun_types_write.specs.Wire.declared.algorithm.IntegrityAlgorithm.{IntegrityAlgorithm}
+use Rattle.stun_types_write.specs.Wire.declared.algorithm.IntegrityAlgorithm.TheVariants.{Sha1, Sha256, Sha512}
+use Rattle.stun_types_write.specs.Wire.declared.error.StunParseError.{StunParseError}
+use Rattle.stun_types_write.specs.Wire.declared.error.StunParseError.TheVariants.{InvalidAttributeData}
+use Rattle.stun_types_write.specs.Wire.Registry.{md5_number, sha256_number, sha512_number}
 use Rattle.stun_types_auth_attributes.specs.declared.algorithm.PasswordAlgorithmValue.{PasswordAlgorithmValue}
 use Rattle.stun_types_auth_attributes.specs.declared.algorithm.PasswordAlgorithmValue.TheVariants.{MD5, SHA256, SHA512}
 

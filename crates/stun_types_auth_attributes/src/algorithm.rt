@@ -2,14 +2,16 @@
 
 ghost use Rattle.std.specs.Prelude.{◌≡◌, ◌≤◌, length, MatchResult, None, Some};
 ghost use Rattle.stun_types_write.specs.ValueReading.{IsNamed};
-ghost use Rattle.stun_types_auth_attributes.specs.PasswordAlgorithmNumbers.{integrity_of, number_of, number_refusal};
+ghost use Rattle.stun_types_auth_attributes.specs.PasswordAlgorithmNumbers.{integrity_of};
+ghost use Rattle.stun_types_auth_attributes.specs.PasswordAlgorithmNumbers.{number_of};
+ghost use Rattle.stun_types_auth_attributes.specs.PasswordAlgorithmNumbers.{number_refusal};
 ghost use Rattle.stun_types_auth_attributes.specs.Entries.{algorithm_value, number_decoded};
 
+use crate::stun_types_wire::algorithm::IntegrityAlgorithm;
+use crate::stun_types_wire::error::StunParseError;
+use crate::stun_types_wire::registry::{MD5_NUMBER, SHA256_NUMBER, SHA512_NUMBER};
 use byteorder::{BigEndian, ByteOrder};
 use std::fmt;
-use stun_types_wire::algorithm::IntegrityAlgorithm;
-use stun_types_wire::error::StunParseError;
-use stun_types_wire::registry::{MD5_NUMBER, SHA256_NUMBER, SHA512_NUMBER};
 
 /// An algorithm that derives a key from a user name, a realm and a password (RFC 8489, section
 /// 18.5).

@@ -11,3 +11,6 @@ pub mod realm;
 pub mod software;
 pub mod userhash;
 pub mod username;
+
+pub use stun_types_write;
+use stun_types_write::{stun_types_base, stun_types_wire};

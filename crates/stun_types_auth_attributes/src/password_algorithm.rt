@@ -4,16 +4,16 @@ ghost use Rattle.std.specs.Prelude.{◌≡◌, None, MatchResult};
 ghost use Rattle.stun_types_write.specs.ValueReading.{IsNamed};
 ghost use Rattle.stun_types_auth_attributes.specs.PasswordAlgorithmNumbers.{number_of};
 ghost use Rattle.stun_types_auth_attributes.specs.Entries.{algorithm_read_refusal, number_decoded};
-ghost use Rattle.stun_types_wire.specs.Registry.{password_algorithm_kind};
+ghost use Rattle.stun_types_write.specs.Wire.Registry.{password_algorithm_kind};
 
 use crate::algorithm::PasswordAlgorithmValue;
+use crate::stun_types_base::memory::NoMemory;
+use crate::stun_types_wire::attribute::{AttributeType, RawAttribute};
+use crate::stun_types_wire::error::StunParseError;
+use crate::stun_types_wire::registry;
 use std::alloc::Global;
 use std::convert::TryFrom;
 use std::marker::Model;
-use stun_types_base::memory::NoMemory;
-use stun_types_wire::attribute::{AttributeType, RawAttribute};
-use stun_types_wire::error::StunParseError;
-use stun_types_wire::registry;
 use stun_types_write::attribute::{
     Attribute, AttributeFromRaw, AttributeStaticType, AttributeWrite,
 };
@@ -99,7 +99,8 @@ impl<'a, 'raw> TryFrom<&'raw RawAttribute<'a>> for PasswordAlgorithm {
     ghost use Rattle.std.specs.Prelude.{◌≡◌, MatchResult, Some, None};
     ghost use Rattle.stun_types_write.specs.ValueReading.{IsNamed};
     ghost use Rattle.stun_types_auth_attributes.specs.PasswordAlgorithmNumbers.{number_of};
-    ghost use Rattle.stun_types_auth_attributes.specs.Entries.{algorithm_read_refusal, number_decoded};
+    ghost use Rattle.stun_types_auth_attributes.specs.Entries.{algorithm_read_refusal};
+    ghost use Rattle.stun_types_auth_attributes.specs.Entries.{number_decoded};
 
     type Error = StunParseError;
 
@@ -117,7 +118,8 @@ impl<'a, 'raw> TryFrom<&'raw RawAttribute<'a>> for PasswordAlgorithm {
 /// Decodes the attribute as `try_from` does, with the same errors. It allocates nothing.
 impl<'a> AttributeFromRaw<'a> for PasswordAlgorithm {
     ghost use Rattle.std.specs.Prelude.{false};
-    ghost use Rattle.stun_types_auth_attributes.specs.Entries.{algorithm_read_refusal, entry, number_decoded};
+    ghost use Rattle.stun_types_auth_attributes.specs.Entries.{algorithm_read_refusal, entry};
+    ghost use Rattle.stun_types_auth_attributes.specs.Entries.{number_decoded};
 
     ghost read_refusal = { algorithm_read_refusal };
 

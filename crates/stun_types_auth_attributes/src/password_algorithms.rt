@@ -1,20 +1,23 @@
 //! PASSWORD-ALGORITHMS (RFC 8489, section 14.11).
 
-ghost use Rattle.std.specs.Prelude.{◌≡◌, ◌+◌, ◌*◌, ◌%◌, ◌≤◌, ◌++◌, IfOk, IfErr, MatchResult, None, Some, drop, length, map, take, true};
-ghost use Rattle.stun_types_base.specs.Refusals.{RefusesFor};
+ghost use Rattle.std.specs.Prelude.{◌≡◌, ◌+◌, ◌*◌, ◌%◌, ◌≤◌, ◌++◌, IfOk, IfErr, MatchResult, None};
+ghost use Rattle.std.specs.Prelude.{Some, drop, length, map, take, true};
+ghost use Rattle.stun_types_write.specs.Base.Refusals.{RefusesFor};
 ghost use Rattle.stun_types_write.specs.ValueReading.{IsNamed};
 ghost use Rattle.std.specs.List.{list_all};
 ghost use Rattle.stun_types_auth_attributes.specs.PasswordAlgorithmNumbers.{is_known, number_of};
-ghost use Rattle.stun_types_auth_attributes.specs.Entries.{algorithms_read_refusal, algorithms_value, count_refusal, numbers_decoded};
-ghost use Rattle.stun_types_wire.specs.Registry.{most_algorithms, password_algorithms_kind};
+ghost use Rattle.stun_types_auth_attributes.specs.Entries.{algorithms_read_refusal};
+ghost use Rattle.stun_types_auth_attributes.specs.Entries.{algorithms_value, count_refusal};
+ghost use Rattle.stun_types_auth_attributes.specs.Entries.{numbers_decoded};
+ghost use Rattle.stun_types_write.specs.Wire.Registry.{most_algorithms, password_algorithms_kind};
 
 use crate::algorithm::PasswordAlgorithmValue;
+use crate::stun_types_base::memory::NoMemory;
+use crate::stun_types_wire::attribute::{AttributeType, RawAttribute};
+use crate::stun_types_wire::error::{StunParseError, StunWriteError};
+use crate::stun_types_wire::registry;
 use std::alloc::Global;
 use std::marker::Model;
-use stun_types_base::memory::NoMemory;
-use stun_types_wire::attribute::{AttributeType, RawAttribute};
-use stun_types_wire::error::{StunParseError, StunWriteError};
-use stun_types_wire::registry;
 use stun_types_write::attribute::{
     Attribute, AttributeFromRaw, AttributeStaticType, AttributeWrite,
 };
@@ -33,7 +36,7 @@ pub struct PasswordAlgorithms {
 impl Model for PasswordAlgorithms {
     ghost use Rattle.std.specs.Prelude.{◌≤◌, List, length};
     ghost use Rattle.stun_types_auth_attributes.specs.declared.algorithm.PasswordAlgorithmValue.{PasswordAlgorithmValue};
-    ghost use Rattle.stun_types_wire.specs.Registry.{most_algorithms};
+    ghost use Rattle.stun_types_write.specs.Wire.Registry.{most_algorithms};
 
     ghost Value = { List PasswordAlgorithmValue };
 
@@ -169,7 +172,9 @@ impl AttributeWrite for PasswordAlgorithms {
 ///   one of the numbers.
 /// - `NoMemory`: an allocation failed.
 impl<'a> AttributeFromRaw<'a> for PasswordAlgorithms {
-    ghost use Rattle.stun_types_auth_attributes.specs.Entries.{algorithms_read_refusal, entries, none_decoded_refusal, numbers_decoded};
+    ghost use Rattle.stun_types_auth_attributes.specs.Entries.{algorithms_read_refusal, entries};
+    ghost use Rattle.stun_types_auth_attributes.specs.Entries.{none_decoded_refusal};
+    ghost use Rattle.stun_types_auth_attributes.specs.Entries.{numbers_decoded};
 
     ghost read_refusal = { algorithms_read_refusal };
 

@@ -4,16 +4,16 @@ ghost use Rattle.std.specs.Prelude.{◌≡◌, length, None, MatchResult};
 ghost use Rattle.stun_types_write.specs.ValueReading.{IsNamed};
 ghost use Rattle.stun_types_write.specs.ValueReading.{value_refusal};
 ghost use Rattle.stun_types_auth_attributes.specs.Userhashes.{userhash_of};
-ghost use Rattle.stun_types_wire.specs.Registry.{userhash_length, userhash_kind};
+ghost use Rattle.stun_types_write.specs.Wire.Registry.{userhash_length, userhash_kind};
 
+use crate::stun_types_base::memory::NoMemory;
+use crate::stun_types_wire::attribute::{AttributeType, RawAttribute};
+use crate::stun_types_wire::error::StunParseError;
+use crate::stun_types_wire::registry;
 use sha2::{Digest, Sha256};
 use std::alloc::Global;
 use std::convert::TryFrom;
 use std::marker::Model;
-use stun_types_base::memory::NoMemory;
-use stun_types_wire::attribute::{AttributeType, RawAttribute};
-use stun_types_wire::error::StunParseError;
-use stun_types_wire::registry;
 use stun_types_write::attribute::{
     Attribute, AttributeFromRaw, AttributeStaticType, AttributeWrite,
 };
@@ -29,7 +29,7 @@ pub struct Userhash {
 
 impl Model for Userhash {
     ghost use Rattle.std.specs.Prelude.{◌≡◌, ℕ, List, length};
-    ghost use Rattle.stun_types_wire.specs.Registry.{userhash_length};
+    ghost use Rattle.stun_types_write.specs.Wire.Registry.{userhash_length};
 
     ghost Value = { List ℕ };
 

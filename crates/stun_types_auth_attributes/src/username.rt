@@ -1,16 +1,16 @@
 //! USERNAME (RFC 8489, section 14.3).
 
 ghost use Rattle.std.specs.Prelude.{◌≡◌, ◌≤◌, IfOk, None, length};
-ghost use Rattle.stun_types_base.specs.Refusals.{RefusesFor};
+ghost use Rattle.stun_types_write.specs.Base.Refusals.{RefusesFor};
 ghost use Rattle.stun_types_auth_attributes.specs.Texts.{text_refusal};
-ghost use Rattle.stun_types_wire.specs.Registry.{longest_username, username_kind};
+ghost use Rattle.stun_types_write.specs.Wire.Registry.{longest_username, username_kind};
 
+use crate::stun_types_base::memory::NoMemory;
+use crate::stun_types_wire::attribute::{AttributeType, RawAttribute};
+use crate::stun_types_wire::error::{StunParseError, StunWriteError};
+use crate::stun_types_wire::registry;
 use std::alloc::Global;
 use std::marker::Model;
-use stun_types_base::memory::NoMemory;
-use stun_types_wire::attribute::{AttributeType, RawAttribute};
-use stun_types_wire::error::{StunParseError, StunWriteError};
-use stun_types_wire::registry;
 use stun_types_write::attribute::{
     Attribute, AttributeFromRaw, AttributeStaticType, AttributeWrite,
 };
@@ -26,7 +26,7 @@ pub struct Username {
 impl Model for Username {
     ghost use Rattle.std.specs.Prelude.{List, ℕ, ◌≤◌, length};
     ghost use Rattle.std.specs.String.{string_bytes};
-    ghost use Rattle.stun_types_wire.specs.Registry.{longest_username};
+    ghost use Rattle.stun_types_write.specs.Wire.Registry.{longest_username};
 
     ghost Value = { List ℕ };
 

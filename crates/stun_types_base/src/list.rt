@@ -1,6 +1,7 @@
 //! A growable list whose capacity is not part of its value.
 
-ghost use Rattle.std.specs.Prelude.{◌≡◌, ◌==◌, ◌<◌, List, [], ◌∷◌, ◌++◌, Some, length, remove, slice_get, OnOk, OnErr, option_to_list};
+ghost use Rattle.std.specs.Prelude.{◌≡◌, ◌==◌, ◌<◌, List, [], ◌∷◌, ◌++◌, Some, length, remove};
+ghost use Rattle.std.specs.Prelude.{slice_get, OnOk, OnErr, option_to_list};
 ghost use Rattle.std.specs.Borrow.{sem};
 ghost use Rattle.std.specs.Fn.{CalledAt};
 ghost use Rattle.std.specs.List.Retain.{IsFiltered};

@@ -4,9 +4,9 @@ use Rattle.sha1.specs.Sha1.{sha1, Holds}
 use Rattle.sha2.specs.Sha256.{sha256}
 use Rattle.sha2.specs.Sha512.{sha512}
 use Rattle.sha2.specs.Hashers.{Holds256, Holds512}
-use Rattle.stun_types_digest.specs.HmacText.{HasText, IsUnkeyed}
-use Rattle.stun_types_wire.specs.declared.algorithm.IntegrityAlgorithm.{IntegrityAlgorithm}
-use Rattle.stun_types_wire.specs.declared.algorithm.IntegrityAlgorithm.TheVariants.{Sha1 as BySha1, Sha256 as BySha256, Sha512 as BySha512}
+use Rattle.stun_types_write.specs.Digest.HmacText.{HasText, IsUnkeyed}
+use Rattle.stun_types_write.specs.Wire.declared.algorithm.IntegrityAlgorithm.{IntegrityAlgorithm}
+use Rattle.stun_types_write.specs.Wire.declared.algorithm.IntegrityAlgorithm.TheVariants.{Sha1 as BySha1, Sha256 as BySha256, Sha512 as BySha512}
 use Rattle.stun_types_integrity.specs.declared.hmac_state.HmacState.{HmacState}
 use Rattle.stun_types_integrity.specs.declared.hmac_state.HmacState.TheVariants.{Sha1, Sha256, Sha512}
 

@@ -1,7 +1,7 @@
 -- The bytes and the algorithm of an HMAC.
 use Rattle.std.specs.Prelude.{ℕ, List}
-use Rattle.stun_types_wire.specs.declared.algorithm.IntegrityAlgorithm.{IntegrityAlgorithm}
-use Rattle.stun_types_wire.specs.declared.algorithm.IntegrityAlgorithm.TheVariants.{Sha1 as BySha1, Sha256 as BySha256, Sha512 as BySha512}
+use Rattle.stun_types_write.specs.Wire.declared.algorithm.IntegrityAlgorithm.{IntegrityAlgorithm}
+use Rattle.stun_types_write.specs.Wire.declared.algorithm.IntegrityAlgorithm.TheVariants.{Sha1 as BySha1, Sha256 as BySha256, Sha512 as BySha512}
 use Rattle.stun_types_integrity.specs.declared.hmac.IntegrityHmac.{IntegrityHmac}
 use Rattle.stun_types_integrity.specs.declared.hmac.IntegrityHmac.TheVariants.{Sha1, Sha256, Sha512}
 

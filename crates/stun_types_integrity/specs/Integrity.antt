@@ -5,13 +5,13 @@ use Rattle.std.specs.List.{AllByRecursion}
 use Rattle.sha1.specs.Sha1.{sha1}
 use Rattle.sha2.specs.Sha256.{sha256}
 use Rattle.sha2.specs.Sha512.{sha512}
-use Rattle.stun_types_digest.specs.Hmac.{hmac}
-use Rattle.stun_types_wire.specs.declared.algorithm.IntegrityAlgorithm.{IntegrityAlgorithm}
-use Rattle.stun_types_wire.specs.declared.algorithm.IntegrityAlgorithm.TheVariants.{Sha1, Sha256, Sha512}
-use Rattle.stun_types_wire.specs.Attributes.{Attr, numbered}
-use Rattle.stun_types_wire.specs.Registry.{integrity_kind, sha256_kind, sha512_kind, header_size, least_sha256_length, least_sha512_length, sha1_length, sha256_length, sha512_length}
-use Rattle.stun_types_wire.specs.Grammar.{IsMessage, visible}
-use Rattle.stun_types_wire.specs.Covered.{covered_text}
+use Rattle.stun_types_write.specs.Digest.Hmac.{hmac}
+use Rattle.stun_types_write.specs.Wire.declared.algorithm.IntegrityAlgorithm.{IntegrityAlgorithm}
+use Rattle.stun_types_write.specs.Wire.declared.algorithm.IntegrityAlgorithm.TheVariants.{Sha1, Sha256, Sha512}
+use Rattle.stun_types_write.specs.Wire.Attributes.{Attr, numbered}
+use Rattle.stun_types_write.specs.Wire.Registry.{integrity_kind, sha256_kind, sha512_kind, header_size, least_sha256_length, least_sha512_length, sha1_length, sha256_length, sha512_length}
+use Rattle.stun_types_write.specs.Wire.Grammar.{IsMessage, visible}
+use Rattle.stun_types_write.specs.Wire.Covered.{covered_text}
 
 -- ---- what an algorithm means
 

@@ -2,17 +2,17 @@
 -- sections 14.5 to 14.7).
 use Rattle.std.specs.Prelude.{ℕ, ◌+◌, ◌-◌, Bool, false, ◌||◌, ◌==◌, List, length, Option, Some, None, if◌then◌else◌}
 use Rattle.std.specs.Option.{option_or}
-use Rattle.stun_types_wire.specs.declared.algorithm.IntegrityAlgorithm.{IntegrityAlgorithm}
-use Rattle.stun_types_wire.specs.declared.algorithm.IntegrityAlgorithm.TheVariants.{Sha1, Sha256, Sha512}
-use Rattle.stun_types_wire.specs.declared.error.StunWriteError.{StunWriteError}
-use Rattle.stun_types_wire.specs.declared.error.StunWriteError.TheVariants.{AttributeExists, FingerprintExists, IntegrityFailed, MessageIntegrityExists}
-use Rattle.stun_types_wire.specs.Attributes.{Attr}
-use Rattle.stun_types_wire.specs.Strength.{strength}
-use Rattle.stun_types_wire.specs.Registry.{header_size, sha1_length, sha256_length, sha512_length}
+use Rattle.stun_types_write.specs.Wire.declared.algorithm.IntegrityAlgorithm.{IntegrityAlgorithm}
+use Rattle.stun_types_write.specs.Wire.declared.algorithm.IntegrityAlgorithm.TheVariants.{Sha1, Sha256, Sha512}
+use Rattle.stun_types_write.specs.Wire.declared.error.StunWriteError.{StunWriteError}
+use Rattle.stun_types_write.specs.Wire.declared.error.StunWriteError.TheVariants.{AttributeExists, FingerprintExists, IntegrityFailed, MessageIntegrityExists}
+use Rattle.stun_types_write.specs.Wire.Attributes.{Attr}
+use Rattle.stun_types_write.specs.Wire.Strength.{strength}
+use Rattle.stun_types_write.specs.Wire.Registry.{header_size, sha1_length, sha256_length, sha512_length}
 use Rattle.stun_types_write.specs.declared.ended.Ended.{Ended}
 use Rattle.stun_types_write.specs.Adding.{growth_refusal}
 use Rattle.stun_types_write.specs.Drafts.{Draft}
-use Rattle.stun_types_wire.specs.Covered.{with_length}
+use Rattle.stun_types_write.specs.Wire.Covered.{with_length}
 use Rattle.stun_types_integrity.specs.Integrity.{attribute_kind, integrity_hmac}
 
 -- The length in bytes of an algorithm's full HMAC.

@@ -2,12 +2,12 @@
 -- 16 bytes and a multiple of four. MESSAGE-INTEGRITY-SHA512 does the same with an HMAC of 64 bytes.
 use Rattle.std.specs.Prelude.{ℕ, Bool, ◌==◌, ◌&&◌, ◌%◌, nat_le, nat_lt, List, length, Option, Some, None, if◌then◌else◌}
 use Rattle.std.specs.Option.{option_or}
-use Rattle.stun_types_wire.specs.declared.error.StunParseError.{StunParseError}
-use Rattle.stun_types_wire.specs.declared.error.StunParseError.TheVariants.{InvalidAttributeData}
-use Rattle.stun_types_wire.specs.declared.error.StunWriteError.{StunWriteError}
-use Rattle.stun_types_wire.specs.declared.error.StunWriteError.TheVariants.{IntegrityFailed, TooLarge, TooSmall}
-use Rattle.stun_types_wire.specs.Attributes.{Attr}
-use Rattle.stun_types_wire.specs.Registry.{sha256_kind, least_sha256_length, sha256_length, sha512_kind, least_sha512_length, sha512_length}
+use Rattle.stun_types_write.specs.Wire.declared.error.StunParseError.{StunParseError}
+use Rattle.stun_types_write.specs.Wire.declared.error.StunParseError.TheVariants.{InvalidAttributeData}
+use Rattle.stun_types_write.specs.Wire.declared.error.StunWriteError.{StunWriteError}
+use Rattle.stun_types_write.specs.Wire.declared.error.StunWriteError.TheVariants.{IntegrityFailed, TooLarge, TooSmall}
+use Rattle.stun_types_write.specs.Wire.Attributes.{Attr}
+use Rattle.stun_types_write.specs.Wire.Registry.{sha256_kind, least_sha256_length, sha256_length, sha512_kind, least_sha512_length, sha512_length}
 use Rattle.stun_types_write.specs.ValueReading.{value_refusal}
 
 -- An HMAC of `whole` bytes may be truncated to this length.

@@ -1,13 +1,15 @@
 //! The attribute type, value lengths and HMAC length of each integrity algorithm.
 
 ghost use Rattle.std.specs.Prelude.{◌≡◌};
-ghost use Rattle.stun_types_integrity.specs.Integrity.{algorithm_of as algorithm_of_kind, attribute_kind, is_lawful_length as is_lawful};
+ghost use Rattle.stun_types_integrity.specs.Integrity.{algorithm_of as algorithm_of_kind};
+ghost use Rattle.stun_types_integrity.specs.Integrity.{attribute_kind};
+ghost use Rattle.stun_types_integrity.specs.Integrity.{is_lawful_length as is_lawful};
 ghost use Rattle.stun_types_integrity.specs.Signing.{hmac_length as length_of_hmac};
 
-use stun_types_wire::algorithm::IntegrityAlgorithm;
-use stun_types_wire::attribute::AttributeType;
-use stun_types_wire::registry;
-use stun_types_wire::registry::{
+use crate::stun_types_wire::algorithm::IntegrityAlgorithm;
+use crate::stun_types_wire::attribute::AttributeType;
+use crate::stun_types_wire::registry;
+use crate::stun_types_wire::registry::{
     MESSAGE_INTEGRITY, MESSAGE_INTEGRITY_SHA256, MESSAGE_INTEGRITY_SHA512,
 };
 

@@ -6,11 +6,11 @@ ghost use Rattle.stun_types_integrity.specs.Credentials.{long_term_key, short_te
 
 use crate::hmac_state::HmacState;
 use crate::key::IntegrityKey;
+use crate::stun_types_base::memory::NoMemory;
+use crate::stun_types_wire::algorithm::IntegrityAlgorithm;
 use std::alloc::Global;
 use std::fmt;
 use std::marker::Model;
-use stun_types_base::memory::NoMemory;
-use stun_types_wire::algorithm::IntegrityAlgorithm;
 
 /// A user's name and password, valid in many sessions and with a different key in each realm (RFC
 /// 8489, section 9.2). Contracts see the two texts.

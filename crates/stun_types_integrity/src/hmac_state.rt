@@ -3,8 +3,8 @@
 ghost use Rattle.std.specs.Prelude.{◌≡◌};
 ghost use Rattle.stun_types_integrity.specs.HmacState.{HasKey, HasNoKey, hmac_algorithm};
 
-use stun_types_digest::hmac::{HmacSha1, HmacSha256, HmacSha512};
-use stun_types_wire::algorithm::IntegrityAlgorithm;
+use crate::stun_types_digest::hmac::{HmacSha1, HmacSha256, HmacSha512};
+use crate::stun_types_wire::algorithm::IntegrityAlgorithm;
 
 /// The state of an HMAC by one of the algorithms, with or without its key. It has processed no byte
 /// of a text.

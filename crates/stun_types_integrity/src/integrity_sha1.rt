@@ -2,21 +2,21 @@
 
 ghost use Rattle.std.specs.Prelude.{◌≡◌, ◌≢◌, ◌↔◌, ◌++◌, length, MatchResult, IsOk, IfErr};
 ghost use Rattle.stun_types_write.specs.ValueReading.{IsNamed};
-ghost use Rattle.stun_types_wire.specs.declared.algorithm.IntegrityAlgorithm.TheVariants.{Sha1};
+ghost use Rattle.stun_types_write.specs.Wire.declared.algorithm.IntegrityAlgorithm.TheVariants.{Sha1};
 ghost use Rattle.stun_types_integrity.specs.Integrity.{integrity_hmac};
-ghost use Rattle.stun_types_wire.specs.Registry.{integrity_kind, sha1_length};
+ghost use Rattle.stun_types_write.specs.Wire.Registry.{integrity_kind, sha1_length};
 
 use crate::constant_time::is_same;
 use crate::hmac::IntegrityHmac;
 use crate::key::IntegrityKey;
+use crate::stun_types_base::memory::NoMemory;
+use crate::stun_types_wire::attribute::{AttributeType, RawAttribute};
+use crate::stun_types_wire::error::{StunParseError, StunWriteError, ValidateError};
+use crate::stun_types_wire::registry;
+use crate::stun_types_wire::registry::MESSAGE_INTEGRITY;
 use std::alloc::Global;
 use std::convert::TryFrom;
 use std::marker::Model;
-use stun_types_base::memory::NoMemory;
-use stun_types_wire::attribute::{AttributeType, RawAttribute};
-use stun_types_wire::error::{StunParseError, StunWriteError, ValidateError};
-use stun_types_wire::registry;
-use stun_types_wire::registry::MESSAGE_INTEGRITY;
 use stun_types_write::attribute::{
     Attribute, AttributeFromRaw, AttributeStaticType, AttributeWrite,
 };
@@ -30,7 +30,7 @@ pub struct MessageIntegrity {
 }
 
 impl Model for MessageIntegrity {
-    ghost use Rattle.stun_types_wire.specs.Registry.{sha1_length};
+    ghost use Rattle.stun_types_write.specs.Wire.Registry.{sha1_length};
     ghost use Rattle.std.specs.Prelude.{◌≡◌, ℕ, List, length};
 
     ghost Value = { List ℕ };

@@ -1,27 +1,30 @@
 //! MESSAGE-INTEGRITY-SHA512, an extension by this project: no RFC defines it. It is built as
 //! MESSAGE-INTEGRITY-SHA256 is (RFC 8489, section 14.6).
 
-ghost use Rattle.std.specs.Prelude.{◌≡◌, ◌≢◌, ◌↔◌, ◌++◌, length, MatchResult, IsOk, IsTrue, IfErr, None, Some};
+ghost use Rattle.std.specs.Prelude.{◌≡◌, ◌≢◌, ◌↔◌, ◌++◌, length, MatchResult, IsOk, IsTrue, IfErr};
+ghost use Rattle.std.specs.Prelude.{None, Some};
 ghost use Rattle.stun_types_write.specs.ValueReading.{IsNamed};
-ghost use Rattle.stun_types_wire.specs.declared.algorithm.IntegrityAlgorithm.TheVariants.{Sha512};
-ghost use Rattle.stun_types_integrity.specs.Integrity.{IsPrefix, integrity_hmac, is_lawful_length as is_lawful};
-ghost use Rattle.stun_types_integrity.specs.TruncatedHmacs.{sha512_len_refusal, sha512_read_refusal};
-ghost use Rattle.stun_types_wire.specs.Registry.{sha512_kind, sha512_length};
+ghost use Rattle.stun_types_write.specs.Wire.declared.algorithm.IntegrityAlgorithm.TheVariants.{Sha512};
+ghost use Rattle.stun_types_integrity.specs.Integrity.{IsPrefix, integrity_hmac};
+ghost use Rattle.stun_types_integrity.specs.Integrity.{is_lawful_length as is_lawful};
+ghost use Rattle.stun_types_integrity.specs.TruncatedHmacs.{sha512_len_refusal};
+ghost use Rattle.stun_types_integrity.specs.TruncatedHmacs.{sha512_read_refusal};
+ghost use Rattle.stun_types_write.specs.Wire.Registry.{sha512_kind, sha512_length};
 
 use crate::algorithm::is_lawful_length;
 use crate::hmac::IntegrityHmac;
 use crate::key::IntegrityKey;
+use crate::stun_types_base::memory::NoMemory;
+use crate::stun_types_wire::algorithm::IntegrityAlgorithm;
+use crate::stun_types_wire::attribute::{AttributeType, RawAttribute};
+use crate::stun_types_wire::error::{StunParseError, StunWriteError, ValidateError};
+use crate::stun_types_wire::registry::{
+    HMAC_SHA512_LENGTH as WHOLE, MESSAGE_INTEGRITY_SHA512, MIN_HMAC_SHA512_LENGTH as LEAST,
+};
 use crate::truncated::{check_truncated, truncated_to};
 use std::alloc::Global;
 use std::convert::TryFrom;
 use std::marker::Model;
-use stun_types_base::memory::NoMemory;
-use stun_types_wire::algorithm::IntegrityAlgorithm;
-use stun_types_wire::attribute::{AttributeType, RawAttribute};
-use stun_types_wire::error::{StunParseError, StunWriteError, ValidateError};
-use stun_types_wire::registry::{
-    HMAC_SHA512_LENGTH as WHOLE, MESSAGE_INTEGRITY_SHA512, MIN_HMAC_SHA512_LENGTH as LEAST,
-};
 use stun_types_write::attribute::{
     Attribute, AttributeFromRaw, AttributeStaticType, AttributeWrite,
 };
@@ -36,9 +39,9 @@ pub struct MessageIntegritySha512 {
 }
 
 impl Model for MessageIntegritySha512 {
-    ghost use Rattle.stun_types_wire.specs.Registry.{sha512_length};
+    ghost use Rattle.stun_types_write.specs.Wire.Registry.{sha512_length};
     ghost use Rattle.std.specs.Prelude.{◌≡◌, ℕ, IsTrue, List, length, take};
-    ghost use Rattle.stun_types_wire.specs.declared.algorithm.IntegrityAlgorithm.TheVariants.{Sha512};
+    ghost use Rattle.stun_types_write.specs.Wire.declared.algorithm.IntegrityAlgorithm.TheVariants.{Sha512};
     ghost use Rattle.stun_types_integrity.specs.Integrity.{is_lawful_length};
 
     ghost Value = { List ℕ };

@@ -14,13 +14,13 @@ ghost use Rattle.stun_types_integrity.specs.Signing.{hmac_length};
 use crate::constant_time::is_same;
 use crate::hmac::IntegrityHmac;
 use crate::hmac_state::HmacState;
+use crate::stun_types_digest::hmac::BlockDigest;
+use crate::stun_types_wire::algorithm::IntegrityAlgorithm;
 use md5::{Digest, Md5};
 use sha2::{Sha256, Sha512};
 use std::alloc::AllocError;
 use std::fmt;
 use std::marker::Model;
-use stun_types_digest::hmac::BlockDigest;
-use stun_types_wire::algorithm::IntegrityAlgorithm;
 
 /// The bytes of a key: a digest, or the password itself.
 #[derive(Clone, Copy)]

@@ -12,3 +12,6 @@ pub mod integrity_sha256;
 pub mod integrity_sha512;
 pub mod key;
 mod truncated;
+
+pub use stun_types_write;
+pub use stun_types_write::{stun_types_base, stun_types_digest, stun_types_wire};

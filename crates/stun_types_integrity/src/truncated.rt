@@ -4,10 +4,11 @@
 
 ghost use Rattle.std.specs.Prelude.{◌≡◌, length, MatchResult, IsTrue, None, Some};
 ghost use Rattle.stun_types_write.specs.ValueReading.{IsNamed};
-ghost use Rattle.stun_types_integrity.specs.TruncatedHmacs.{truncated_read_refusal, truncated_refusal, is_truncated_length};
+ghost use Rattle.stun_types_integrity.specs.TruncatedHmacs.{truncated_read_refusal};
+ghost use Rattle.stun_types_integrity.specs.TruncatedHmacs.{truncated_refusal, is_truncated_length};
 
-use stun_types_wire::attribute::{AttributeType, RawAttribute};
-use stun_types_wire::error::{StunParseError, StunWriteError};
+use crate::stun_types_wire::attribute::{AttributeType, RawAttribute};
+use crate::stun_types_wire::error::{StunParseError, StunWriteError};
 use stun_types_write::reading::value_of;
 
 /// Checks that `len` bytes are an accepted truncation of an HMAC of `whole` bytes.

@@ -4,25 +4,25 @@ use Rattle.std.specs.Prelude.{Bool, ◌||◌, if◌then◌else◌}
 use Rattle.std.specs.List.{AllByRecursion}
 use Rattle.std.proofs.lemmas.Bool.{cases_Bool, ltb-false}
 use Rattle.std.proofs.lemmas.List.{append-nil}
-use Rattle.stun_types_wire.specs.declared.algorithm.IntegrityAlgorithm.{IntegrityAlgorithm}
-use Rattle.stun_types_wire.specs.declared.algorithm.IntegrityAlgorithm.TheVariants.{Sha1, Sha256, Sha512}
-use Rattle.stun_types_wire.specs.Attributes.{Attr, attr_size, padded}
-use Rattle.stun_types_wire.specs.Fingerprints.{fingerprint_of, shows_fingerprint}
-use Rattle.stun_types_wire.specs.Shape.{kinds_of, last_rank, may_follow, rank}
-use Rattle.stun_types_wire.specs.Registry.{fingerprint_kind}
-use Rattle.stun_types_wire.specs.Text.{FitsAttribute, body_text, header_text, message_text}
-use Rattle.stun_types_wire.specs.Fingerprinted.{EndsWithFingerprint, HasOwnFingerprint}
-use Rattle.stun_types_wire.specs.MessageReading.{IsReadAs}
-use Rattle.stun_types_wire.proofs.Ends.{fit_both}
-use Rattle.stun_types_wire.proofs.Fingerprints.{fingerprint_size}
-use Rattle.stun_types_wire.proofs.Longest.{Follows, follows_shape}
-use Rattle.stun_types_wire.proofs.Written.{written_read}
-use Rattle.stun_types_write.specs.declared.ended.Ended.{Ended}
-use Rattle.stun_types_write.specs.Adding.{IsStarted, add_refusal, fingerprint_add_refusal, growth_refusal}
-use Rattle.stun_types_wire.specs.Registry.{greatest_size}
-use Rattle.stun_types_write.specs.Drafts.{Draft, ended_by}
-use Rattle.stun_types_integrity.specs.Integrity.{Validates, algorithm_of, attribute_kind}
-use Rattle.stun_types_integrity.specs.Signing.{has_signed, has_signed_stronger, hmac_length, order_refusal, signature, signing_refusal, text_to_sign}
+use Rattle.stun_types_attributes.specs.Wire.declared.algorithm.IntegrityAlgorithm.{IntegrityAlgorithm}
+use Rattle.stun_types_attributes.specs.Wire.declared.algorithm.IntegrityAlgorithm.TheVariants.{Sha1, Sha256, Sha512}
+use Rattle.stun_types_attributes.specs.Wire.Attributes.{Attr, attr_size, padded}
+use Rattle.stun_types_attributes.specs.Wire.Fingerprints.{fingerprint_of, shows_fingerprint}
+use Rattle.stun_types_attributes.specs.Wire.Shape.{kinds_of, last_rank, may_follow, rank}
+use Rattle.stun_types_attributes.specs.Wire.Registry.{fingerprint_kind}
+use Rattle.stun_types_attributes.specs.Wire.Text.{FitsAttribute, body_text, header_text, message_text}
+use Rattle.stun_types_attributes.specs.Wire.Fingerprinted.{EndsWithFingerprint, HasOwnFingerprint}
+use Rattle.stun_types_attributes.specs.Wire.MessageReading.{IsReadAs}
+use Rattle.stun_types_attributes.proofs.Wire.Ends.{fit_both}
+use Rattle.stun_types_attributes.proofs.Wire.Fingerprints.{fingerprint_size}
+use Rattle.stun_types_attributes.proofs.Wire.Longest.{Follows, follows_shape}
+use Rattle.stun_types_attributes.proofs.Wire.Written.{written_read}
+use Rattle.stun_types_add.specs.Write.declared.ended.Ended.{Ended}
+use Rattle.stun_types_add.specs.Write.Adding.{IsStarted, add_refusal, fingerprint_add_refusal, growth_refusal}
+use Rattle.stun_types_attributes.specs.Wire.Registry.{greatest_size}
+use Rattle.stun_types_add.specs.Write.Drafts.{Draft, ended_by}
+use Rattle.stun_types_add.specs.Integrity.Integrity.{Validates, algorithm_of, attribute_kind}
+use Rattle.stun_types_add.specs.Integrity.Signing.{has_signed, has_signed_stronger, hmac_length, order_refusal, signature, signing_refusal, text_to_sign}
 use Rattle.stun_types_add.specs.Calls.{Add, Ordinary, Integrity, Fingerprint, AreAccepted, IsLawful, IsOrdinary, IsWritten, after_call, after_calls, attribute_of, attributes_after, attributes_of, refusal_of}
 use Rattle.stun_types_add.proofs.Adds.{add_started, one_more}
 use Rattle.stun_types_add.proofs.Taken.{none_of, text_after}

@@ -7,20 +7,20 @@ use Rattle.std.proofs.lemmas.List.{length-drop, length-take, take-append-drop, d
 use Rattle.std.proofs.lemmas.List.Elements.{filter-append}
 use Rattle.byteorder.specs.Endian.{big_from}
 use Rattle.byteorder.specs.Numbers.{big_from-append, big_number-reads_back}
-use Rattle.stun_types_wire.specs.declared.algorithm.IntegrityAlgorithm.{IntegrityAlgorithm}
-use Rattle.stun_types_wire.specs.declared.algorithm.IntegrityAlgorithm.TheVariants.{Sha1, Sha256, Sha512}
-use Rattle.stun_types_wire.specs.Attributes.{Attr, attr_size, kind_at, length_at, size_at, padded, numbered}
-use Rattle.stun_types_wire.specs.Shape.{rank, may_follow, kinds_of, visible_after}
-use Rattle.stun_types_wire.specs.Registry.{integrity_kind, sha256_kind, sha512_kind, fingerprint_kind}
-use Rattle.stun_types_wire.specs.Grammar.{IsMessage, visible, number_at}
-use Rattle.stun_types_wire.specs.Text.{header_text, parts_text}
-use Rattle.stun_types_wire.specs.Headers.{AreBytes}
-use Rattle.stun_types_wire.proofs.Whole.{whole_long, size_whole}
-use Rattle.stun_types_wire.proofs.Left.{left_at, map_numbered}
-use Rattle.stun_types_wire.proofs.Longest.{Follows, head_follows}
-use Rattle.stun_types_wire.proofs.Converse.{has_text}
-use Rattle.stun_types_wire.specs.Covered.{covered_text, with_length}
-use Rattle.stun_types_integrity.specs.Integrity.{Validates, algorithm_of, attribute_kind, is_lawful_length}
+use Rattle.stun_types_attributes.specs.Wire.declared.algorithm.IntegrityAlgorithm.{IntegrityAlgorithm}
+use Rattle.stun_types_attributes.specs.Wire.declared.algorithm.IntegrityAlgorithm.TheVariants.{Sha1, Sha256, Sha512}
+use Rattle.stun_types_attributes.specs.Wire.Attributes.{Attr, attr_size, kind_at, length_at, size_at, padded, numbered}
+use Rattle.stun_types_attributes.specs.Wire.Shape.{rank, may_follow, kinds_of, visible_after}
+use Rattle.stun_types_attributes.specs.Wire.Registry.{integrity_kind, sha256_kind, sha512_kind, fingerprint_kind}
+use Rattle.stun_types_attributes.specs.Wire.Grammar.{IsMessage, visible, number_at}
+use Rattle.stun_types_attributes.specs.Wire.Text.{header_text, parts_text}
+use Rattle.stun_types_attributes.specs.Wire.Headers.{AreBytes}
+use Rattle.stun_types_attributes.proofs.Wire.Whole.{whole_long, size_whole}
+use Rattle.stun_types_attributes.proofs.Wire.Left.{left_at, map_numbered}
+use Rattle.stun_types_attributes.proofs.Wire.Longest.{Follows, head_follows}
+use Rattle.stun_types_attributes.proofs.Wire.Converse.{has_text}
+use Rattle.stun_types_attributes.specs.Wire.Covered.{covered_text, with_length}
+use Rattle.stun_types_add.specs.Integrity.Integrity.{Validates, algorithm_of, attribute_kind, is_lawful_length}
 use Rattle.stun_types_message.specs.Same.{ShowSame, without_fingerprint}
 use Rattle.stun_types_message.proofs.Splits.{occurs, not_before, same_before}
 

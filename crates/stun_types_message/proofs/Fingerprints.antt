@@ -3,9 +3,9 @@ use Rattle.std.proofs.Common.{◌≡◌, ℕ, ◌+◌, ◌-◌, ◌≤◌, false
 use Rattle.std.proofs.lemmas.Bool.{cases_Bool}
 use Rattle.std.proofs.lemmas.List.{length-drop, length-take}
 use Rattle.std.proofs.lemmas.Slice.Eq.{bytes_eq-Decides}
-use Rattle.stun_types_wire.specs.Attributes.{attr_at, length_at, size_at, padded}
-use Rattle.stun_types_wire.specs.Covered.{covered_text, with_length}
-use Rattle.stun_types_wire.specs.Fingerprints.{fingerprint_value}
+use Rattle.stun_types_attributes.specs.Wire.Attributes.{attr_at, length_at, size_at, padded}
+use Rattle.stun_types_attributes.specs.Wire.Covered.{covered_text, with_length}
+use Rattle.stun_types_attributes.specs.Wire.Fingerprints.{fingerprint_value}
 
 -- A complete value has the length in its header.
 value_length : (rest : List ℕ) → size_at rest ≤ length rest → length (attr_at rest).value ≡ length_at rest

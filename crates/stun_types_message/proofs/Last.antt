@@ -1,5 +1,5 @@
 -- The last integrity attribute.
-use Rattle.stun_types_wire.proofs.Left.{map_numbered}
+use Rattle.stun_types_attributes.proofs.Wire.Left.{map_numbered}
 use Rattle.stun_types_message.proofs.Validating.{last_step}
 use Rattle.stun_types_message.specs.MessageValidation.{last_algorithm}
 

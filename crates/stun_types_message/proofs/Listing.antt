@@ -5,10 +5,10 @@ use Rattle.std.proofs.Common.{refl, sym, ap, ◌∙◌, arith, inl, inr, append_
 use Rattle.std.proofs.lemmas.Bool.{cases_Bool, eqb-true}
 use Rattle.std.proofs.lemmas.List.{append-nil}
 use Rattle.std.proofs.lemmas.List.Folds.{list_any-append}
-use Rattle.stun_types_wire.specs.declared.attribute.AttributeType.{AttributeType}
-use Rattle.stun_types_wire.specs.Attributes.{Attr}
-use Rattle.stun_types_wire.specs.Shape.{kinds_of}
-use Rattle.stun_types_write.specs.Adding.{has_kind}
+use Rattle.stun_types_attributes.specs.Wire.declared.attribute.AttributeType.{AttributeType}
+use Rattle.stun_types_attributes.specs.Wire.Attributes.{Attr}
+use Rattle.stun_types_attributes.specs.Wire.Shape.{kinds_of}
+use Rattle.stun_types_add.specs.Write.Adding.{has_kind}
 use Rattle.stun_types_message.specs.Objections.{each_once, is_missing, is_unknown, objection, objection_refusal, objection_refusal_to, objection_to, unknown_kinds, unknown_refusal, unknown_response_attributes, with_unknown}
 
 -- ---- filters

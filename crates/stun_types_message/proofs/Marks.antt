@@ -2,7 +2,7 @@
 use Rattle.std.specs.Prelude.{◌≡◌, ℕ, false, replicate, List, [], map}
 use Rattle.std.proofs.Common.{ap}
 use Rattle.std.proofs.lemmas.List.{get_or-replicate}
-use Rattle.stun_types_wire.specs.declared.attribute.AttributeType.{AttributeType}
+use Rattle.stun_types_attributes.specs.Wire.declared.attribute.AttributeType.{AttributeType}
 use Rattle.stun_types_message.specs.declared.check.Unknown.{Unknown}
 use Rattle.stun_types_message.specs.MarkedTypes.{IsListing}
 

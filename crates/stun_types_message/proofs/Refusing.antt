@@ -3,16 +3,16 @@ use Rattle.std.specs.Prelude.{◌≡◌, ℕ, ◌+◌, ◌*◌, List, [], ◌∷
 use Rattle.std.proofs.Common.{refl, sym, ap, ◌∙◌, arith}
 use Rattle.std.proofs.lemmas.List.{length-append}
 use Rattle.byteorder.specs.Endian.{big_bytes}
-use Rattle.stun_types_wire.specs.declared.error.StunWriteError.{StunWriteError}
-use Rattle.stun_types_wire.specs.Attributes.{Attr, attr_size, padded}
-use Rattle.stun_types_wire.specs.Text.{header_text, attribute_text, body_text, message_text}
-use Rattle.stun_types_write.specs.Adding.{add_refusal, attr_of, room_refusal, size_refusal}
-use Rattle.stun_types_write.specs.Drafts.{Draft, none_ended}
+use Rattle.stun_types_attributes.specs.Wire.declared.error.StunWriteError.{StunWriteError}
+use Rattle.stun_types_attributes.specs.Wire.Attributes.{Attr, attr_size, padded}
+use Rattle.stun_types_attributes.specs.Wire.Text.{header_text, attribute_text, body_text, message_text}
+use Rattle.stun_types_add.specs.Write.Adding.{add_refusal, attr_of, room_refusal, size_refusal}
+use Rattle.stun_types_add.specs.Write.Drafts.{Draft, none_ended}
 use Rattle.stun_types_add.proofs.Adds.{length-attribute_text}
 use Rattle.stun_types_attributes.specs.ErrorCodes.{CodeAndOther, CodeAndReason, error_value, reason_for, reason_of}
 use Rattle.stun_types_attributes.specs.UnknownTypes.{types_refusal, types_value}
 use Rattle.stun_types_message.specs.Objections.{error_attribute, unknown_attribute, unknown_refusal, unknown_response_attributes}
-use Rattle.stun_types_wire.specs.Registry.{error_code_kind}
+use Rattle.stun_types_attributes.specs.Wire.Registry.{error_code_kind}
 use Rattle.stun_types_attributes.specs.ErrorCodes.{error_refusal}
 
 -- ---- sizes

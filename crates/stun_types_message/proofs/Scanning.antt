@@ -1,15 +1,15 @@
 -- The steps of the scan, in the terms of the code.
 use Rattle.std.proofs.Common.{◌≡◌, ℕ, ◌<◌, ◌≤◌, true, false, Some, None, List, [], length, drop, sym, ap, ◌∙◌}
-use Rattle.stun_types_wire.specs.declared.error.StunParseError.TheVariants.{Truncated, FingerprintMismatch}
-use Rattle.stun_types_wire.specs.Attributes.{kind_at}
-use Rattle.stun_types_wire.specs.Shape.{rank, may_follow, visible_after}
-use Rattle.stun_types_wire.specs.Grammar.{body_refusal}
-use Rattle.stun_types_wire.proofs.Scan.{Continues, is_wrong_at, refuses_cut, refuses_fingerprint, ends_other, continues_at, visible_stops}
+use Rattle.stun_types_attributes.specs.Wire.declared.error.StunParseError.TheVariants.{Truncated, FingerprintMismatch}
+use Rattle.stun_types_attributes.specs.Wire.Attributes.{kind_at}
+use Rattle.stun_types_attributes.specs.Wire.Shape.{rank, may_follow, visible_after}
+use Rattle.stun_types_attributes.specs.Wire.Grammar.{body_refusal}
+use Rattle.stun_types_attributes.proofs.Wire.Scan.{Continues, is_wrong_at, refuses_cut, refuses_fingerprint, ends_other, continues_at, visible_stops}
 use Rattle.stun_types_message.specs.declared.attribute_head.AttributeHead.{AttributeHead}
 use Rattle.stun_types_message.specs.declared.stage.Stage.{Stage}
 use Rattle.stun_types_message.specs.Heads.{DecodesHead}
 use Rattle.stun_types_message.specs.ShapeStages.{stage_rank}
-use Rattle.stun_types_wire.proofs.Scan.{begins, ends_all, refuses_short}
+use Rattle.stun_types_attributes.proofs.Wire.Scan.{begins, ends_all, refuses_short}
 
 -- Whether a type may follow, stated for the type read by the code and for that in the bytes.
 follows_at : (before kind : ℕ) (rest : List ℕ) (b : _) → kind ≡ kind_at rest → may_follow before (rank kind) ≡ b → may_follow before (rank (kind_at rest)) ≡ b

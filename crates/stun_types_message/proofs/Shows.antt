@@ -5,11 +5,11 @@ use Rattle.std.specs.Option.{option_map}
 use Rattle.std.proofs.lemmas.Bool.{cases_Bool}
 use Rattle.std.proofs.lemmas.List.{drop-take, length-drop, length-take}
 use Rattle.std.proofs.lemmas.List.Sums.{sum_by-cons}
-use Rattle.stun_types_wire.specs.Attributes.{Attr, attr_at, attr_size, attributes, first_attributes, is_whole, kind_at, length_at, numbered, padded, size_at}
-use Rattle.stun_types_wire.specs.Shape.{after_visible, may_follow, rank, visible_after}
-use Rattle.stun_types_wire.specs.Grammar.{visible}
-use Rattle.stun_types_wire.proofs.Scan.{Continues, after_stops, visible_short, visible_step, visible_stops}
-use Rattle.stun_types_wire.proofs.Whole.{attributes_short, attributes_whole, not_whole, size_whole, whole_from, whole_long}
+use Rattle.stun_types_attributes.specs.Wire.Attributes.{Attr, attr_at, attr_size, attributes, first_attributes, is_whole, kind_at, length_at, numbered, padded, size_at}
+use Rattle.stun_types_attributes.specs.Wire.Shape.{after_visible, may_follow, rank, visible_after}
+use Rattle.stun_types_attributes.specs.Wire.Grammar.{visible}
+use Rattle.stun_types_attributes.proofs.Wire.Scan.{Continues, after_stops, visible_short, visible_step, visible_stops}
+use Rattle.stun_types_attributes.proofs.Wire.Whole.{attributes_short, attributes_whole, not_whole, size_whole, whole_from, whole_long}
 use Rattle.stun_types_message.specs.Shows.{IsVisibleText}
 
 -- The bytes cut off after the visible attributes contain exactly these.

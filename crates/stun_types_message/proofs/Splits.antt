@@ -2,11 +2,11 @@
 use Rattle.std.proofs.Common.{◌≡◌, ℕ, ◌+◌, ◌≤◌, true, List, [], ◌∷◌, ◌++◌, length, drop, refl, sym, ap, subst, ◌∙◌, arith, inl, inr}
 use Rattle.std.proofs.lemmas.Bool.{cases_Bool}
 use Rattle.std.proofs.lemmas.List.{length-drop, drop-append-le, take-append-le}
-use Rattle.stun_types_wire.specs.Attributes.{Attr, attr_size, attr_at, kind_at, length_at, size_at, is_whole}
-use Rattle.stun_types_wire.specs.Shape.{rank, may_follow}
-use Rattle.stun_types_wire.proofs.Whole.{whole_long, size_whole}
-use Rattle.stun_types_wire.proofs.Scan.{visible_short}
-use Rattle.stun_types_wire.proofs.Left.{left_at, none_stops, left_step}
+use Rattle.stun_types_attributes.specs.Wire.Attributes.{Attr, attr_size, attr_at, kind_at, length_at, size_at, is_whole}
+use Rattle.stun_types_attributes.specs.Wire.Shape.{rank, may_follow}
+use Rattle.stun_types_attributes.proofs.Wire.Whole.{whole_long, size_whole}
+use Rattle.stun_types_attributes.proofs.Wire.Scan.{visible_short}
+use Rattle.stun_types_attributes.proofs.Wire.Left.{left_at, none_stops, left_step}
 
 -- ---- the first attribute that is left
 

@@ -3,9 +3,9 @@ use Rattle.std.specs.Prelude.{◌≡◌, ℕ, Bool, true, false, not, ◌&&◌, 
 use Rattle.std.specs.List.{AllByRecursion, IsDistinct}
 use Rattle.std.proofs.Common.{refl, sym, ap, ◌∙◌, inl, inr}
 use Rattle.std.proofs.lemmas.Bool.{cases_Bool, eqb-true}
-use Rattle.stun_types_wire.specs.Attributes.{Attr}
-use Rattle.stun_types_wire.specs.Shape.{kinds_of}
-use Rattle.stun_types_write.specs.Adding.{has_kind}
+use Rattle.stun_types_attributes.specs.Wire.Attributes.{Attr}
+use Rattle.stun_types_attributes.specs.Wire.Shape.{kinds_of}
+use Rattle.stun_types_add.specs.Write.Adding.{has_kind}
 use Rattle.stun_types_message.specs.Objections.{IsInOrder, IsVisibleBefore, IsUnknownList, each_once, is_unknown, unknown_kinds}
 
 -- ---- facts on each element

@@ -7,28 +7,28 @@ use Rattle.std.proofs.lemmas.Bool.Decides.{Decides-eqb}
 use Rattle.std.proofs.lemmas.Slice.Eq.{starts_is}
 use Rattle.std.proofs.lemmas.List.{append-nil, length-drop, length-take}
 use Rattle.byteorder.specs.Endian.{big_bytes}
-use Rattle.stun_types_wire.specs.declared.error.StunParseError.{StunParseError}
-use Rattle.stun_types_wire.specs.declared.algorithm.IntegrityAlgorithm.{IntegrityAlgorithm}
-use Rattle.stun_types_wire.specs.Attributes.{Attr, attr_size, padded, attr_at, kind_at, length_at, size_at, is_whole, numbered}
-use Rattle.stun_types_wire.specs.Shape.{rank, may_follow, kinds_of, visible_after}
-use Rattle.stun_types_wire.specs.Registry.{integrity_kind, sha256_kind, sha512_kind}
-use Rattle.stun_types_wire.specs.Grammar.{Header, IsMessage, visible, refusal, header_refusal, length_refusal, body_refusal}
-use Rattle.stun_types_wire.proofs.Whole.{whole_long, size_whole}
+use Rattle.stun_types_attributes.specs.Wire.declared.error.StunParseError.{StunParseError}
+use Rattle.stun_types_attributes.specs.Wire.declared.algorithm.IntegrityAlgorithm.{IntegrityAlgorithm}
+use Rattle.stun_types_attributes.specs.Wire.Attributes.{Attr, attr_size, padded, attr_at, kind_at, length_at, size_at, is_whole, numbered}
+use Rattle.stun_types_attributes.specs.Wire.Shape.{rank, may_follow, kinds_of, visible_after}
+use Rattle.stun_types_attributes.specs.Wire.Registry.{integrity_kind, sha256_kind, sha512_kind}
+use Rattle.stun_types_attributes.specs.Wire.Grammar.{Header, IsMessage, visible, refusal, header_refusal, length_refusal, body_refusal}
+use Rattle.stun_types_attributes.proofs.Wire.Whole.{whole_long, size_whole}
 use Rattle.std.specs.List.{AllByRecursion, starts_with}
-use Rattle.stun_types_wire.proofs.Left.{left_at, map_numbered, none_past, none_stops, left_step}
-use Rattle.stun_types_wire.proofs.Scan.{visible_short}
-use Rattle.stun_types_wire.proofs.Longest.{Follows, head_follows}
-use Rattle.stun_types_wire.specs.Covered.{covered_text, with_length}
-use Rattle.stun_types_wire.specs.declared.algorithm.IntegrityAlgorithm.TheVariants.{Sha1, Sha256, Sha512}
-use Rattle.stun_types_wire.specs.declared.error.StunParseError.TheVariants.{MissingAttribute, InvalidAttributeData}
-use Rattle.stun_types_wire.specs.declared.error.ValidateError.{ValidateError}
-use Rattle.stun_types_wire.specs.declared.error.ValidateError.TheVariants.{Parse, IntegrityFailed}
-use Rattle.stun_types_integrity.specs.Integrity.{IsSigned, Validates, algorithm_of, attribute_kind, integrity_hmac}
-use Rattle.stun_types_integrity.specs.Credentials.{Key}
-use Rattle.stun_types_integrity.specs.Keys.{key_of}
-use Rattle.stun_types_integrity.proofs.Keys.{key_for}
+use Rattle.stun_types_attributes.proofs.Wire.Left.{left_at, map_numbered, none_past, none_stops, left_step}
+use Rattle.stun_types_attributes.proofs.Wire.Scan.{visible_short}
+use Rattle.stun_types_attributes.proofs.Wire.Longest.{Follows, head_follows}
+use Rattle.stun_types_attributes.specs.Wire.Covered.{covered_text, with_length}
+use Rattle.stun_types_attributes.specs.Wire.declared.algorithm.IntegrityAlgorithm.TheVariants.{Sha1, Sha256, Sha512}
+use Rattle.stun_types_attributes.specs.Wire.declared.error.StunParseError.TheVariants.{MissingAttribute, InvalidAttributeData}
+use Rattle.stun_types_attributes.specs.Wire.declared.error.ValidateError.{ValidateError}
+use Rattle.stun_types_attributes.specs.Wire.declared.error.ValidateError.TheVariants.{Parse, IntegrityFailed}
+use Rattle.stun_types_add.specs.Integrity.Integrity.{IsSigned, Validates, algorithm_of, attribute_kind, integrity_hmac}
+use Rattle.stun_types_add.specs.Integrity.Credentials.{Key}
+use Rattle.stun_types_add.specs.Integrity.Keys.{key_of}
+use Rattle.stun_types_add.proofs.Integrity.Keys.{key_for}
 use Rattle.stun_types_add.proofs.Chunks.{decoded_head}
-use Rattle.stun_types_integrity.specs.declared.credentials.MessageIntegrityCredentials.{MessageIntegrityCredentials}
+use Rattle.stun_types_add.specs.Integrity.declared.credentials.MessageIntegrityCredentials.{MessageIntegrityCredentials}
 use Rattle.stun_types_message.specs.Parsed.{IsParsed}
 use Rattle.stun_types_message.specs.MessageValidation.{HasDigest, IsLawful, IsRefused, IsRight, OccursAt, first_of_kind, last_algorithm}
 

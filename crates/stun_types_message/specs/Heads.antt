@@ -1,6 +1,6 @@
 -- The decoded header of an attribute.
 use Rattle.std.specs.Prelude.{◌≡◌, ℕ, ◌≤◌, ◌<◌, ◌^◌, List, length}
-use Rattle.stun_types_wire.specs.Attributes.{kind_at, length_at, size_at}
+use Rattle.stun_types_attributes.specs.Wire.Attributes.{kind_at, length_at, size_at}
 use Rattle.stun_types_message.specs.declared.attribute_head.AttributeHead.{AttributeHead}
 
 pub record DecodesHead (bytes : List ℕ) (attribute_head : AttributeHead) : Type 0 where

@@ -1,8 +1,8 @@
 -- The state of the scan that lists a message's unknown types.
 use Rattle.std.specs.Prelude.{◌≡◌, ◌<◌, ℕ, Bool, false, List, get_or, length, map}
-use Rattle.stun_types_write.specs.Adding.{has_kind}
+use Rattle.stun_types_add.specs.Write.Adding.{has_kind}
 use Rattle.stun_types_message.specs.declared.check.Unknown.{Unknown}
-use Rattle.stun_types_wire.specs.Registry.{first_optional_kind}
+use Rattle.stun_types_attributes.specs.Wire.Registry.{first_optional_kind}
 
 -- The types in `seen` are listed: exactly these are marked, they are counted and, unless an allocation
 -- failed, the list has them in order.

@@ -1,17 +1,17 @@
 -- Which attribute is validated, and the errors of validation (RFC 8489, sections 9.1.3, 9.2.4 and 14.5).
 use Rattle.std.specs.Prelude.{◌≡◌, ℕ, ◌+◌, ◌≤◌, ◌==◌, IsTrue, List, [], ◌∷◌, length, drop, find, Option, None, IsSomeAnd, MatchOption}
 use Rattle.std.specs.Option.{option_or}
-use Rattle.stun_types_wire.specs.declared.algorithm.IntegrityAlgorithm.{IntegrityAlgorithm}
-use Rattle.stun_types_wire.specs.declared.error.ValidateError.{ValidateError}
-use Rattle.stun_types_wire.specs.declared.error.ValidateError.TheVariants.{Parse, IntegrityFailed}
-use Rattle.stun_types_wire.specs.declared.error.StunParseError.TheVariants.{MissingAttribute, InvalidAttributeData}
-use Rattle.stun_types_wire.specs.Attributes.{Attr, padded, size_at, numbered}
-use Rattle.stun_types_wire.specs.Registry.{integrity_kind, header_size}
-use Rattle.stun_types_wire.specs.Grammar.{visible}
-use Rattle.stun_types_integrity.specs.declared.credentials.MessageIntegrityCredentials.{MessageIntegrityCredentials}
-use Rattle.stun_types_integrity.specs.Keys.{key_of}
-use Rattle.stun_types_integrity.specs.Integrity.{IsPrefix, algorithm_of, attribute_kind, integrity_hmac, is_lawful_length}
-use Rattle.stun_types_wire.specs.Covered.{covered_text}
+use Rattle.stun_types_attributes.specs.Wire.declared.algorithm.IntegrityAlgorithm.{IntegrityAlgorithm}
+use Rattle.stun_types_attributes.specs.Wire.declared.error.ValidateError.{ValidateError}
+use Rattle.stun_types_attributes.specs.Wire.declared.error.ValidateError.TheVariants.{Parse, IntegrityFailed}
+use Rattle.stun_types_attributes.specs.Wire.declared.error.StunParseError.TheVariants.{MissingAttribute, InvalidAttributeData}
+use Rattle.stun_types_attributes.specs.Wire.Attributes.{Attr, padded, size_at, numbered}
+use Rattle.stun_types_attributes.specs.Wire.Registry.{integrity_kind, header_size}
+use Rattle.stun_types_attributes.specs.Wire.Grammar.{visible}
+use Rattle.stun_types_add.specs.Integrity.declared.credentials.MessageIntegrityCredentials.{MessageIntegrityCredentials}
+use Rattle.stun_types_add.specs.Integrity.Keys.{key_of}
+use Rattle.stun_types_add.specs.Integrity.Integrity.{IsPrefix, algorithm_of, attribute_kind, integrity_hmac, is_lawful_length}
+use Rattle.stun_types_attributes.specs.Wire.Covered.{covered_text}
 
 -- The first visible attribute of a type, with the offset of its header.
 abbrev pub first_of_kind : ℕ → List ℕ → Option (ℕ × Attr)

@@ -3,17 +3,17 @@
 use Rattle.std.specs.Prelude.{◌≡◌, ℕ, ◌+◌, ◌*◌, ◌==◌, ◌&&◌, eqb, nat_lt, Bool, false, not, List, [], ◌∷◌, ◌++◌, ⊤, length, filter, Option, Some, None, if◌then◌else◌}
 use Rattle.std.specs.List.{AllByRecursion, IsDistinct, list_any}
 use Rattle.std.specs.Option.{option_or}
-use Rattle.stun_types_wire.specs.declared.class.MessageClass.TheVariants.{Error}
-use Rattle.stun_types_wire.specs.declared.error.StunWriteError.{StunWriteError}
-use Rattle.stun_types_wire.specs.Attributes.{Attr, kind_at, padded}
-use Rattle.stun_types_wire.specs.Shape.{kinds_of}
-use Rattle.stun_types_wire.specs.Types.{method_of, type_of}
-use Rattle.stun_types_write.specs.Adding.{has_kind, room_refusal, size_refusal}
-use Rattle.stun_types_write.specs.Drafts.{Draft}
+use Rattle.stun_types_attributes.specs.Wire.declared.class.MessageClass.TheVariants.{Error}
+use Rattle.stun_types_attributes.specs.Wire.declared.error.StunWriteError.{StunWriteError}
+use Rattle.stun_types_attributes.specs.Wire.Attributes.{Attr, kind_at, padded}
+use Rattle.stun_types_attributes.specs.Wire.Shape.{kinds_of}
+use Rattle.stun_types_attributes.specs.Wire.Types.{method_of, type_of}
+use Rattle.stun_types_add.specs.Write.Adding.{has_kind, room_refusal, size_refusal}
+use Rattle.stun_types_add.specs.Write.Drafts.{Draft}
 use Rattle.stun_types_add.specs.Calls.{IsComposed}
 use Rattle.stun_types_attributes.specs.ErrorCodes.{error_value, reason_for}
 use Rattle.stun_types_attributes.specs.UnknownTypes.{types_refusal, types_value, with_type}
-use Rattle.stun_types_wire.specs.Registry.{error_code_kind, unknown_attributes_kind, bad_request_code, first_optional_kind, unknown_attribute_code}
+use Rattle.stun_types_attributes.specs.Wire.Registry.{error_code_kind, unknown_attributes_kind, bad_request_code, first_optional_kind, unknown_attribute_code}
 
 -- ---- the types
 

@@ -1,9 +1,9 @@
 -- Messages with the same visible attributes.
 use Rattle.std.specs.Prelude.{◌≡◌, ℕ, not, ◌==◌, List}
 use Rattle.std.specs.List.{filter}
-use Rattle.stun_types_wire.specs.Attributes.{Attr, kind_at}
-use Rattle.stun_types_wire.specs.Registry.{fingerprint_kind}
-use Rattle.stun_types_wire.specs.Grammar.{visible, number_at}
+use Rattle.stun_types_attributes.specs.Wire.Attributes.{Attr, kind_at}
+use Rattle.stun_types_attributes.specs.Wire.Registry.{fingerprint_kind}
+use Rattle.stun_types_attributes.specs.Wire.Grammar.{visible, number_at}
 
 -- The attributes without FINGERPRINT.
 abbrev pub without_fingerprint : List Attr → List Attr

@@ -1,7 +1,7 @@
 -- How far the visible attributes of a message have come in their prescribed order (RFC 8489, sections 14.5 to
 -- 14.7).
 use Rattle.std.specs.Prelude.{◌≡◌, ℕ, true, false, Option, MatchOption}
-use Rattle.stun_types_wire.specs.Shape.{rank, may_follow}
+use Rattle.stun_types_attributes.specs.Wire.Shape.{rank, may_follow}
 use Rattle.stun_types_message.specs.declared.stage.Stage.{Stage}
 use Rattle.stun_types_message.specs.declared.stage.Stage.TheVariants.{Ordinary, Integrity, Sha256, Sha512, Fingerprint}
 

@@ -1,10 +1,10 @@
 -- Visible attributes read as values of their own types.
 use Rattle.std.specs.Prelude.{◌≡◌, ℕ, ◌==◌, List, slice_get, Option, Some, None, IsSomeAnd}
 use Rattle.std.specs.List.{filter}
-use Rattle.stun_types_wire.specs.declared.attribute.AttributeType.{AttributeType}
-use Rattle.stun_types_wire.specs.declared.error.StunParseError.{StunParseError}
-use Rattle.stun_types_wire.specs.declared.error.StunParseError.TheVariants.{MissingAttribute}
-use Rattle.stun_types_wire.specs.Attributes.{Attr}
+use Rattle.stun_types_attributes.specs.Wire.declared.attribute.AttributeType.{AttributeType}
+use Rattle.stun_types_attributes.specs.Wire.declared.error.StunParseError.{StunParseError}
+use Rattle.stun_types_attributes.specs.Wire.declared.error.StunParseError.TheVariants.{MissingAttribute}
+use Rattle.stun_types_attributes.specs.Wire.Attributes.{Attr}
 
 -- The attribute of a type that follows `n` others of that type.
 abbrev pub nth_of_kind : ℕ → ℕ → List Attr → Option Attr

@@ -3,8 +3,8 @@
 ghost use Rattle.std.specs.Prelude.{◌<◌, ◌≤◌, length, MatchOption};
 ghost use Rattle.stun_types_message.specs.Heads.{DecodesHead};
 
+use crate::stun_types_wire::attribute::{AttributeType, pad_attribute_len};
 use byteorder::{BigEndian, ByteOrder};
-use stun_types_wire::attribute::{AttributeType, pad_attribute_len};
 
 /// A decoded attribute header: the type, the length of the value, and the size of the whole
 /// attribute with its header and padding.

@@ -1,21 +1,24 @@
 //! Writes the header of a new message into any writer.
 
 ghost use Rattle.std.specs.Prelude.{◌≡◌, ◌<◌, ◌^◌, IfOk, IsOk, IsSome};
-ghost use Rattle.stun_types_wire.specs.Attributes.{kind_at};
-ghost use Rattle.stun_types_wire.specs.Types.{class_of, method_of, type_of};
-ghost use Rattle.stun_types_wire.specs.Grammar.{number_at};
-ghost use Rattle.stun_types_write.specs.Outcomes.{CanBegin, IsStartedAs};
-ghost use Rattle.stun_types_wire.specs.Generated.{generated_id, number_words};
-ghost use Rattle.stun_types_base.specs.GeneratorWords.{stream_after};
-ghost use Rattle.stun_types_wire.specs.declared.class.MessageClass.TheVariants.{Request, Indication, Success, Error};
+ghost use Rattle.stun_types_attributes.specs.Wire.Attributes.{kind_at};
+ghost use Rattle.stun_types_attributes.specs.Wire.Types.{class_of, method_of, type_of};
+ghost use Rattle.stun_types_attributes.specs.Wire.Grammar.{number_at};
+ghost use Rattle.stun_types_add.specs.Write.Outcomes.{CanBegin, IsStartedAs};
+ghost use Rattle.stun_types_attributes.specs.Wire.Generated.{generated_id, number_words};
+ghost use Rattle.stun_types_attributes.specs.Base.GeneratorWords.{stream_after};
+ghost use Rattle.stun_types_attributes.specs.Wire.declared.class.MessageClass.TheVariants.{Request};
+ghost use Rattle.stun_types_attributes.specs.Wire.declared.class.MessageClass.TheVariants.{Indication};
+ghost use Rattle.stun_types_attributes.specs.Wire.declared.class.MessageClass.TheVariants.{Success};
+ghost use Rattle.stun_types_attributes.specs.Wire.declared.class.MessageClass.TheVariants.{Error};
 
 use crate::parsed::Message;
+use crate::stun_types_base::memory::NoMemory;
+use crate::stun_types_wire::class::{MessageClass, MessageType, Method};
+use crate::stun_types_wire::header::MessageHeader;
+use crate::stun_types_wire::transaction::TransactionId;
+use crate::stun_types_write::writer::MessageWrite;
 use rand_core::Rng;
-use stun_types_base::memory::NoMemory;
-use stun_types_wire::class::{MessageClass, MessageType, Method};
-use stun_types_wire::header::MessageHeader;
-use stun_types_wire::transaction::TransactionId;
-use stun_types_write::writer::MessageWrite;
 
 impl<'a> Message<'a> {
     /// Starts a message with this type and transaction ID in an empty writer that has room for a

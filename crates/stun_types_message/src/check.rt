@@ -1,28 +1,31 @@
 //! Checks the attributes of a request (RFC 8489, section 6.3.1).
 
-ghost use Rattle.std.specs.Prelude.{◌≡◌, ◌==◌, ◌+◌, ◌<◌, ◌≤◌, ◌^◌, ◌++◌, ◌∷◌, false, ℕ, List, [], map, not, is_some, find, length, IfOk};
+ghost use Rattle.std.specs.Prelude.{◌≡◌, ◌==◌, ◌+◌, ◌<◌, ◌≤◌, ◌^◌, ◌++◌, ◌∷◌, false, ℕ, List, []};
+ghost use Rattle.std.specs.Prelude.{map, not, is_some, find, length, IfOk};
 ghost use Rattle.std.specs.List.{list_any};
 ghost use Rattle.std.specs.Option.{option_map};
-ghost use Rattle.stun_types_base.specs.Refusals.{RefusesFor};
-ghost use Rattle.stun_types_wire.specs.Attributes.{Attr, kind_at};
-ghost use Rattle.stun_types_wire.specs.Shape.{kinds_of};
-ghost use Rattle.stun_types_wire.specs.Types.{class_of};
-ghost use Rattle.stun_types_wire.specs.Grammar.{number_at, visible};
-ghost use Rattle.stun_types_wire.specs.declared.class.MessageClass.TheVariants.{Request};
-ghost use Rattle.stun_types_write.specs.Outcomes.{CanBegin};
-ghost use Rattle.stun_types_message.specs.Objections.{IsObjected, IsUnknownList, error_type, is_unknown, objection, objection_refusal, unknown_kinds, with_unknown};
+ghost use Rattle.stun_types_attributes.specs.Base.Refusals.{RefusesFor};
+ghost use Rattle.stun_types_attributes.specs.Wire.Attributes.{Attr, kind_at};
+ghost use Rattle.stun_types_attributes.specs.Wire.Shape.{kinds_of};
+ghost use Rattle.stun_types_attributes.specs.Wire.Types.{class_of};
+ghost use Rattle.stun_types_attributes.specs.Wire.Grammar.{number_at, visible};
+ghost use Rattle.stun_types_attributes.specs.Wire.declared.class.MessageClass.TheVariants.{Request};
+ghost use Rattle.stun_types_add.specs.Write.Outcomes.{CanBegin};
+ghost use Rattle.stun_types_message.specs.Objections.{IsObjected, IsUnknownList, error_type};
+ghost use Rattle.stun_types_message.specs.Objections.{is_unknown, objection, objection_refusal};
+ghost use Rattle.stun_types_message.specs.Objections.{unknown_kinds, with_unknown};
 ghost use Rattle.stun_types_message.specs.MarkedTypes.{IsListing};
-ghost use Rattle.stun_types_wire.specs.Registry.{first_optional_kind};
+ghost use Rattle.stun_types_attributes.specs.Wire.Registry.{first_optional_kind};
 
 use crate::attribute_head::AttributeHead;
 use crate::parsed::Message;
 use crate::refuse::room_for_types;
+use crate::stun_types_wire::attribute::AttributeType;
+use crate::stun_types_wire::error::StunWriteError;
+use crate::stun_types_wire::registry;
+use crate::stun_types_write::among::has_type;
+use crate::stun_types_write::writer::MessageWrite;
 use std::alloc::Global;
-use stun_types_wire::attribute::AttributeType;
-use stun_types_wire::error::StunWriteError;
-use stun_types_wire::registry;
-use stun_types_write::among::has_type;
-use stun_types_write::writer::MessageWrite;
 
 impl<'a> Message<'a> {
     /// Checks the visible attributes of a request, and writes an error response if they are at
@@ -96,7 +99,7 @@ struct Unknown {
 }
 
 /// Returns whether a message has a visible type that is comprehension-required and not supported.
-#[tactic(auto, using(stun_types_wire::proofs::Left::map_numbered))]
+#[tactic(auto, using(stun_types_attributes::proofs::Wire::Left::map_numbered))]
 fn shows_unknown(msg: &Message, supported: &[AttributeType]) -> bool
     ensures { result ≡ list_any (λ a. is_unknown (map (λ t. t.0) supported.now) a.kind)
         (visible msg.now) }
@@ -176,7 +179,7 @@ impl Unknown {
 }
 
 /// Returns whether a type is comprehension-required and not supported.
-#[tactic(auto, using(stun_types_write::proofs::Types::any_numbers))]
+#[tactic(auto, using(stun_types_add::proofs::Write::Types::any_numbers))]
 fn is_unknown_type(atype: AttributeType, supported: &[AttributeType]) -> bool
     ensures { result ≡ is_unknown (map (λ t. t.0) supported.now) atype.0 }
 {

@@ -1,17 +1,18 @@
 //! Compares a FINGERPRINT with the message before it (RFC 8489, section 14.7).
 
 ghost use Rattle.std.specs.Prelude.{◌≡◌, ◌+◌, ◌-◌, ◌≤◌, bytes_eq, drop, length};
-ghost use Rattle.stun_types_wire.specs.Attributes.{attr_at, length_at, size_at};
-ghost use Rattle.stun_types_wire.specs.Covered.{covered_text};
-ghost use Rattle.stun_types_wire.specs.Fingerprints.{fingerprint_value, is_wrong_fingerprint};
+ghost use Rattle.stun_types_attributes.specs.Wire.Attributes.{attr_at, length_at, size_at};
+ghost use Rattle.stun_types_attributes.specs.Wire.Covered.{covered_text};
+ghost use Rattle.stun_types_attributes.specs.Wire.Fingerprints.{fingerprint_value};
+ghost use Rattle.stun_types_attributes.specs.Wire.Fingerprints.{is_wrong_fingerprint};
 ghost use Rattle.stun_types_message.specs.Heads.{DecodesHead};
-ghost use Rattle.stun_types_wire.specs.Registry.{greatest_size, header_size};
+ghost use Rattle.stun_types_attributes.specs.Wire.Registry.{greatest_size, header_size};
 
 use crate::attribute_head::AttributeHead;
+use crate::stun_types_wire::header::MessageHeader;
+use crate::stun_types_wire::registry::FINGERPRINT_SIZE;
+use crate::stun_types_write::attribute::AttributeStaticType;
 use stun_types_add::attribute::Fingerprint;
-use stun_types_wire::header::MessageHeader;
-use stun_types_wire::registry::FINGERPRINT_SIZE;
-use stun_types_write::attribute::AttributeStaticType;
 
 /// Returns whether the attribute at the start of `rest` is a FINGERPRINT that does not match the
 /// message before it.

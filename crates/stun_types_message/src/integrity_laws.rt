@@ -3,16 +3,16 @@
 
 ghost use Rattle.std.specs.Prelude.{◌≡◌, ◌<◌, ◌^◌, ◌++◌, ◌∷◌, List, ℕ, None, length};
 ghost use Rattle.std.specs.List.{AllByRecursion};
-ghost use Rattle.stun_types_wire.specs.declared.algorithm.IntegrityAlgorithm.{IntegrityAlgorithm as Algorithm};
-ghost use Rattle.stun_types_wire.specs.Attributes.{Attr};
-ghost use Rattle.stun_types_wire.specs.Shape.{IsShape, kinds_of};
-ghost use Rattle.stun_types_wire.specs.Text.{FitsAttribute, body_text, message_text};
-ghost use Rattle.stun_types_wire.specs.Fingerprinted.{HasOwnFingerprint};
-ghost use Rattle.stun_types_wire.specs.Headers.{AreBytes};
-ghost use Rattle.stun_types_integrity.specs.Integrity.{IsSigned, Validates, algorithm_of};
-ghost use Rattle.stun_types_integrity.specs.Signing.{signature, text_to_sign};
-ghost use Rattle.stun_types_wire.specs.MessageReading.{IsReadAs};
-ghost use Rattle.stun_types_write.specs.Drafts.{Draft};
+ghost use Rattle.stun_types_attributes.specs.Wire.declared.algorithm.IntegrityAlgorithm.{IntegrityAlgorithm as Algorithm};
+ghost use Rattle.stun_types_attributes.specs.Wire.Attributes.{Attr};
+ghost use Rattle.stun_types_attributes.specs.Wire.Shape.{IsShape, kinds_of};
+ghost use Rattle.stun_types_attributes.specs.Wire.Text.{FitsAttribute, body_text, message_text};
+ghost use Rattle.stun_types_attributes.specs.Wire.Fingerprinted.{HasOwnFingerprint};
+ghost use Rattle.stun_types_attributes.specs.Wire.Headers.{AreBytes};
+ghost use Rattle.stun_types_add.specs.Integrity.Integrity.{IsSigned, Validates, algorithm_of};
+ghost use Rattle.stun_types_add.specs.Integrity.Signing.{signature, text_to_sign};
+ghost use Rattle.stun_types_attributes.specs.Wire.MessageReading.{IsReadAs};
+ghost use Rattle.stun_types_add.specs.Write.Drafts.{Draft};
 ghost use Rattle.stun_types_add.specs.Calls.{Add, Integrity, IsLawful, IsWritten, attributes_of};
 ghost use Rattle.stun_types_message.specs.UnsignedCalls.{IsNoIntegrity};
 ghost use Rattle.stun_types_message.specs.Same.{ShowSame};

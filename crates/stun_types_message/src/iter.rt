@@ -1,15 +1,15 @@
 //! Iterates over the visible attributes of a message.
 
 ghost use Rattle.std.specs.Prelude.{◌≡◌};
-ghost use Rattle.stun_types_wire.specs.Attributes.{numbered};
-ghost use Rattle.stun_types_wire.specs.Grammar.{visible};
-ghost use Rattle.stun_types_wire.specs.Registry.{header_size};
+ghost use Rattle.stun_types_attributes.specs.Wire.Attributes.{numbered};
+ghost use Rattle.stun_types_attributes.specs.Wire.Grammar.{visible};
+ghost use Rattle.stun_types_attributes.specs.Wire.Registry.{header_size};
 
 use crate::attribute_head::AttributeHead;
 use crate::stage::Stage;
+use crate::stun_types_wire::attribute::RawAttribute;
+use crate::stun_types_wire::header::MessageHeader;
 use std::marker::Model;
-use stun_types_wire::attribute::RawAttribute;
-use stun_types_wire::header::MessageHeader;
 
 /// An iterator over the visible attributes of a message, each with the offset of its header. After
 /// the end it keeps returning `None`.
@@ -22,8 +22,8 @@ pub struct MessageAttributesIter<'a> {
 
 impl<'a> Model for MessageAttributesIter<'a> {
     ghost use Rattle.std.specs.Prelude.{List, ℕ, drop};
-    ghost use Rattle.stun_types_wire.specs.Attributes.{Attr, numbered};
-    ghost use Rattle.stun_types_wire.specs.Shape.{visible_after};
+    ghost use Rattle.stun_types_attributes.specs.Wire.Attributes.{Attr, numbered};
+    ghost use Rattle.stun_types_attributes.specs.Wire.Shape.{visible_after};
 
     ghost Value = { List (ℕ × Attr) };
 
@@ -35,7 +35,7 @@ impl<'a> Model for MessageAttributesIter<'a> {
 
 impl<'a> MessageAttributesIter<'a> {
     /// Creates the iterator over the visible attributes after the header of a message.
-    #[tactic(auto, unfolding(stun_types_wire::specs::Grammar::visible))]
+    #[tactic(auto, unfolding(stun_types_attributes::specs::Wire::Grammar::visible))]
     pub fn new(bytes: &'a [u8]) -> MessageAttributesIter<'a>
         ensures { result ≡ numbered header_size (visible bytes.now) }
     {

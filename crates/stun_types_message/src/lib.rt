@@ -14,3 +14,8 @@ pub mod refuse;
 mod stage;
 pub mod typed;
 pub mod validate;
+
+pub use stun_types_add;
+pub use stun_types_add::{stun_types_integrity, stun_types_write};
+pub use stun_types_attributes;
+pub use stun_types_attributes::{stun_types_auth_attributes, stun_types_base, stun_types_wire};

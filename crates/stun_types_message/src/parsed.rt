@@ -1,24 +1,27 @@
 //! Parsed messages over borrowed bytes.
 
-ghost use Rattle.std.specs.Prelude.{◌≡◌, ◌==◌, ◌+◌, ◌<◌, ◌≤◌, ◌^◌, ◌↔◌, IsTrue, None, Some, MatchResult, drop, find, is_some, length, sum_by, take, IfOk, IfSome};
-ghost use Rattle.stun_types_wire.specs.Attributes.{attr_size, kind_at, numbered};
-ghost use Rattle.stun_types_wire.specs.Types.{class_of, method_of, is_response_class};
-ghost use Rattle.stun_types_wire.specs.Grammar.{IsMessage, body_refusal, refusal, visible, number_at};
+ghost use Rattle.std.specs.Prelude.{◌≡◌, ◌==◌, ◌+◌, ◌<◌, ◌≤◌, ◌^◌, ◌↔◌, IsTrue, None, Some};
+ghost use Rattle.std.specs.Prelude.{MatchResult, drop, find, is_some, length, sum_by, take, IfOk};
+ghost use Rattle.std.specs.Prelude.{IfSome};
+ghost use Rattle.stun_types_attributes.specs.Wire.Attributes.{attr_size, kind_at, numbered};
+ghost use Rattle.stun_types_attributes.specs.Wire.Types.{class_of, method_of, is_response_class};
+ghost use Rattle.stun_types_attributes.specs.Wire.Grammar.{IsMessage, body_refusal, refusal};
+ghost use Rattle.stun_types_attributes.specs.Wire.Grammar.{visible, number_at};
 ghost use Rattle.stun_types_message.specs.MessageValidation.{OccursAt, first_of_kind};
 ghost use Rattle.stun_types_message.specs.Shows.{IsVisibleText};
-ghost use Rattle.stun_types_wire.specs.Registry.{greatest_size, header_size};
+ghost use Rattle.stun_types_attributes.specs.Wire.Registry.{greatest_size, header_size};
 
 use crate::attribute_head::AttributeHead;
 use crate::fingerprint;
 use crate::iter::MessageAttributesIter;
 use crate::stage::Stage;
+use crate::stun_types_wire::attribute::{AttributeType, RawAttribute};
+use crate::stun_types_wire::class::{MessageClass, MessageType, Method};
+use crate::stun_types_wire::error::StunParseError;
+use crate::stun_types_wire::header::MessageHeader;
+use crate::stun_types_wire::transaction::TransactionId;
 use std::convert::TryFrom;
 use std::marker::Model;
-use stun_types_wire::attribute::{AttributeType, RawAttribute};
-use stun_types_wire::class::{MessageClass, MessageType, Method};
-use stun_types_wire::error::StunParseError;
-use stun_types_wire::header::MessageHeader;
-use stun_types_wire::transaction::TransactionId;
 
 /// A valid message in borrowed bytes. Contracts see the bytes; `from_bytes` would accept them.
 ///
@@ -217,7 +220,7 @@ impl<'a> Message<'a> {
 /// Does what `Message::from_bytes` does.
 impl<'a> TryFrom<&'a [u8]> for Message<'a> {
     ghost use Rattle.std.specs.Prelude.{◌≡◌, MatchResult, Some, None};
-    ghost use Rattle.stun_types_wire.specs.Grammar.{refusal};
+    ghost use Rattle.stun_types_attributes.specs.Wire.Grammar.{refusal};
 
     type Error = StunParseError;
 

@@ -1,26 +1,29 @@
 //! Error responses to malformed requests (RFC 8489, section 6.3.1).
 
-ghost use Rattle.std.specs.Prelude.{◌≡◌, ◌≢◌, ◌∷◌, ◌+◌, ◌<◌, ◌^◌, [], length, map, IfOk, IfErr, MatchResult, None, Some};
-ghost use Rattle.stun_types_wire.specs.Attributes.{attr_size, kind_at};
-ghost use Rattle.stun_types_wire.specs.Types.{class_of};
-ghost use Rattle.stun_types_wire.specs.Grammar.{number_at};
-ghost use Rattle.stun_types_wire.specs.declared.class.MessageClass.TheVariants.{Request};
-ghost use Rattle.stun_types_base.specs.Refusals.{RefusesFor};
-ghost use Rattle.stun_types_write.specs.Adding.{size_refusal};
-ghost use Rattle.stun_types_write.specs.Outcomes.{CanBegin};
+ghost use Rattle.std.specs.Prelude.{◌≡◌, ◌≢◌, ◌∷◌, ◌+◌, ◌<◌, ◌^◌, [], length, map, IfOk, IfErr};
+ghost use Rattle.std.specs.Prelude.{MatchResult, None, Some};
+ghost use Rattle.stun_types_attributes.specs.Wire.Attributes.{attr_size, kind_at};
+ghost use Rattle.stun_types_attributes.specs.Wire.Types.{class_of};
+ghost use Rattle.stun_types_attributes.specs.Wire.Grammar.{number_at};
+ghost use Rattle.stun_types_attributes.specs.Wire.declared.class.MessageClass.TheVariants.{Request};
+ghost use Rattle.stun_types_attributes.specs.Base.Refusals.{RefusesFor};
+ghost use Rattle.stun_types_add.specs.Write.Adding.{size_refusal};
+ghost use Rattle.stun_types_add.specs.Write.Outcomes.{CanBegin};
 ghost use Rattle.stun_types_add.specs.Calls.{IsComposed};
 ghost use Rattle.stun_types_attributes.specs.ErrorCodes.{error_refusal, reason_for};
-ghost use Rattle.stun_types_message.specs.Objections.{bad_request_attributes, bad_request_refusal, error_attribute, error_type, unknown_refusal, unknown_response_attributes};
+ghost use Rattle.stun_types_message.specs.Objections.{bad_request_attributes, bad_request_refusal};
+ghost use Rattle.stun_types_message.specs.Objections.{error_attribute, error_type, unknown_refusal};
+ghost use Rattle.stun_types_message.specs.Objections.{unknown_response_attributes};
 
 use crate::parsed::Message;
+use crate::stun_types_wire::attribute::{AttributeType, pad_attribute_len};
+use crate::stun_types_wire::error::StunWriteError;
+use crate::stun_types_write::writer::MessageWrite;
 use std::alloc::Global;
 use stun_types_add::ext::add_as;
 use stun_types_add::room::end_of_add;
 use stun_types_attributes::error_code::ErrorCode;
 use stun_types_attributes::unknown_attributes::UnknownAttributes;
-use stun_types_wire::attribute::{AttributeType, pad_attribute_len};
-use stun_types_wire::error::StunWriteError;
-use stun_types_write::writer::MessageWrite;
 
 /// The length in bytes of a message header and an attribute header.
 const MIN_ERROR_LENGTH: usize = 24;

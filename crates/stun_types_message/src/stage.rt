@@ -1,11 +1,11 @@
 //! How far the visible attributes of a message have come in their prescribed order.
 
 ghost use Rattle.std.specs.Prelude.{◌≡◌};
-ghost use Rattle.stun_types_wire.specs.Shape.{rank};
+ghost use Rattle.stun_types_attributes.specs.Wire.Shape.{rank};
 ghost use Rattle.stun_types_message.specs.ShapeStages.{stage_rank, LeadsTo};
 
-use stun_types_wire::attribute::AttributeType;
-use stun_types_wire::registry::{
+use crate::stun_types_wire::attribute::AttributeType;
+use crate::stun_types_wire::registry::{
     FINGERPRINT, MESSAGE_INTEGRITY, MESSAGE_INTEGRITY_SHA256, MESSAGE_INTEGRITY_SHA512,
 };
 

@@ -1,15 +1,15 @@
 //! Reads the visible attributes of a message as values of their own types.
 
 ghost use Rattle.std.specs.Prelude.{◌≡◌, ◌==◌, IfErr, IfOk, IsTrue, find};
-ghost use Rattle.stun_types_base.specs.Refusals.{RefusesFor};
-ghost use Rattle.stun_types_wire.specs.Grammar.{visible};
+ghost use Rattle.stun_types_attributes.specs.Base.Refusals.{RefusesFor};
+ghost use Rattle.stun_types_attributes.specs.Wire.Grammar.{visible};
 ghost use Rattle.stun_types_message.specs.TypedReading.{IsReadOf, nth_of_kind, read_of_refusal};
 
 use crate::parsed::Message;
+use crate::stun_types_wire::attribute::{AttributeType, RawAttribute};
+use crate::stun_types_wire::error::StunParseError;
+use crate::stun_types_write::attribute::{AttributeFromRaw, AttributeStaticType};
 use std::alloc::Global;
-use stun_types_wire::attribute::{AttributeType, RawAttribute};
-use stun_types_wire::error::StunParseError;
-use stun_types_write::attribute::{AttributeFromRaw, AttributeStaticType};
 
 impl<'a> Message<'a> {
     /// Returns the first visible attribute of type `A`. It allocates memory only if `A::from_raw`

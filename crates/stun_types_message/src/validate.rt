@@ -1,21 +1,24 @@
 //! Validates that a message was sent by a holder of a key.
 
-ghost use Rattle.std.specs.Prelude.{◌≡◌, ◌↔◌, ◌-◌, ℕ, List, Ok, Some, None, IsTrue, IsSomeAnd, IfOk, IfErr, OnOk};
-ghost use Rattle.stun_types_wire.specs.declared.algorithm.IntegrityAlgorithm.{IntegrityAlgorithm as Algorithm};
-ghost use Rattle.stun_types_wire.specs.Grammar.{IsMessage, visible};
-ghost use Rattle.stun_types_integrity.specs.Integrity.{IsSigned, Validates, attribute_kind};
-ghost use Rattle.stun_types_integrity.specs.Keys.{key_of};
-ghost use Rattle.stun_types_message.specs.MessageValidation.{HasDigest, IsNotValid, IsRefused, IsRight, OccursAt, first_of_kind, last_algorithm};
+ghost use Rattle.std.specs.Prelude.{◌≡◌, ◌↔◌, ◌-◌, ℕ, List, Ok, Some, None, IsTrue, IsSomeAnd};
+ghost use Rattle.std.specs.Prelude.{IfOk, IfErr, OnOk};
+ghost use Rattle.stun_types_attributes.specs.Wire.declared.algorithm.IntegrityAlgorithm.{IntegrityAlgorithm as Algorithm};
+ghost use Rattle.stun_types_attributes.specs.Wire.Grammar.{IsMessage, visible};
+ghost use Rattle.stun_types_add.specs.Integrity.Integrity.{IsSigned, Validates, attribute_kind};
+ghost use Rattle.stun_types_add.specs.Integrity.Keys.{key_of};
+ghost use Rattle.stun_types_message.specs.MessageValidation.{HasDigest, IsNotValid, IsRefused};
+ghost use Rattle.stun_types_message.specs.MessageValidation.{IsRight, OccursAt, first_of_kind};
+ghost use Rattle.stun_types_message.specs.MessageValidation.{last_algorithm};
 
 use crate::parsed::Message;
-use stun_types_integrity::algorithm::{algorithm_of, attribute_type, is_lawful_length};
-use stun_types_integrity::credentials::MessageIntegrityCredentials;
-use stun_types_integrity::key::IntegrityKey;
-use stun_types_wire::algorithm::IntegrityAlgorithm;
-use stun_types_wire::attribute::pad_attribute_len;
-use stun_types_wire::error::{StunParseError, ValidateError};
-use stun_types_wire::registry::MESSAGE_INTEGRITY;
-use stun_types_write::text::head_decoded;
+use crate::stun_types_integrity::algorithm::{algorithm_of, attribute_type, is_lawful_length};
+use crate::stun_types_integrity::credentials::MessageIntegrityCredentials;
+use crate::stun_types_integrity::key::IntegrityKey;
+use crate::stun_types_wire::algorithm::IntegrityAlgorithm;
+use crate::stun_types_wire::attribute::pad_attribute_len;
+use crate::stun_types_wire::error::{StunParseError, ValidateError};
+use crate::stun_types_wire::registry::MESSAGE_INTEGRITY;
+use crate::stun_types_write::text::head_decoded;
 
 impl<'a> Message<'a> {
     /// Returns the algorithm of the last visible integrity attribute, or `None`.

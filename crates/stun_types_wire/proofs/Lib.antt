@@ -11,3 +11,5 @@ pub mod Fingerprints
 pub mod Texts
 pub mod Converse
 pub mod Written
+-- Re-exports for the crates above this one.
+pub use Rattle.stun_types_base.proofs as Base

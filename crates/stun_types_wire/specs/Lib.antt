@@ -18,3 +18,4 @@ pub mod Headers
 pub mod MessageReading
 -- Crates that depend on this one use these definitions through it.
 pub use Rattle.stun_types_digest.specs as Digest
+pub use Rattle.stun_types_base.specs as Base

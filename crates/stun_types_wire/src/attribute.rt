@@ -1,10 +1,13 @@
 //! Attributes as encoded on the wire: a type, and a value of bytes (RFC 8489, section 14).
 
-ghost use Rattle.std.specs.Prelude.{◌≡◌, ◌+◌, ◌<◌, ◌^◌, ◌++◌, length, IfOk, MatchResult, None, Some, nat_lt};
+ghost use Rattle.std.specs.Prelude.{◌≡◌, ◌+◌, ◌<◌, ◌^◌, ◌++◌, length, IfOk, MatchResult, None};
+ghost use Rattle.std.specs.Prelude.{Some, nat_lt};
 ghost use Rattle.std.specs.Box.{boxed_slice_items};
 ghost use Rattle.byteorder.specs.Endian.{big_bytes};
 ghost use Rattle.stun_types_wire.specs.Attributes.{IsPadded, padded, attr_at};
-ghost use Rattle.stun_types_wire.specs.RawBytes.{attribute_refusal, attribute_header_refusal, type_and_len_refusal, below_refusal, above_refusal};
+ghost use Rattle.stun_types_wire.specs.RawBytes.{attribute_refusal, attribute_header_refusal};
+ghost use Rattle.stun_types_wire.specs.RawBytes.{type_and_len_refusal, below_refusal};
+ghost use Rattle.stun_types_wire.specs.RawBytes.{above_refusal};
 ghost use Rattle.stun_types_wire.specs.Text.{attribute_text};
 ghost use Rattle.stun_types_wire.specs.Registry.{first_optional_kind};
 

@@ -1,8 +1,10 @@
 //! Methods, classes and message types (RFC 8489, section 5).
 
-ghost use Rattle.std.specs.Prelude.{◌≡◌, ◌<◌, ◌≤◌, ◌^◌, ◌++◌, IsTrue, ◌↔◌, length, drop, MatchResult, Some, None, IfOk};
+ghost use Rattle.std.specs.Prelude.{◌≡◌, ◌<◌, ◌≤◌, ◌^◌, ◌++◌, IsTrue, ◌↔◌, length, drop};
+ghost use Rattle.std.specs.Prelude.{MatchResult, Some, None, IfOk};
 ghost use Rattle.byteorder.specs.Endian.{big_bytes, big_number};
-ghost use Rattle.stun_types_wire.specs.Types.{type_of, class_of, method_of, is_response_class, low_class_bit, high_class_bit};
+ghost use Rattle.stun_types_wire.specs.Types.{type_of, class_of, method_of, is_response_class};
+ghost use Rattle.stun_types_wire.specs.Types.{low_class_bit, high_class_bit};
 ghost use Rattle.stun_types_wire.specs.TypeBytes.{type_refusal};
 
 use crate::error::StunParseError;

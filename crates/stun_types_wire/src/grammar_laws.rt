@@ -2,10 +2,12 @@
 //! of RFC 8489. The functions do nothing; each contract is a theorem.
 
 ghost use Rattle.std.specs.Prelude.{◌≡◌, ◌↔◌, ◌<◌, ◌^◌, List, ℕ, drop, length, Some, None};
-ghost use Rattle.stun_types_wire.specs.declared.error.StunParseError.TheVariants.{NotStun, Truncated};
+ghost use Rattle.stun_types_wire.specs.declared.error.StunParseError.TheVariants.{NotStun};
+ghost use Rattle.stun_types_wire.specs.declared.error.StunParseError.TheVariants.{Truncated};
 ghost use Rattle.stun_types_wire.specs.Attributes.{Attr, attributes, kind_at, numbered};
 ghost use Rattle.stun_types_wire.specs.Shape.{IsLongestPrefix, IsShape, kinds_of};
-ghost use Rattle.stun_types_wire.specs.Grammar.{visible, refusal, fingerprint_refusal, header_refusal, number_at};
+ghost use Rattle.stun_types_wire.specs.Grammar.{visible, refusal, fingerprint_refusal};
+ghost use Rattle.stun_types_wire.specs.Grammar.{header_refusal, number_at};
 ghost use Rattle.stun_types_wire.specs.Text.{IsTextOf, FitsAttribute, body_text, message_text};
 ghost use Rattle.std.specs.List.{AllByRecursion};
 ghost use Rattle.stun_types_wire.specs.Fingerprinted.{AreRightFingerprints, HasOwnFingerprint};

@@ -13,3 +13,6 @@ pub mod header;
 pub mod names;
 pub mod registry;
 pub mod transaction;
+
+pub use stun_types_base;
+pub use stun_types_digest;

@@ -2,7 +2,8 @@
 
 ghost use Rattle.std.specs.Prelude.{◌≡◌, OnOk, OnErr};
 ghost use Rattle.std.specs.FinMap as map;
-ghost use Rattle.stun_types_wire.specs.Names.{method_name, attribute_name, known_method, known_attribute};
+ghost use Rattle.stun_types_wire.specs.Names.{method_name, attribute_name, known_method};
+ghost use Rattle.stun_types_wire.specs.Names.{known_attribute};
 
 use crate::attribute::AttributeType;
 use crate::class::Method;

@@ -1,6 +1,6 @@
 -- The draft after a message was started, and after an attribute was added.
 use Rattle.std.specs.Prelude.{◌≡◌, ◌≢◌, ℕ, ◌+◌, ◌≤◌, List, [], ◌∷◌, ◌++◌, length, drop, IsSome, None, Result, Err}
-use Rattle.stun_types_base.specs.Refusals.{IsNamed}
+use Rattle.stun_types_wire.specs.Base.Refusals.{IsNamed}
 use Rattle.stun_types_wire.specs.declared.error.StunWriteError.{StunWriteError}
 use Rattle.stun_types_wire.specs.declared.error.StunWriteError.TheVariants.{NoMemory}
 use Rattle.stun_types_wire.specs.Attributes.{Attr, attr_size}

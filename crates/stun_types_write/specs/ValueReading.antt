@@ -3,7 +3,7 @@ use Rattle.std.specs.Prelude.{ℕ, List, Option, Some, None, if◌then◌else◌
 use Rattle.std.specs.Option.{option_or}
 use Rattle.std.specs.Str.{is_utf8}
 use Rattle.std.specs.declared.ops.Bound.TheVariants.{Included}
-use Rattle.stun_types_base.specs.Refusals.{IsNamed as IsNamedBut}
+use Rattle.stun_types_wire.specs.Base.Refusals.{IsNamed as IsNamedBut}
 use Rattle.stun_types_wire.specs.declared.error.StunParseError.{StunParseError}
 use Rattle.stun_types_wire.specs.declared.error.StunParseError.TheVariants.{InvalidAttributeData, NoMemory}
 use Rattle.stun_types_wire.specs.Attributes.{Attr}

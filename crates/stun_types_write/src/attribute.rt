@@ -1,6 +1,8 @@
 //! What can be added to a message: anything that has an attribute type and a value.
 
-ghost use Rattle.std.specs.Prelude.{◌≡◌, ◌≢◌, ◌+◌, ◌<◌, ◌≤◌, ◌^◌, ◌++◌, ◌||◌, length, drop, true, Bool, ℕ, List, Option, None, Some, IfOk, OnOk, IfErr, OnErr, IsTrue};
+ghost use Rattle.std.specs.Prelude.{◌≡◌, ◌≢◌, ◌+◌, ◌<◌, ◌≤◌, ◌^◌, ◌++◌, ◌||◌, length, drop, true};
+ghost use Rattle.std.specs.Prelude.{Bool, ℕ, List, Option, None, Some, IfOk, OnOk, IfErr, OnErr};
+ghost use Rattle.std.specs.Prelude.{IsTrue};
 ghost use Rattle.byteorder.specs.Endian.{big_bytes};
 ghost use Rattle.stun_types_wire.specs.declared.attribute.AttributeType.{AttributeType};
 ghost use Rattle.stun_types_wire.specs.declared.error.StunWriteError.TheVariants.{TooSmall};
@@ -8,12 +10,12 @@ ghost use Rattle.stun_types_wire.specs.declared.error.StunParseError.{StunParseE
 ghost use Rattle.stun_types_wire.specs.Attributes.{Attr, padded};
 ghost use Rattle.stun_types_wire.specs.Text.{attribute_text};
 ghost use Rattle.stun_types_write.specs.Adding.{attr_of};
-ghost use Rattle.stun_types_base.specs.Refusals.{RefusesFor};
+ghost use Rattle.stun_types_wire.specs.Base.Refusals.{RefusesFor};
 
+use crate::stun_types_base::memory::NoMemory;
 use crate::text::{write_attribute, write_attribute_header};
 use std::alloc::Global;
 use std::fmt::Debug;
-use stun_types_base::memory::NoMemory;
 use stun_types_wire::attribute::{AttributeType as Kind, RawAttribute, pad_attribute_len};
 use stun_types_wire::error::{StunParseError, StunWriteError};
 

@@ -11,3 +11,6 @@ pub mod slice;
 pub mod text;
 pub mod vec;
 pub mod writer;
+
+pub use stun_types_wire;
+pub use stun_types_wire::{stun_types_base, stun_types_digest};

@@ -2,7 +2,8 @@
 
 ghost use Rattle.std.specs.Prelude.{◌≡◌, ◌≤◌, ℕ, length, MatchResult, None};
 ghost use Rattle.stun_types_write.specs.Adding.{attr_of};
-ghost use Rattle.stun_types_write.specs.ValueReading.{IsNamed, value_refusal, text_read_refusal, utf8_refusal};
+ghost use Rattle.stun_types_write.specs.ValueReading.{IsNamed, value_refusal, text_read_refusal};
+ghost use Rattle.stun_types_write.specs.ValueReading.{utf8_refusal};
 
 use std::ops::Bound;
 use stun_types_wire::attribute::{AttributeType, RawAttribute};

@@ -6,10 +6,10 @@ ghost use Rattle.stun_types_write.specs.Lent.{lent_draft};
 
 use crate::attribute::AttributeWrite;
 use crate::ended::Ended;
+use crate::stun_types_base::memory::NoMemory;
 use crate::text::write_length;
 use crate::writer::MessageWrite;
 use std::marker::Model;
-use stun_types_base::memory::NoMemory;
 
 /// A writer into a borrowed slice, from its first byte on. Its maximum size is the length of the
 /// slice. It allocates nothing. `finish` returns the written bytes and the bytes after them.

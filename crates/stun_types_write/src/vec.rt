@@ -6,11 +6,11 @@ ghost use Rattle.stun_types_write.specs.Lent.{own_draft};
 
 use crate::attribute::AttributeWrite;
 use crate::ended::Ended;
+use crate::stun_types_base::memory::NoMemory;
 use crate::text::write_length;
 use crate::writer::MessageWrite;
 use std::alloc::Global;
 use std::marker::Model;
-use stun_types_base::memory::NoMemory;
 
 /// A writer into a vector. It has no maximum size but that of a message. `finish` returns the
 /// vector. Contracts see the record `Own`.

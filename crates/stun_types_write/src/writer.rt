@@ -1,6 +1,7 @@
 //! The interface of a writer, the buffer to which a message is written.
 
-ghost use Rattle.std.specs.Prelude.{◌≡◌, ◌≤◌, IsOk, IsSome, ◌++◌, length, List, ℕ, OnOk, OnErr, find, map};
+ghost use Rattle.std.specs.Prelude.{◌≡◌, ◌≤◌, IsOk, IsSome, ◌++◌, length, List, ℕ, OnOk, OnErr};
+ghost use Rattle.std.specs.Prelude.{find, map};
 ghost use Rattle.std.specs.Borrow.{Array, Lends, sem, u8 as byte};
 ghost use Rattle.std.specs.Option.{option_map};
 ghost use Rattle.stun_types_wire.specs.Attributes.{attr_size};
@@ -8,12 +9,13 @@ ghost use Rattle.stun_types_wire.specs.Covered.{with_length};
 ghost use Rattle.stun_types_write.specs.Adding.{attr_of, has_kind, is_among};
 ghost use Rattle.stun_types_wire.specs.Registry.{greatest_size, header_size};
 ghost use Rattle.stun_types_write.specs.Lent.{with_all};
-ghost use Rattle.stun_types_write.specs.Drafts.{Draft, HasRoom, kinds_written, pushed, pushed_attribute, with_bytes};
+ghost use Rattle.stun_types_write.specs.Drafts.{Draft, HasRoom, kinds_written, pushed};
+ghost use Rattle.stun_types_write.specs.Drafts.{pushed_attribute, with_bytes};
 
 use crate::attribute::AttributeWrite;
 use crate::ended::Ended;
 use crate::scan::{first_written, is_written};
-use stun_types_base::memory::NoMemory;
+use crate::stun_types_base::memory::NoMemory;
 use stun_types_wire::attribute::AttributeType;
 
 /// A buffer to which a message is written. Contracts know a writer by its draft:

@@ -1,12 +1,12 @@
 -- An encoded ADDRESS-ERROR-CODE is decoded as the same family, code and reason phrase.
 use Rattle.std.proofs.Common.{◌≡◌, ℕ, ◌+◌, ◌≤◌, List, length, slice_index, drop, None, refl, sym, ap, ◌∙◌, arith}
 use Rattle.std.specs.Option.{option_or}
-use Rattle.stun_types_base.specs.declared.family.AddressFamily.{AddressFamily}
-use Rattle.stun_types_wire.specs.Attributes.{Attr}
-use Rattle.stun_types_wire.specs.Registry.{error_code_kind, greatest_code, least_code, longest_text}
-use Rattle.stun_types_write.specs.Adding.{attr_of}
-use Rattle.stun_types_write.specs.ValueReading.{utf8_refusal}
-use Rattle.stun_types_write.proofs.Values.{value_is_accepted}
+use Rattle.stun_types_attributes.specs.Base.declared.family.AddressFamily.{AddressFamily}
+use Rattle.stun_types_attributes.specs.Wire.Attributes.{Attr}
+use Rattle.stun_types_attributes.specs.Wire.Registry.{error_code_kind, greatest_code, least_code, longest_text}
+use Rattle.stun_types_integrity.specs.Write.Adding.{attr_of}
+use Rattle.stun_types_integrity.specs.Write.ValueReading.{utf8_refusal}
+use Rattle.stun_types_integrity.proofs.Write.Values.{value_is_accepted}
 use Rattle.stun_types_attributes.specs.ErrorCodes.{CodeAndReason, error_value}
 use Rattle.stun_types_attributes.specs.ErrorCodeReading.{code_refusal, error_decoded, error_read_refusal}
 use Rattle.stun_types_attributes.proofs.Codes.{code_is_accepted, decoded_again, same_error}

@@ -1,8 +1,8 @@
 -- The two values of an EVEN-PORT.
 use Rattle.std.proofs.Common.{◌≡◌, ℕ, Bool, true, false, None, refl, sym, ap, ◌∙◌, arith}
-use Rattle.stun_types_write.specs.Adding.{attr_of}
-use Rattle.stun_types_write.specs.ValueReading.{value_refusal}
-use Rattle.stun_types_write.proofs.Values.{value_is_accepted}
+use Rattle.stun_types_integrity.specs.Write.Adding.{attr_of}
+use Rattle.stun_types_integrity.specs.Write.ValueReading.{value_refusal}
+use Rattle.stun_types_integrity.proofs.Write.Values.{value_is_accepted}
 use Rattle.turn_types_attributes.specs.EvenPorts.{even_port_value, reserves_in}
 
 -- Decoding the value gives the bit.

@@ -1,9 +1,9 @@
 -- Address families and their four bytes.
 use Rattle.std.proofs.Common.{◌≡◌, ℕ, List, slice_index, None, refl, sym, ap, ◌∙◌, arith}
-use Rattle.stun_types_base.specs.declared.family.AddressFamily.{AddressFamily}
-use Rattle.stun_types_base.specs.declared.family.AddressFamily.TheVariants.{IPV4, IPV6}
-use Rattle.stun_types_write.specs.Adding.{attr_of}
-use Rattle.stun_types_write.proofs.Values.{value_is_accepted}
+use Rattle.stun_types_attributes.specs.Base.declared.family.AddressFamily.{AddressFamily}
+use Rattle.stun_types_attributes.specs.Base.declared.family.AddressFamily.TheVariants.{IPV4, IPV6}
+use Rattle.stun_types_integrity.specs.Write.Adding.{attr_of}
+use Rattle.stun_types_integrity.proofs.Write.Values.{value_is_accepted}
 use Rattle.turn_types_attributes.specs.FamilyValues.{family_number, family_value, family_refusal, family_read_refusal}
 
 -- Two families with the same number are equal.

@@ -1,11 +1,11 @@
 -- The value of an ADDRESS-ERROR-CODE (RFC 8656, section 18.12).
 use Rattle.std.specs.Prelude.{ℕ, ◌+◌, ◌/◌, ◌%◌, List, ◌∷◌, drop, slice_index, Option}
 use Rattle.std.specs.Option.{option_or}
-use Rattle.stun_types_base.specs.declared.family.AddressFamily.{AddressFamily}
-use Rattle.stun_types_wire.specs.Attributes.{Attr}
-use Rattle.stun_types_wire.specs.Registry.{longest_text}
-use Rattle.stun_types_wire.specs.declared.error.StunParseError.{StunParseError}
-use Rattle.stun_types_write.specs.ValueReading.{utf8_refusal, value_refusal}
+use Rattle.stun_types_attributes.specs.Base.declared.family.AddressFamily.{AddressFamily}
+use Rattle.stun_types_attributes.specs.Wire.Attributes.{Attr}
+use Rattle.stun_types_attributes.specs.Wire.Registry.{longest_text}
+use Rattle.stun_types_attributes.specs.Wire.declared.error.StunParseError.{StunParseError}
+use Rattle.stun_types_integrity.specs.Write.ValueReading.{utf8_refusal, value_refusal}
 use Rattle.stun_types_attributes.specs.ErrorCodes.{CodeAndReason}
 use Rattle.stun_types_attributes.specs.ErrorCodeReading.{code_refusal, error_decoded}
 use Rattle.turn_types_attributes.specs.FamilyValues.{family_number, family_refusal}

@@ -1,13 +1,13 @@
 -- The value of an attribute that requests an address family (RFC 8656, sections 18.6 and 18.11).
 use Rattle.std.specs.Prelude.{ℕ, ◌==◌, ◌||◌, List, [], ◌∷◌, slice_index, Option, Some, None, if◌then◌else◌}
 use Rattle.std.specs.Option.{option_or}
-use Rattle.stun_types_base.specs.declared.family.AddressFamily.{AddressFamily}
-use Rattle.stun_types_base.specs.declared.family.AddressFamily.TheVariants.{IPV4, IPV6}
-use Rattle.stun_types_wire.specs.Attributes.{Attr}
-use Rattle.stun_types_wire.specs.declared.error.StunParseError.{StunParseError}
-use Rattle.stun_types_wire.specs.declared.error.StunParseError.TheVariants.{InvalidAttributeData}
-use Rattle.stun_types_wire.specs.Registry.{ipv4_family, ipv6_family}
-use Rattle.stun_types_write.specs.ValueReading.{value_refusal}
+use Rattle.stun_types_attributes.specs.Base.declared.family.AddressFamily.{AddressFamily}
+use Rattle.stun_types_attributes.specs.Base.declared.family.AddressFamily.TheVariants.{IPV4, IPV6}
+use Rattle.stun_types_attributes.specs.Wire.Attributes.{Attr}
+use Rattle.stun_types_attributes.specs.Wire.declared.error.StunParseError.{StunParseError}
+use Rattle.stun_types_attributes.specs.Wire.declared.error.StunParseError.TheVariants.{InvalidAttributeData}
+use Rattle.stun_types_attributes.specs.Wire.Registry.{ipv4_family, ipv6_family}
+use Rattle.stun_types_integrity.specs.Write.ValueReading.{value_refusal}
 
 -- The number of a family.
 abbrev pub family_number : AddressFamily → ℕ

@@ -5,17 +5,17 @@ ghost use Rattle.turn_types_attributes.specs.TurnRegistry.{additional_address_fa
 
 use crate::family::{read_family, value_of_family};
 use crate::registry;
+use crate::stun_types_base::family::AddressFamily;
+use crate::stun_types_base::memory::NoMemory;
+use crate::stun_types_wire::attribute::{AttributeType, RawAttribute};
+use crate::stun_types_wire::error::StunParseError;
+use crate::stun_types_write::attribute::{
+    Attribute, AttributeFromRaw, AttributeStaticType, AttributeWrite,
+};
+use crate::stun_types_write::text::write_attribute;
 use std::alloc::Global;
 use std::convert::TryFrom;
 use std::marker::Model;
-use stun_types_base::family::AddressFamily;
-use stun_types_base::memory::NoMemory;
-use stun_types_wire::attribute::{AttributeType, RawAttribute};
-use stun_types_wire::error::StunParseError;
-use stun_types_write::attribute::{
-    Attribute, AttributeFromRaw, AttributeStaticType, AttributeWrite,
-};
-use stun_types_write::text::write_attribute;
 
 /// The family of a second relayed address that a client requests in addition to an IPv4 one (RFC
 /// 8656, section 18.11). Contracts see the family.
@@ -25,7 +25,7 @@ pub struct AdditionalAddressFamily {
 }
 
 impl Model for AdditionalAddressFamily {
-    ghost use Rattle.stun_types_base.specs.declared.family.AddressFamily.{AddressFamily};
+    ghost use Rattle.stun_types_attributes.specs.Base.declared.family.AddressFamily.{AddressFamily};
 
     ghost Value = { AddressFamily };
 
@@ -95,7 +95,7 @@ impl AttributeWrite for AdditionalAddressFamily {
 /// 4. `InvalidAttributeData`: the first byte is not a known family.
 impl<'a, 'raw> TryFrom<&'raw RawAttribute<'a>> for AdditionalAddressFamily {
     ghost use Rattle.std.specs.Prelude.{◌≡◌, MatchResult, Some, None, slice_index};
-    ghost use Rattle.stun_types_write.specs.ValueReading.{IsNamed};
+    ghost use Rattle.stun_types_integrity.specs.Write.ValueReading.{IsNamed};
     ghost use Rattle.turn_types_attributes.specs.FamilyValues.{family_number, family_read_refusal};
 
     type Error = StunParseError;

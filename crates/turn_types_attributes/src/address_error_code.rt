@@ -2,28 +2,30 @@
 
 ghost use Rattle.std.specs.Prelude.{◌≡◌, ◌+◌, ◌≤◌, ◌/◌, ◌%◌, ◌∷◌, [], IfOk, None, length, drop};
 ghost use Rattle.std.specs.Option.{option_or};
-ghost use Rattle.stun_types_base.specs.Refusals.{RefusesFor};
-ghost use Rattle.stun_types_wire.specs.Registry.{greatest_code, least_code, longest_text};
-ghost use Rattle.stun_types_write.specs.ValueReading.{utf8_refusal};
+ghost use Rattle.stun_types_attributes.specs.Base.Refusals.{RefusesFor};
+ghost use Rattle.stun_types_attributes.specs.Wire.Registry.{greatest_code, least_code};
+ghost use Rattle.stun_types_attributes.specs.Wire.Registry.{longest_text};
+ghost use Rattle.stun_types_integrity.specs.Write.ValueReading.{utf8_refusal};
 ghost use Rattle.turn_types_attributes.specs.FamilyValues.{family_number};
 ghost use Rattle.turn_types_attributes.specs.StunTypesAttributes.ErrorCodes.{error_refusal};
-ghost use Rattle.turn_types_attributes.specs.StunTypesAttributes.ErrorCodeReading.{code_refusal, error_decoded};
+ghost use Rattle.turn_types_attributes.specs.StunTypesAttributes.ErrorCodeReading.{code_refusal};
+ghost use Rattle.turn_types_attributes.specs.StunTypesAttributes.ErrorCodeReading.{error_decoded};
 ghost use Rattle.turn_types_attributes.specs.TurnRegistry.{address_error_code_kind};
 
 use crate::family::{family_of, number_of};
 use crate::registry;
+use crate::stun_types_base::family::AddressFamily;
+use crate::stun_types_base::memory::NoMemory;
+use crate::stun_types_wire::attribute::{AttributeType, RawAttribute};
+use crate::stun_types_wire::error::{StunParseError, StunWriteError};
+use crate::stun_types_write::attribute::{
+    Attribute, AttributeFromRaw, AttributeStaticType, AttributeWrite,
+};
+use crate::stun_types_write::reading::{proof_text_is_read, value_of};
+use crate::stun_types_write::text::write_attribute_in_two;
 use std::alloc::Global;
 use std::marker::Model;
 use stun_types_attributes::error_code::ErrorCode;
-use stun_types_base::family::AddressFamily;
-use stun_types_base::memory::NoMemory;
-use stun_types_wire::attribute::{AttributeType, RawAttribute};
-use stun_types_wire::error::{StunParseError, StunWriteError};
-use stun_types_write::attribute::{
-    Attribute, AttributeFromRaw, AttributeStaticType, AttributeWrite,
-};
-use stun_types_write::reading::{proof_text_is_read, value_of};
-use stun_types_write::text::write_attribute_in_two;
 
 /// Why a server allocated no address of one family, in the response to a request for addresses of
 /// both of which one was allocated (RFC 8656, section 18.12): the family, a code from 300 to 699,
@@ -158,7 +160,8 @@ impl AttributeWrite for AddressErrorCode {
 ///    the reason phrase is not UTF-8.
 /// 5. `NoMemory`: an allocation failed.
 impl<'a> AttributeFromRaw<'a> for AddressErrorCode {
-    ghost use Rattle.turn_types_attributes.specs.AddressErrors.{address_error_again, address_error_read_refusal};
+    ghost use Rattle.turn_types_attributes.specs.AddressErrors.{address_error_again};
+    ghost use Rattle.turn_types_attributes.specs.AddressErrors.{address_error_read_refusal};
 
     ghost read_refusal = { address_error_read_refusal };
 

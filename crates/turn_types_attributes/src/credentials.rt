@@ -2,10 +2,10 @@
 
 ghost use Rattle.std.specs.Prelude.{◌≡◌, IfOk};
 
+use crate::stun_types_base::memory::NoMemory;
 use std::alloc::Global;
 use std::fmt;
 use std::marker::Model;
-use stun_types_base::memory::NoMemory;
 use stun_types_integrity::credentials::LongTermCredentials;
 
 /// The name and the password of a user of a TURN server. Contracts see the two texts.

@@ -3,16 +3,16 @@
 ghost use Rattle.turn_types_attributes.specs.TurnRegistry.{dont_fragment_kind};
 
 use crate::registry;
-use std::alloc::Global;
-use std::convert::TryFrom;
-use stun_types_base::memory::NoMemory;
-use stun_types_wire::attribute::{AttributeType, RawAttribute};
-use stun_types_wire::error::StunParseError;
-use stun_types_write::attribute::{
+use crate::stun_types_base::memory::NoMemory;
+use crate::stun_types_wire::attribute::{AttributeType, RawAttribute};
+use crate::stun_types_wire::error::StunParseError;
+use crate::stun_types_write::attribute::{
     Attribute, AttributeFromRaw, AttributeStaticType, AttributeWrite,
 };
-use stun_types_write::reading::value_of;
-use stun_types_write::text::write_attribute;
+use crate::stun_types_write::reading::value_of;
+use crate::stun_types_write::text::write_attribute;
+use std::alloc::Global;
+use std::convert::TryFrom;
 
 /// Requests that the server set the DF bit in the IPv4 header of datagrams to a peer (RFC 8656,
 /// section 18.9). It has no value.
@@ -70,7 +70,7 @@ impl AttributeWrite for DontFragment {
 /// 2. `TooLarge`: the value is not empty.
 impl<'a, 'raw> TryFrom<&'raw RawAttribute<'a>> for DontFragment {
     ghost use Rattle.std.specs.Prelude.{◌≡◌, MatchResult, None};
-    ghost use Rattle.stun_types_write.specs.ValueReading.{IsNamed, value_refusal};
+    ghost use Rattle.stun_types_integrity.specs.Write.ValueReading.{IsNamed, value_refusal};
 
     type Error = StunParseError;
 
@@ -87,7 +87,7 @@ impl<'a, 'raw> TryFrom<&'raw RawAttribute<'a>> for DontFragment {
 /// Fails as `try_from` does. It allocates no memory.
 impl<'a> AttributeFromRaw<'a> for DontFragment {
     ghost use Rattle.std.specs.Prelude.{[], false};
-    ghost use Rattle.stun_types_write.specs.ValueReading.{value_refusal};
+    ghost use Rattle.stun_types_integrity.specs.Write.ValueReading.{value_refusal};
 
     ghost read_refusal = { value_refusal dont_fragment_kind 0 0 };
 
@@ -107,6 +107,6 @@ impl<'a> AttributeFromRaw<'a> for DontFragment {
         DontFragment::from_raw_ref(alloc, &raw)
     }
 
-    #[tactic(auto, using(stun_types_write::proofs::Values::value_is_accepted))]
+    #[tactic(auto, using(stun_types_integrity::proofs::Write::Values::value_is_accepted))]
     fn proof_is_read_back(&self, _read: &DontFragment) {}
 }

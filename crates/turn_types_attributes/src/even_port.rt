@@ -1,22 +1,22 @@
 //! EVEN-PORT (RFC 8656, section 18.7).
 
 ghost use Rattle.std.specs.Prelude.{◌≡◌, None, MatchResult};
-ghost use Rattle.stun_types_write.specs.ValueReading.{IsNamed, value_refusal};
+ghost use Rattle.stun_types_integrity.specs.Write.ValueReading.{IsNamed, value_refusal};
 ghost use Rattle.turn_types_attributes.specs.EvenPorts.{even_port_value, reserves_in};
 ghost use Rattle.turn_types_attributes.specs.TurnRegistry.{even_port_kind};
 
 use crate::registry;
+use crate::stun_types_base::memory::NoMemory;
+use crate::stun_types_wire::attribute::{AttributeType, RawAttribute};
+use crate::stun_types_wire::error::StunParseError;
+use crate::stun_types_write::attribute::{
+    Attribute, AttributeFromRaw, AttributeStaticType, AttributeWrite,
+};
+use crate::stun_types_write::reading::value_of;
+use crate::stun_types_write::text::write_attribute;
 use std::alloc::Global;
 use std::convert::TryFrom;
 use std::marker::Model;
-use stun_types_base::memory::NoMemory;
-use stun_types_wire::attribute::{AttributeType, RawAttribute};
-use stun_types_wire::error::StunParseError;
-use stun_types_write::attribute::{
-    Attribute, AttributeFromRaw, AttributeStaticType, AttributeWrite,
-};
-use stun_types_write::reading::value_of;
-use stun_types_write::text::write_attribute;
 
 /// Requests that the port of the relayed address be even, and optionally that the server reserve
 /// the next port on the same IP address for a later allocation (RFC 8656, section 18.7). Contracts
@@ -104,7 +104,7 @@ impl AttributeWrite for EvenPort {
 /// 3. `TooLarge`: the value has more than one byte.
 impl<'a, 'raw> TryFrom<&'raw RawAttribute<'a>> for EvenPort {
     ghost use Rattle.std.specs.Prelude.{◌≡◌, MatchResult, Some, None};
-    ghost use Rattle.stun_types_write.specs.ValueReading.{IsNamed, value_refusal};
+    ghost use Rattle.stun_types_integrity.specs.Write.ValueReading.{IsNamed, value_refusal};
     ghost use Rattle.turn_types_attributes.specs.EvenPorts.{reserves_in};
 
     type Error = StunParseError;
@@ -123,7 +123,7 @@ impl<'a, 'raw> TryFrom<&'raw RawAttribute<'a>> for EvenPort {
 /// Fails as `try_from` does. It allocates no memory.
 impl<'a> AttributeFromRaw<'a> for EvenPort {
     ghost use Rattle.std.specs.Prelude.{false};
-    ghost use Rattle.stun_types_write.specs.ValueReading.{value_refusal};
+    ghost use Rattle.stun_types_integrity.specs.Write.ValueReading.{value_refusal};
     ghost use Rattle.turn_types_attributes.specs.EvenPorts.{even_port_value, reserves_in};
 
     ghost read_refusal = { value_refusal even_port_kind 1 1 };

@@ -1,14 +1,15 @@
 //! Attribute values that request an address family.
 
 ghost use Rattle.std.specs.Prelude.{◌≡◌, None, MatchResult, slice_index};
-ghost use Rattle.stun_types_write.specs.ValueReading.{IsNamed};
-ghost use Rattle.turn_types_attributes.specs.FamilyValues.{family_number, family_read_refusal, family_refusal, family_value};
+ghost use Rattle.stun_types_integrity.specs.Write.ValueReading.{IsNamed};
+ghost use Rattle.turn_types_attributes.specs.FamilyValues.{family_number, family_read_refusal};
+ghost use Rattle.turn_types_attributes.specs.FamilyValues.{family_refusal, family_value};
 
-use stun_types_base::family::AddressFamily;
-use stun_types_wire::attribute::{AttributeType, RawAttribute};
-use stun_types_wire::error::StunParseError;
-use stun_types_wire::registry::{IPV4_FAMILY, IPV6_FAMILY};
-use stun_types_write::reading::value_of;
+use crate::stun_types_base::family::AddressFamily;
+use crate::stun_types_wire::attribute::{AttributeType, RawAttribute};
+use crate::stun_types_wire::error::StunParseError;
+use crate::stun_types_wire::registry::{IPV4_FAMILY, IPV6_FAMILY};
+use crate::stun_types_write::reading::value_of;
 
 /// Returns the value for a family: its number and three zero bytes.
 pub(crate) fn value_of_family(family: AddressFamily) -> [u8; 4]

@@ -15,3 +15,7 @@ pub mod requested_address_family;
 pub mod requested_transport;
 pub mod reservation_token;
 pub mod xor_relayed_address;
+
+pub use stun_types_attributes;
+pub use stun_types_attributes::{stun_types_base, stun_types_wire};
+pub use stun_types_integrity::stun_types_write;

@@ -5,16 +5,16 @@ ghost use Rattle.turn_types_attributes.specs.TurnRegistry.{lifetime_kind};
 
 use crate::number::read_number;
 use crate::registry;
+use crate::stun_types_base::memory::NoMemory;
+use crate::stun_types_wire::attribute::{AttributeType, RawAttribute};
+use crate::stun_types_wire::error::StunParseError;
+use crate::stun_types_write::attribute::{
+    Attribute, AttributeFromRaw, AttributeStaticType, AttributeWrite,
+};
+use crate::stun_types_write::text::write_attribute;
 use std::alloc::Global;
 use std::convert::TryFrom;
 use std::marker::Model;
-use stun_types_base::memory::NoMemory;
-use stun_types_wire::attribute::{AttributeType, RawAttribute};
-use stun_types_wire::error::StunParseError;
-use stun_types_write::attribute::{
-    Attribute, AttributeFromRaw, AttributeStaticType, AttributeWrite,
-};
-use stun_types_write::text::write_attribute;
 
 /// The lifetime of an allocation in seconds, if it is not refreshed (RFC 8656, section 18.2). Any
 /// 32-bit number is allowed. Contracts see the number.
@@ -89,7 +89,7 @@ impl AttributeWrite for Lifetime {
 /// 3. `TooLarge`: the value has more than four bytes.
 impl<'a, 'raw> TryFrom<&'raw RawAttribute<'a>> for Lifetime {
     ghost use Rattle.std.specs.Prelude.{◌≡◌, MatchResult, Some, None};
-    ghost use Rattle.stun_types_write.specs.ValueReading.{IsNamed, value_refusal};
+    ghost use Rattle.stun_types_integrity.specs.Write.ValueReading.{IsNamed, value_refusal};
     ghost use Rattle.byteorder.specs.Endian.{big_number};
 
     type Error = StunParseError;
@@ -108,7 +108,7 @@ impl<'a, 'raw> TryFrom<&'raw RawAttribute<'a>> for Lifetime {
 /// Fails as `try_from` does. It allocates no memory.
 impl<'a> AttributeFromRaw<'a> for Lifetime {
     ghost use Rattle.std.specs.Prelude.{false};
-    ghost use Rattle.stun_types_write.specs.ValueReading.{value_refusal};
+    ghost use Rattle.stun_types_integrity.specs.Write.ValueReading.{value_refusal};
 
     ghost read_refusal = { value_refusal lifetime_kind 4 4 };
 

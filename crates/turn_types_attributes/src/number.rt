@@ -1,13 +1,13 @@
 //! Attribute values that are a 32-bit number.
 
 ghost use Rattle.std.specs.Prelude.{◌≡◌, None, length, MatchResult};
-ghost use Rattle.stun_types_write.specs.ValueReading.{IsNamed, value_refusal};
+ghost use Rattle.stun_types_integrity.specs.Write.ValueReading.{IsNamed, value_refusal};
 ghost use Rattle.byteorder.specs.Endian.{big_bytes, big_number};
 
+use crate::stun_types_wire::attribute::{AttributeType, RawAttribute};
+use crate::stun_types_wire::error::StunParseError;
+use crate::stun_types_write::reading::value_of;
 use byteorder::{BigEndian, ByteOrder};
-use stun_types_wire::attribute::{AttributeType, RawAttribute};
-use stun_types_wire::error::StunParseError;
-use stun_types_write::reading::value_of;
 
 /// Decodes the four bytes of an attribute of this type as a big-endian number.
 ///

@@ -2,8 +2,8 @@
 //! 8656, sections 17 and 18; RFC 6062, section 6.1). Contracts use the same numbers from
 //! `specs/TurnRegistry.antt`.
 
-use stun_types_wire::attribute::AttributeType;
-use stun_types_wire::class::Method;
+use crate::stun_types_wire::attribute::AttributeType;
+use crate::stun_types_wire::class::Method;
 
 // ---- methods
 

@@ -5,17 +5,17 @@ ghost use Rattle.turn_types_attributes.specs.TurnRegistry.{requested_address_fam
 
 use crate::family::{read_family, value_of_family};
 use crate::registry;
+use crate::stun_types_base::family::AddressFamily;
+use crate::stun_types_base::memory::NoMemory;
+use crate::stun_types_wire::attribute::{AttributeType, RawAttribute};
+use crate::stun_types_wire::error::StunParseError;
+use crate::stun_types_write::attribute::{
+    Attribute, AttributeFromRaw, AttributeStaticType, AttributeWrite,
+};
+use crate::stun_types_write::text::write_attribute;
 use std::alloc::Global;
 use std::convert::TryFrom;
 use std::marker::Model;
-use stun_types_base::family::AddressFamily;
-use stun_types_base::memory::NoMemory;
-use stun_types_wire::attribute::{AttributeType, RawAttribute};
-use stun_types_wire::error::StunParseError;
-use stun_types_write::attribute::{
-    Attribute, AttributeFromRaw, AttributeStaticType, AttributeWrite,
-};
-use stun_types_write::text::write_attribute;
 
 /// The family of the relayed address that a client requests. Without this attribute, it is IPv4
 /// (RFC 8656, section 18.6). Contracts see the family.
@@ -25,7 +25,7 @@ pub struct RequestedAddressFamily {
 }
 
 impl Model for RequestedAddressFamily {
-    ghost use Rattle.stun_types_base.specs.declared.family.AddressFamily.{AddressFamily};
+    ghost use Rattle.stun_types_attributes.specs.Base.declared.family.AddressFamily.{AddressFamily};
 
     ghost Value = { AddressFamily };
 
@@ -95,7 +95,7 @@ impl AttributeWrite for RequestedAddressFamily {
 /// 4. `InvalidAttributeData`: the first byte is not a known family.
 impl<'a, 'raw> TryFrom<&'raw RawAttribute<'a>> for RequestedAddressFamily {
     ghost use Rattle.std.specs.Prelude.{◌≡◌, MatchResult, Some, None, slice_index};
-    ghost use Rattle.stun_types_write.specs.ValueReading.{IsNamed};
+    ghost use Rattle.stun_types_integrity.specs.Write.ValueReading.{IsNamed};
     ghost use Rattle.turn_types_attributes.specs.FamilyValues.{family_number, family_read_refusal};
 
     type Error = StunParseError;

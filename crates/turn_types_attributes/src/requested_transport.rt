@@ -1,22 +1,22 @@
 //! REQUESTED-TRANSPORT (RFC 8656, section 18.8).
 
 ghost use Rattle.std.specs.Prelude.{◌≡◌, None, MatchResult, slice_index};
-ghost use Rattle.stun_types_write.specs.ValueReading.{IsNamed, value_refusal};
+ghost use Rattle.stun_types_integrity.specs.Write.ValueReading.{IsNamed, value_refusal};
 ghost use Rattle.turn_types_attributes.specs.Transports.{transport_value};
 ghost use Rattle.turn_types_attributes.specs.TurnRegistry.{requested_transport_kind};
 
 use crate::registry;
+use crate::stun_types_base::memory::NoMemory;
+use crate::stun_types_wire::attribute::{AttributeType, RawAttribute};
+use crate::stun_types_wire::error::StunParseError;
+use crate::stun_types_write::attribute::{
+    Attribute, AttributeFromRaw, AttributeStaticType, AttributeWrite,
+};
+use crate::stun_types_write::reading::value_of;
+use crate::stun_types_write::text::write_attribute;
 use std::alloc::Global;
 use std::convert::TryFrom;
 use std::marker::Model;
-use stun_types_base::memory::NoMemory;
-use stun_types_wire::attribute::{AttributeType, RawAttribute};
-use stun_types_wire::error::StunParseError;
-use stun_types_write::attribute::{
-    Attribute, AttributeFromRaw, AttributeStaticType, AttributeWrite,
-};
-use stun_types_write::reading::value_of;
-use stun_types_write::text::write_attribute;
 
 /// The transport between an allocation and its peers (RFC 8656, section 18.8): an IP protocol
 /// number from 0 to 255. Contracts see the number.
@@ -103,7 +103,7 @@ impl AttributeWrite for RequestedTransport {
 /// 3. `TooLarge`: the value has more than four bytes.
 impl<'a, 'raw> TryFrom<&'raw RawAttribute<'a>> for RequestedTransport {
     ghost use Rattle.std.specs.Prelude.{◌≡◌, MatchResult, Some, None, slice_index};
-    ghost use Rattle.stun_types_write.specs.ValueReading.{IsNamed, value_refusal};
+    ghost use Rattle.stun_types_integrity.specs.Write.ValueReading.{IsNamed, value_refusal};
 
     type Error = StunParseError;
 
@@ -121,7 +121,7 @@ impl<'a, 'raw> TryFrom<&'raw RawAttribute<'a>> for RequestedTransport {
 /// Fails as `try_from` does. It allocates no memory.
 impl<'a> AttributeFromRaw<'a> for RequestedTransport {
     ghost use Rattle.std.specs.Prelude.{false, slice_index};
-    ghost use Rattle.stun_types_write.specs.ValueReading.{value_refusal};
+    ghost use Rattle.stun_types_integrity.specs.Write.ValueReading.{value_refusal};
     ghost use Rattle.turn_types_attributes.specs.Transports.{transport_value};
 
     ghost read_refusal = { value_refusal requested_transport_kind 4 4 };
@@ -145,7 +145,7 @@ impl<'a> AttributeFromRaw<'a> for RequestedTransport {
         RequestedTransport::from_raw_ref(alloc, &raw)
     }
 
-    #[tactic(auto, using(stun_types_write::proofs::Values::value_is_accepted))]
+    #[tactic(auto, using(stun_types_integrity::proofs::Write::Values::value_is_accepted))]
     fn proof_is_read_back(&self, _read: &RequestedTransport) {}
 }
 

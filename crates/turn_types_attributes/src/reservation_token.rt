@@ -1,21 +1,22 @@
 //! RESERVATION-TOKEN (RFC 8656, section 18.10).
 
 ghost use Rattle.std.specs.Prelude.{◌≡◌, length, None, MatchResult};
-ghost use Rattle.stun_types_write.specs.ValueReading.{IsNamed, value_refusal};
-ghost use Rattle.turn_types_attributes.specs.TurnRegistry.{reservation_token_kind, reservation_token_length};
+ghost use Rattle.stun_types_integrity.specs.Write.ValueReading.{IsNamed, value_refusal};
+ghost use Rattle.turn_types_attributes.specs.TurnRegistry.{reservation_token_kind};
+ghost use Rattle.turn_types_attributes.specs.TurnRegistry.{reservation_token_length};
 
 use crate::registry;
+use crate::stun_types_base::memory::NoMemory;
+use crate::stun_types_wire::attribute::{AttributeType, RawAttribute};
+use crate::stun_types_wire::error::StunParseError;
+use crate::stun_types_write::attribute::{
+    Attribute, AttributeFromRaw, AttributeStaticType, AttributeWrite,
+};
+use crate::stun_types_write::reading::value_of;
+use crate::stun_types_write::text::write_attribute;
 use std::alloc::Global;
 use std::convert::TryFrom;
 use std::marker::Model;
-use stun_types_base::memory::NoMemory;
-use stun_types_wire::attribute::{AttributeType, RawAttribute};
-use stun_types_wire::error::StunParseError;
-use stun_types_write::attribute::{
-    Attribute, AttributeFromRaw, AttributeStaticType, AttributeWrite,
-};
-use stun_types_write::reading::value_of;
-use stun_types_write::text::write_attribute;
 
 /// The token of a port that a server has reserved: a server sends it in the response to an
 /// EVEN-PORT that requests a reservation, and a client in the request that takes the port (RFC
@@ -96,7 +97,7 @@ impl AttributeWrite for ReservationToken {
 /// 3. `TooLarge`: the value has more than eight bytes.
 impl<'a, 'raw> TryFrom<&'raw RawAttribute<'a>> for ReservationToken {
     ghost use Rattle.std.specs.Prelude.{◌≡◌, MatchResult, Some, None};
-    ghost use Rattle.stun_types_write.specs.ValueReading.{IsNamed, value_refusal};
+    ghost use Rattle.stun_types_integrity.specs.Write.ValueReading.{IsNamed, value_refusal};
 
     type Error = StunParseError;
 
@@ -123,7 +124,7 @@ impl<'a, 'raw> TryFrom<&'raw RawAttribute<'a>> for ReservationToken {
 /// Fails as `try_from` does. It allocates no memory.
 impl<'a> AttributeFromRaw<'a> for ReservationToken {
     ghost use Rattle.std.specs.Prelude.{false};
-    ghost use Rattle.stun_types_write.specs.ValueReading.{value_refusal};
+    ghost use Rattle.stun_types_integrity.specs.Write.ValueReading.{value_refusal};
 
     ghost read_refusal = { value_refusal reservation_token_kind reservation_token_length
         reservation_token_length };
@@ -143,7 +144,7 @@ impl<'a> AttributeFromRaw<'a> for ReservationToken {
         ReservationToken::from_raw_ref(alloc, &raw)
     }
 
-    #[tactic(auto, using(stun_types_write::proofs::Values::value_is_accepted))]
+    #[tactic(auto, using(stun_types_integrity::proofs::Write::Values::value_is_accepted))]
     fn proof_is_read_back(&self, _read: &ReservationToken) {
         let _ = self.token();
     }

@@ -1,24 +1,24 @@
 //! XOR-RELAYED-ADDRESS (RFC 8656, section 18.5).
 
 ghost use Rattle.std.specs.Prelude.{Some, ◌≡◌};
-ghost use Rattle.stun_types_write.specs.ValueReading.{IsNamed};
+ghost use Rattle.stun_types_integrity.specs.Write.ValueReading.{IsNamed};
 ghost use Rattle.stun_types_attributes.specs.Addresses.{address_of, address_value};
 ghost use Rattle.stun_types_attributes.specs.Xor.{xored};
 ghost use Rattle.turn_types_attributes.specs.TurnRegistry.{xor_relayed_address_kind};
 
 use crate::registry;
+use crate::stun_types_base::memory::NoMemory;
+use crate::stun_types_wire::attribute::{AttributeType, RawAttribute};
+use crate::stun_types_wire::error::StunParseError;
+use crate::stun_types_wire::transaction::TransactionId;
+use crate::stun_types_write::attribute::{
+    Attribute, AttributeFromRaw, AttributeStaticType, AttributeWrite,
+};
 use std::alloc::Global;
 use std::convert::TryFrom;
 use std::marker::Model;
 use std::net::SocketAddr;
 use stun_types_attributes::socket_addr::XorSocketAddr;
-use stun_types_base::memory::NoMemory;
-use stun_types_wire::attribute::{AttributeType, RawAttribute};
-use stun_types_wire::error::StunParseError;
-use stun_types_wire::transaction::TransactionId;
-use stun_types_write::attribute::{
-    Attribute, AttributeFromRaw, AttributeStaticType, AttributeWrite,
-};
 
 /// The relayed address of an allocation, XORed as in XOR-MAPPED-ADDRESS (RFC 8656, section 18.5).
 /// Contracts see the bytes of the value.
@@ -98,7 +98,7 @@ impl AttributeWrite for XorRelayedAddress {
 ///    IPv6.
 impl<'a, 'raw> TryFrom<&'raw RawAttribute<'a>> for XorRelayedAddress {
     ghost use Rattle.std.specs.Prelude.{◌≡◌, MatchResult, Some, None};
-    ghost use Rattle.stun_types_write.specs.ValueReading.{IsNamed};
+    ghost use Rattle.stun_types_integrity.specs.Write.ValueReading.{IsNamed};
     ghost use Rattle.stun_types_attributes.specs.Addresses.{address_again, address_read_refusal};
 
     type Error = StunParseError;

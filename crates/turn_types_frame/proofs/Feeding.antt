@@ -2,7 +2,7 @@
 use Rattle.std.proofs.Common.{◌≡◌, ℕ, zero, suc, ◌+◌, ◌<◌, List, [], ◌++◌, length, take, drop, refl, sym, ap, ◌∙◌, arith, inl, inr}
 use Rattle.std.proofs.lemmas.Bool.{cases_Bool}
 use Rattle.std.proofs.lemmas.List.{length-append, length-drop, take-append-le, drop-append-le}
-use Rattle.stun_types_wire.specs.Attributes.{length_at, padded}
+use Rattle.turn_types_peer.specs.Wire.Attributes.{length_at, padded}
 use Rattle.turn_types_frame.specs.declared.head.FrameHead.TheVariants.{Message, Channel, Incomplete, Invalid}
 use Rattle.turn_types_frame.specs.StreamHeads.{head, size_of}
 use Rattle.turn_types_frame.specs.Streams.{Fed, alive, dead_stream, left_by, one_more, fed_by, fed_within, fed, feeding}

@@ -2,7 +2,7 @@
 use Rattle.std.proofs.Common.{◌≡◌, ℕ, zero, suc, ◌+◌, ◌<◌, List, [], ◌∷◌, ◌++◌, length, take, drop, refl, sym, ap, ◌∙◌, append_assoc, arith, inl, inr}
 use Rattle.std.specs.List.{concat}
 use Rattle.std.proofs.lemmas.List.{length-append, length-drop, take-append-drop, append_cancel_left, take_at, drop_at}
-use Rattle.stun_types_wire.specs.Attributes.{length_at, padded}
+use Rattle.turn_types_peer.specs.Wire.Attributes.{length_at, padded}
 use Rattle.turn_types_frame.specs.declared.head.FrameHead.TheVariants.{Incomplete, Invalid}
 use Rattle.turn_types_frame.specs.Frames.{IsFrame, BeginsNone, IsHopeless, Frames, AreFrames}
 use Rattle.turn_types_frame.specs.StreamHeads.{head}

@@ -3,12 +3,12 @@ use Rattle.std.proofs.Common.{◌≡◌, ◌≢◌, ℕ, ◌+◌, ◌<◌, ◌�
 use Rattle.std.proofs.lemmas.Bool.{cases_Bool, and_parts, leb-true, leb-false, le-leb, ltb-true}
 use Rattle.std.proofs.lemmas.List.{length-append, length-take, take-append-drop}
 use Rattle.std.specs.List.{starts_with}
-use Rattle.stun_types_wire.specs.Registry.{cookie}
-use Rattle.stun_types_wire.specs.declared.error.StunParseError.{StunParseError}
-use Rattle.stun_types_wire.specs.declared.error.StunParseError.TheVariants.{NotStun}
-use Rattle.stun_types_wire.specs.Attributes.{length_at, padded}
-use Rattle.stun_types_wire.specs.Grammar.{may_begin, header_refusal}
-use Rattle.stun_types_wire.proofs.HeaderLaws.{wrong, short, whole, header_cases, head_begins}
+use Rattle.turn_types_peer.specs.Wire.Registry.{cookie}
+use Rattle.turn_types_peer.specs.Wire.declared.error.StunParseError.{StunParseError}
+use Rattle.turn_types_peer.specs.Wire.declared.error.StunParseError.TheVariants.{NotStun}
+use Rattle.turn_types_peer.specs.Wire.Attributes.{length_at, padded}
+use Rattle.turn_types_peer.specs.Wire.Grammar.{may_begin, header_refusal}
+use Rattle.turn_types_peer.proofs.Wire.HeaderLaws.{wrong, short, whole, header_cases, head_begins}
 use Rattle.turn_types_frame.specs.declared.head.FrameHead.TheVariants.{Message, Channel, Incomplete, Invalid}
 use Rattle.turn_types_frame.specs.StreamHeads.{head, is_channel_top, size_of, given_of}
 use Rattle.turn_types_frame.specs.Frames.{IsMessageFrame, IsChannelFrame}

@@ -1,8 +1,8 @@
 -- The encoding of an indication, part by part.
 use Rattle.std.proofs.Common.{◌≡◌, ℕ, ◌+◌, ◌-◌, ◌≤◌, List, [], ◌∷◌, ◌++◌, length, drop, refl, ap, ◌∙◌, arith}
 use Rattle.std.proofs.lemmas.List.{length-append, append-nil, drop_all}
-use Rattle.stun_types_wire.specs.Attributes.{Attr, attr_size}
-use Rattle.stun_types_wire.specs.Text.{attribute_text, body_text, header_text, message_text}
+use Rattle.turn_types_peer.specs.Wire.Attributes.{Attr, attr_size}
+use Rattle.turn_types_peer.specs.Wire.Text.{attribute_text, body_text, header_text, message_text}
 use Rattle.stun_types_add.proofs.Adds.{length-attribute_text}
 
 header_length : (kind len number : ℕ) (body : List ℕ) → length (header_text kind len number ++ body) ≡ 20 + length body

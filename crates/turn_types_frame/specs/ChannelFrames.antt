@@ -2,10 +2,10 @@
 use Rattle.std.specs.Prelude.{◌≤◌, ◌<◌, ◌^◌, ℕ, ◌+◌, Bool, ◌&&◌, not, nat_le, nat_lt, List, ◌++◌, length, take, drop, replicate, Option, Some, None, if◌then◌else◌}
 use Rattle.std.specs.Option.{option_or}
 use Rattle.byteorder.specs.Endian.{big_bytes}
-use Rattle.stun_types_wire.specs.Attributes.{kind_at, length_at, padding_len}
-use Rattle.stun_types_wire.specs.declared.error.StunParseError.{StunParseError}
-use Rattle.stun_types_wire.specs.declared.error.StunParseError.TheVariants.{NotStun, Truncated}
-use Rattle.turn_types_attributes.specs.TurnRegistry.{channel_header_size, greatest_channel, least_channel}
+use Rattle.turn_types_peer.specs.Wire.Attributes.{kind_at, length_at, padding_len}
+use Rattle.turn_types_peer.specs.Wire.declared.error.StunParseError.{StunParseError}
+use Rattle.turn_types_peer.specs.Wire.declared.error.StunParseError.TheVariants.{NotStun, Truncated}
+use Rattle.turn_types_peer.specs.TurnAttributes.TurnRegistry.{channel_header_size, greatest_channel, least_channel}
 
 -- A channel number and data.
 pub record Frame : Type 0 where

@@ -2,10 +2,10 @@
 -- section 6.2.2).
 use Rattle.std.specs.Prelude.{◌≡◌, ◌≤◌, ℕ, ◌+◌, ◌⊎◌, true, List, ◌++◌, length, None}
 use Rattle.std.specs.List.{AllByRecursion, concat}
-use Rattle.stun_types_wire.specs.Attributes.{length_at, padded}
-use Rattle.stun_types_wire.specs.Grammar.{header_refusal}
-use Rattle.stun_types_wire.specs.Registry.{header_size}
-use Rattle.turn_types_attributes.specs.TurnRegistry.{channel_header_size}
+use Rattle.turn_types_peer.specs.Wire.Attributes.{length_at, padded}
+use Rattle.turn_types_peer.specs.Wire.Grammar.{header_refusal}
+use Rattle.turn_types_peer.specs.Wire.Registry.{header_size}
+use Rattle.turn_types_peer.specs.TurnAttributes.TurnRegistry.{channel_header_size}
 use Rattle.turn_types_frame.specs.StreamHeads.{is_channel_top, head}
 use Rattle.turn_types_frame.specs.Streams.{Fed, left_by}
 

@@ -1,14 +1,14 @@
 -- Indications that carry data from a peer or for a peer (RFC 8656, sections 11.1 and 11.3).
 use Rattle.std.specs.Prelude.{ℕ, List, [], ◌∷◌, ◌<◌, ◌≤◌, ◌^◌}
 use Rattle.std.specs.declared.net.socket_addr.SocketAddr.{SocketAddr}
-use Rattle.stun_types_write.specs.Adding.{attr_of}
-use Rattle.turn_types_attributes.specs.StunTypesAttributes.Addresses.{address_value}
-use Rattle.stun_types_wire.specs.Attributes.{Attr}
-use Rattle.stun_types_wire.specs.declared.class.MessageClass.TheVariants.{Indication}
-use Rattle.stun_types_wire.specs.Text.{message_text}
-use Rattle.stun_types_wire.specs.Types.{type_of}
-use Rattle.turn_types_attributes.specs.StunTypesAttributes.Xor.{xored}
-use Rattle.turn_types_attributes.specs.TurnRegistry.{data_kind, most_payload, xor_peer_address_kind}
+use Rattle.stun_types_add.specs.Write.Adding.{attr_of}
+use Rattle.turn_types_peer.specs.TurnAttributes.StunTypesAttributes.Addresses.{address_value}
+use Rattle.turn_types_peer.specs.Wire.Attributes.{Attr}
+use Rattle.turn_types_peer.specs.Wire.declared.class.MessageClass.TheVariants.{Indication}
+use Rattle.turn_types_peer.specs.Wire.Text.{message_text}
+use Rattle.turn_types_peer.specs.Wire.Types.{type_of}
+use Rattle.turn_types_peer.specs.TurnAttributes.StunTypesAttributes.Xor.{xored}
+use Rattle.turn_types_peer.specs.TurnAttributes.TurnRegistry.{data_kind, most_payload, xor_peer_address_kind}
 
 -- An indication with a method, a peer's address and data.
 pub record Sent : Type 0 where

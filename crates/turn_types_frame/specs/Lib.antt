@@ -6,8 +6,8 @@ pub mod Streams
 pub mod Channeled
 pub mod Indications
 -- Crates above this one reach these definitions through it.
-pub use Rattle.stun_types_base.specs as StunTypesBase
-pub use Rattle.stun_types_wire.specs as StunTypesWire
-pub use Rattle.stun_types_write.specs as StunTypesWrite
-pub use Rattle.turn_types_attributes.specs as Attributes
+pub use Rattle.turn_types_peer.specs.Base as StunTypesBase
+pub use Rattle.turn_types_peer.specs.Wire as StunTypesWire
+pub use Rattle.stun_types_add.specs.Write as StunTypesWrite
+pub use Rattle.turn_types_peer.specs.TurnAttributes as Attributes
 pub use Rattle.turn_types_peer.specs as Peer

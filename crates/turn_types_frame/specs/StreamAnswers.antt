@@ -1,6 +1,6 @@
 -- What a stream buffer returns for a chunk of bytes, and when it is polled for a frame.
 use Rattle.std.specs.Prelude.{◌≡◌, ◌≢◌, ⊤, ℕ, List, [], ◌++◌, take, Option, Some, None, if◌then◌else◌}
-use Rattle.stun_types_base.specs.declared.transmit.Transmit.{Transmit}
+use Rattle.turn_types_peer.specs.Base.declared.transmit.Transmit.{Transmit}
 use Rattle.turn_types_frame.specs.declared.head.FrameHead.{FrameHead}
 use Rattle.turn_types_frame.specs.declared.head.FrameHead.TheVariants.{Message, Channel, Incomplete, Invalid}
 use Rattle.turn_types_frame.specs.declared.tcp.IncomingTcp.{IncomingTcp}

@@ -1,9 +1,9 @@
 -- Recognizes the frame at the head of a stream by its first bytes (RFC 8656, section 12.5).
 use Rattle.std.specs.Prelude.{ℕ, ◌+◌, Bool, ◌&&◌, not, nat_le, nat_lt, List, length, take, slice_index, if◌then◌else◌}
-use Rattle.stun_types_wire.specs.Attributes.{length_at, padded}
-use Rattle.stun_types_wire.specs.Grammar.{may_begin}
-use Rattle.stun_types_wire.specs.Registry.{header_size}
-use Rattle.turn_types_attributes.specs.TurnRegistry.{channel_header_size}
+use Rattle.turn_types_peer.specs.Wire.Attributes.{length_at, padded}
+use Rattle.turn_types_peer.specs.Wire.Grammar.{may_begin}
+use Rattle.turn_types_peer.specs.Wire.Registry.{header_size}
+use Rattle.turn_types_peer.specs.TurnAttributes.TurnRegistry.{channel_header_size}
 use Rattle.turn_types_frame.specs.declared.head.FrameHead.{FrameHead}
 use Rattle.turn_types_frame.specs.declared.head.FrameHead.TheVariants.{Message, Channel, Incomplete, Invalid}
 

@@ -2,12 +2,12 @@
 
 ghost use Rattle.std.specs.Prelude.{◌≡◌, ◌==◌, ℕ, List, length, IfOk};
 
+use crate::stun_types_base::memory::NoMemory;
+use crate::stun_types_base::transmit::Transmit;
+use crate::stun_types_base::transport::TransportType;
 use std::alloc::Global;
 use std::fmt::Debug;
 use std::net::SocketAddr;
-use stun_types_base::memory::NoMemory;
-use stun_types_base::transmit::Transmit;
-use stun_types_base::transport::TransportType;
 
 /// Bytes that can be encoded when they are sent, directly into the buffer where they are needed.
 /// Contracts see the encoded bytes.

@@ -1,16 +1,20 @@
 //! Channel frames (RFC 8656, section 12.4).
 
-ghost use Rattle.std.specs.Prelude.{◌≡◌, ◌+◌, ◌<◌, ◌≤◌, ◌++◌, length, drop, None, Some, MatchResult, IfOk, IfErr, OnOk};
+ghost use Rattle.std.specs.Prelude.{◌≡◌, ◌+◌, ◌<◌, ◌≤◌, ◌++◌, length, drop, None, Some};
+ghost use Rattle.std.specs.Prelude.{MatchResult, IfOk, IfErr, OnOk};
 ghost use Rattle.byteorder.specs.Endian.{big_bytes};
-ghost use Rattle.stun_types_wire.specs.Attributes.{kind_at, length_at};
-ghost use Rattle.stun_types_wire.specs.declared.error.StunWriteError.TheVariants.{TooSmall};
-ghost use Rattle.turn_types_attributes.specs.TurnRegistry.{channel_header_size};
-ghost use Rattle.turn_types_frame.specs.ChannelFrames.{IsLawful, channel_header_refusal, channel_refusal, frame_at, frame_text};
+ghost use Rattle.turn_types_peer.specs.Wire.Attributes.{kind_at, length_at};
+ghost use Rattle.turn_types_peer.specs.Wire.declared.error.StunWriteError.TheVariants.{TooSmall};
+ghost use Rattle.turn_types_peer.specs.TurnAttributes.TurnRegistry.{channel_header_size};
+ghost use Rattle.turn_types_frame.specs.ChannelFrames.{IsLawful, channel_header_refusal};
+ghost use Rattle.turn_types_frame.specs.ChannelFrames.{channel_refusal, frame_at, frame_text};
 
+use crate::stun_types_wire::error::{StunParseError, StunWriteError};
+use crate::turn_types_attributes::registry::{
+    CHANNEL_HEADER_LENGTH, GREATEST_CHANNEL, LEAST_CHANNEL,
+};
 use byteorder::{BigEndian, ByteOrder};
 use std::marker::Model;
-use stun_types_wire::error::{StunParseError, StunWriteError};
-use turn_types_attributes::registry::{CHANNEL_HEADER_LENGTH, GREATEST_CHANNEL, LEAST_CHANNEL};
 
 /// The content of a channel frame: a channel number from 0x4000 to 0x7FFF, and at most 65,535 bytes
 /// of data, which are borrowed (RFC 8656, section 12.4). Contracts see the record `Frame`.

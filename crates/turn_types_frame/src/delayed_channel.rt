@@ -5,13 +5,13 @@ ghost use Rattle.turn_types_frame.specs.ChannelFrames.{IsLawful};
 
 use crate::build::DelayedTransmitBuild;
 use crate::channel::ChannelData;
+use crate::stun_types_base::memory::NoMemory;
+use crate::stun_types_wire::attribute::pad_attribute_len;
+use crate::turn_types_attributes::registry::CHANNEL_HEADER_LENGTH;
 use std::alloc::Global;
 use std::convert::AsSlice;
 use std::fmt::Debug;
 use std::marker::Model;
-use stun_types_base::memory::NoMemory;
-use stun_types_wire::attribute::pad_attribute_len;
-use turn_types_attributes::registry::CHANNEL_HEADER_LENGTH;
 
 /// A channel frame that is not encoded yet. For a stream it is padded to a multiple of four bytes
 /// (RFC 8656, section 12.5). Contracts see the record `Channeled`.

@@ -1,21 +1,22 @@
 //! Data to be sent in an indication (RFC 8656, sections 11.1 and 11.3).
 
 ghost use Rattle.std.specs.Prelude.{◌≡◌, ◌+◌, ◌≤◌, length};
-ghost use Rattle.turn_types_attributes.specs.TurnRegistry.{data_method, most_payload, send_method};
+ghost use Rattle.turn_types_peer.specs.TurnAttributes.TurnRegistry.{data_method, most_payload};
+ghost use Rattle.turn_types_peer.specs.TurnAttributes.TurnRegistry.{send_method};
 
 use crate::build::DelayedTransmitBuild;
+use crate::stun_types_base::memory::NoMemory;
+use crate::stun_types_wire::attribute::RawAttribute;
+use crate::stun_types_wire::class::{MessageClass, MessageType, Method};
+use crate::stun_types_wire::header::MessageHeader;
+use crate::stun_types_wire::transaction::TransactionId;
+use crate::stun_types_write::attribute::{Attribute, AttributeWrite};
+use crate::turn_types_attributes::registry::{DATA, DATA_ATTRIBUTE, SEND};
 use std::alloc::Global;
 use std::convert::AsSlice;
 use std::fmt::Debug;
 use std::marker::Model;
 use std::net::SocketAddr;
-use stun_types_base::memory::NoMemory;
-use stun_types_wire::attribute::RawAttribute;
-use stun_types_wire::class::{MessageClass, MessageType, Method};
-use stun_types_wire::header::MessageHeader;
-use stun_types_wire::transaction::TransactionId;
-use stun_types_write::attribute::{Attribute, AttributeWrite};
-use turn_types_attributes::registry::{DATA, DATA_ATTRIBUTE, SEND};
 use turn_types_peer::xor_peer_address::XorPeerAddress;
 
 /// An indication with a peer's address and data that is not encoded yet. Contracts see the record
@@ -30,7 +31,7 @@ pub struct DelayedMessage<T: AsSlice<u8>> {
 
 impl<T: AsSlice<u8>> Model for DelayedMessage<T> {
     ghost use Rattle.std.specs.Prelude.{◌≤◌, ◌<◌, ◌^◌, length};
-    ghost use Rattle.turn_types_attributes.specs.TurnRegistry.{most_payload};
+    ghost use Rattle.turn_types_peer.specs.TurnAttributes.TurnRegistry.{most_payload};
     ghost use Rattle.turn_types_frame.specs.Indications.{IsMethod, Sent};
 
     ghost Value = { Sent };

@@ -1,13 +1,14 @@
 //! Recognizes the frame at the head of a stream (RFC 8656, section 12.5).
 
 ghost use Rattle.std.specs.Prelude.{◌≡◌, ◌<◌, ◌≤◌, true, false, length};
-ghost use Rattle.turn_types_frame.specs.StreamHeads.{head, is_channel_top, channel_head, message_head};
+ghost use Rattle.turn_types_frame.specs.StreamHeads.{head, is_channel_top, channel_head};
+ghost use Rattle.turn_types_frame.specs.StreamHeads.{message_head};
 
+use crate::stun_types_wire::attribute::pad_attribute_len;
+use crate::stun_types_wire::error::StunParseError;
+use crate::stun_types_wire::header::MessageHeader;
+use crate::turn_types_attributes::registry::CHANNEL_HEADER_LENGTH;
 use byteorder::{BigEndian, ByteOrder};
-use stun_types_wire::attribute::pad_attribute_len;
-use stun_types_wire::error::StunParseError;
-use stun_types_wire::header::MessageHeader;
-use turn_types_attributes::registry::CHANNEL_HEADER_LENGTH;
 
 /// What the first bytes of a stream are.
 #[derive(Clone, Copy, Debug, PartialEq, Eq)]

@@ -10,3 +10,6 @@ pub mod head;
 pub mod laws;
 mod stored;
 pub mod tcp;
+
+use stun_types_add::stun_types_write;
+use turn_types_peer::{stun_types_base, stun_types_wire, turn_types_attributes};

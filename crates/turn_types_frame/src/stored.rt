@@ -2,9 +2,9 @@
 
 ghost use Rattle.std.specs.Prelude.{◌≡◌, ◌==◌, ◌≤◌, ◌++◌, [], length, take, drop, OnOk, OnErr};
 
+use crate::stun_types_base::memory::NoMemory;
 use std::alloc::Global;
 use std::marker::Model;
-use stun_types_base::memory::NoMemory;
 
 /// A queue of bytes, appended at the end and removed at the start. Contracts see the remaining
 /// bytes.

@@ -1,21 +1,23 @@
 //! The receive buffer of a stream of frames (RFC 8656, section 12.5).
 
-ghost use Rattle.std.specs.Prelude.{◌≡◌, ◌≢◌, ◌==◌, ◌++◌, [], false, true, length, take, drop, IfOk, OnOk, OnErr, MatchOption, MatchResult};
-ghost use Rattle.turn_types_frame.specs.StreamAnswers.{IsAnswer, IsGiven, IsNone, IsStored, after_incoming, after_look, looked};
+ghost use Rattle.std.specs.Prelude.{◌≡◌, ◌≢◌, ◌==◌, ◌++◌, [], false, true, length, take, drop};
+ghost use Rattle.std.specs.Prelude.{IfOk, OnOk, OnErr, MatchOption, MatchResult};
+ghost use Rattle.turn_types_frame.specs.StreamAnswers.{IsAnswer, IsGiven, IsNone, IsStored};
+ghost use Rattle.turn_types_frame.specs.StreamAnswers.{after_incoming, after_look, looked};
 ghost use Rattle.turn_types_frame.specs.StreamHeads.{head, given_of, size_of};
 ghost use Rattle.turn_types_frame.specs.Streams.{alive, dead_stream, left_by};
 
 use crate::head::{FrameHead, peek_frame};
 use crate::stored::Stored;
+use crate::stun_types_base::memory::NoMemory;
+use crate::stun_types_base::transmit::Transmit;
+use crate::stun_types_wire::attribute::pad_attribute_len;
+use crate::turn_types_attributes::registry::CHANNEL_HEADER_LENGTH;
 use std::alloc::Global;
 use std::convert::AsSlice;
 use std::fmt::Debug;
 use std::marker::Model;
 use std::ops::Range;
-use stun_types_base::memory::NoMemory;
-use stun_types_base::transmit::Transmit;
-use stun_types_wire::attribute::pad_attribute_len;
-use turn_types_attributes::registry::CHANNEL_HEADER_LENGTH;
 
 /// What a chunk of a stream completed.
 #[derive(Debug, Drop)]

@@ -2,9 +2,9 @@
 use Rattle.std.proofs.Common.{◌≡◌, ℕ, ◌^◌, ◌<◌, [], None, refl, sym, ap, ◌∙◌, arith}
 use Rattle.byteorder.specs.Endian.{big_bytes, big_number}
 use Rattle.byteorder.specs.Numbers.{big_number-reads_back}
-use Rattle.stun_types_write.specs.Adding.{attr_of}
-use Rattle.stun_types_write.specs.ValueReading.{value_refusal}
-use Rattle.stun_types_write.proofs.Values.{value_is_accepted}
+use Rattle.turn_types_attributes.specs.Write.Adding.{attr_of}
+use Rattle.turn_types_attributes.specs.Write.ValueReading.{value_refusal}
+use Rattle.turn_types_attributes.proofs.Write.Values.{value_is_accepted}
 use Rattle.turn_types_peer.specs.PeerValues.{channel_value, IcmpReport, icmp_value, icmp_decoded}
 
 number_again : (n : ℕ) → n < 2 ^ 16 → big_number 2 (channel_value n) ≡ n

@@ -4,12 +4,12 @@ use Rattle.std.specs.Prelude.{◌≡◌, ℕ, ◌==◌, List, Option, Some, None
 use Rattle.std.specs.List.{filter, filter_map, find}
 use Rattle.std.specs.declared.net.socket_addr.SocketAddr.{SocketAddr}
 use Rattle.byteorder.specs.Endian.{big_number}
-use Rattle.stun_types_attributes.specs.Addresses.{address_again, address_of, address_read_refusal}
-use Rattle.stun_types_wire.specs.Attributes.{Attr}
-use Rattle.stun_types_wire.specs.Grammar.{number_at, visible}
-use Rattle.stun_types_wire.specs.declared.error.StunParseError.{StunParseError}
-use Rattle.stun_types_write.specs.ValueReading.{value_refusal}
-use Rattle.stun_types_attributes.specs.Xor.{xored}
+use Rattle.turn_types_attributes.specs.StunTypesAttributes.Addresses.{address_again, address_of, address_read_refusal}
+use Rattle.turn_types_attributes.specs.StunTypesWire.Attributes.{Attr}
+use Rattle.turn_types_attributes.specs.StunTypesWire.Grammar.{number_at, visible}
+use Rattle.turn_types_attributes.specs.StunTypesWire.declared.error.StunParseError.{StunParseError}
+use Rattle.turn_types_attributes.specs.Write.ValueReading.{value_refusal}
+use Rattle.turn_types_attributes.specs.StunTypesAttributes.Xor.{xored}
 use Rattle.turn_types_attributes.specs.TurnRegistry.{channel_number_kind, connection_id_kind, lifetime_kind, requested_transport_kind, xor_peer_address_kind, xor_relayed_address_kind}
 
 -- The visible attributes of a type, in order.

@@ -2,22 +2,22 @@
 
 ghost use Rattle.std.specs.Prelude.{◌≡◌, ◌≤◌, None, MatchResult, length};
 ghost use Rattle.byteorder.specs.Endian.{big_number};
-ghost use Rattle.stun_types_write.specs.ValueReading.{IsNamed, value_refusal};
+ghost use Rattle.turn_types_attributes.specs.Write.ValueReading.{IsNamed, value_refusal};
 ghost use Rattle.turn_types_attributes.specs.TurnRegistry.{channel_number_kind};
 ghost use Rattle.turn_types_peer.specs.PeerValues.{channel_value};
 
+use crate::stun_types_base::memory::NoMemory;
+use crate::stun_types_wire::attribute::{AttributeType, RawAttribute};
+use crate::stun_types_wire::error::StunParseError;
+use crate::stun_types_write::attribute::{
+    Attribute, AttributeFromRaw, AttributeStaticType, AttributeWrite,
+};
+use crate::stun_types_write::reading::value_of;
+use crate::stun_types_write::text::write_attribute;
 use byteorder::{BigEndian, ByteOrder};
 use std::alloc::Global;
 use std::convert::TryFrom;
 use std::marker::Model;
-use stun_types_base::memory::NoMemory;
-use stun_types_wire::attribute::{AttributeType, RawAttribute};
-use stun_types_wire::error::StunParseError;
-use stun_types_write::attribute::{
-    Attribute, AttributeFromRaw, AttributeStaticType, AttributeWrite,
-};
-use stun_types_write::reading::value_of;
-use stun_types_write::text::write_attribute;
 use turn_types_attributes::registry;
 
 /// The number of a channel to a peer (RFC 8656, section 18.1). It is any 16-bit number, even one
@@ -101,7 +101,7 @@ impl AttributeWrite for ChannelNumber {
 /// 3. `TooLarge`: the value has more than four bytes.
 impl<'a, 'raw> TryFrom<&'raw RawAttribute<'a>> for ChannelNumber {
     ghost use Rattle.std.specs.Prelude.{◌≡◌, MatchResult, Some, None};
-    ghost use Rattle.stun_types_write.specs.ValueReading.{IsNamed, value_refusal};
+    ghost use Rattle.turn_types_attributes.specs.Write.ValueReading.{IsNamed, value_refusal};
     ghost use Rattle.byteorder.specs.Endian.{big_number};
 
     type Error = StunParseError;
@@ -121,7 +121,7 @@ impl<'a, 'raw> TryFrom<&'raw RawAttribute<'a>> for ChannelNumber {
 impl<'a> AttributeFromRaw<'a> for ChannelNumber {
     ghost use Rattle.std.specs.Prelude.{false};
     ghost use Rattle.byteorder.specs.Endian.{big_number};
-    ghost use Rattle.stun_types_write.specs.ValueReading.{value_refusal};
+    ghost use Rattle.turn_types_attributes.specs.Write.ValueReading.{value_refusal};
     ghost use Rattle.turn_types_peer.specs.PeerValues.{channel_value};
 
     ghost read_refusal = { value_refusal channel_number_kind 4 4 };

@@ -1,21 +1,21 @@
 //! DATA (RFC 8656, section 18.4).
 
 ghost use Rattle.std.specs.Prelude.{◌≡◌, ◌<◌, ◌^◌, length, IfOk, MatchResult, None};
-ghost use Rattle.stun_types_wire.specs.Registry.{longest_value};
-ghost use Rattle.stun_types_write.specs.ValueReading.{IsNamed, value_refusal};
+ghost use Rattle.turn_types_attributes.specs.StunTypesWire.Registry.{longest_value};
+ghost use Rattle.turn_types_attributes.specs.Write.ValueReading.{IsNamed, value_refusal};
 ghost use Rattle.turn_types_attributes.specs.TurnRegistry.{data_kind};
 
-use std::alloc::Global;
-use std::marker::Model;
-use stun_types_base::memory::NoMemory;
-use stun_types_wire::attribute::{AttributeType, RawAttribute};
-use stun_types_wire::error::StunParseError;
-use stun_types_wire::registry::MAX_VALUE_LENGTH;
-use stun_types_write::attribute::{
+use crate::stun_types_base::memory::NoMemory;
+use crate::stun_types_wire::attribute::{AttributeType, RawAttribute};
+use crate::stun_types_wire::error::StunParseError;
+use crate::stun_types_wire::registry::MAX_VALUE_LENGTH;
+use crate::stun_types_write::attribute::{
     Attribute, AttributeFromRaw, AttributeStaticType, AttributeWrite,
 };
-use stun_types_write::reading::value_of;
-use stun_types_write::text::write_attribute;
+use crate::stun_types_write::reading::value_of;
+use crate::stun_types_write::text::write_attribute;
+use std::alloc::Global;
+use std::marker::Model;
 use turn_types_attributes::registry;
 
 /// Data that a peer sends or that is sent to a peer (RFC 8656, section 18.4): at most 65,535 bytes,
@@ -119,8 +119,8 @@ impl AttributeWrite for Data {
 /// 1. `WrongAttributeImplementation`: the attribute has another type.
 /// 2. `NoMemory`: an allocation failed.
 impl<'a> AttributeFromRaw<'a> for Data {
-    ghost use Rattle.stun_types_wire.specs.Registry.{longest_value};
-    ghost use Rattle.stun_types_write.specs.ValueReading.{value_refusal};
+    ghost use Rattle.turn_types_attributes.specs.StunTypesWire.Registry.{longest_value};
+    ghost use Rattle.turn_types_attributes.specs.Write.ValueReading.{value_refusal};
 
     ghost read_refusal = { value_refusal data_kind 0 longest_value };
 
@@ -138,7 +138,7 @@ impl<'a> AttributeFromRaw<'a> for Data {
         })
     }
 
-    #[tactic(auto, using(stun_types_write::proofs::Values::value_is_accepted))]
+    #[tactic(auto, using(turn_types_attributes::proofs::Write::Values::value_is_accepted))]
     fn proof_is_read_back(&self, _read: &Data) {
         let _ = self.data();
     }

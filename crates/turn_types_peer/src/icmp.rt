@@ -1,22 +1,22 @@
 //! ICMP (RFC 8656, section 18.13).
 
 ghost use Rattle.std.specs.Prelude.{◌≡◌, None, MatchResult, length};
-ghost use Rattle.stun_types_write.specs.ValueReading.{IsNamed, value_refusal};
+ghost use Rattle.turn_types_attributes.specs.Write.ValueReading.{IsNamed, value_refusal};
 ghost use Rattle.turn_types_attributes.specs.TurnRegistry.{icmp_kind};
 ghost use Rattle.turn_types_peer.specs.PeerValues.{icmp_decoded, icmp_value};
 
+use crate::stun_types_base::memory::NoMemory;
+use crate::stun_types_wire::attribute::{AttributeType, RawAttribute};
+use crate::stun_types_wire::error::StunParseError;
+use crate::stun_types_write::attribute::{
+    Attribute, AttributeFromRaw, AttributeStaticType, AttributeWrite,
+};
+use crate::stun_types_write::reading::value_of;
+use crate::stun_types_write::text::write_attribute;
 use byteorder::{BigEndian, ByteOrder};
 use std::alloc::Global;
 use std::convert::TryFrom;
 use std::marker::Model;
-use stun_types_base::memory::NoMemory;
-use stun_types_wire::attribute::{AttributeType, RawAttribute};
-use stun_types_wire::error::StunParseError;
-use stun_types_write::attribute::{
-    Attribute, AttributeFromRaw, AttributeStaticType, AttributeWrite,
-};
-use stun_types_write::reading::value_of;
-use stun_types_write::text::write_attribute;
 use turn_types_attributes::registry;
 
 /// An ICMP error that a host or router on the path to a peer reported (RFC 8656, section 18.13).
@@ -121,7 +121,7 @@ impl AttributeWrite for Icmp {
 /// 3. `TooLarge`: the value has more than eight bytes.
 impl<'a, 'raw> TryFrom<&'raw RawAttribute<'a>> for Icmp {
     ghost use Rattle.std.specs.Prelude.{◌≡◌, MatchResult, None};
-    ghost use Rattle.stun_types_write.specs.ValueReading.{IsNamed, value_refusal};
+    ghost use Rattle.turn_types_attributes.specs.Write.ValueReading.{IsNamed, value_refusal};
     ghost use Rattle.turn_types_peer.specs.PeerValues.{icmp_decoded};
 
     type Error = StunParseError;
@@ -138,7 +138,7 @@ impl<'a, 'raw> TryFrom<&'raw RawAttribute<'a>> for Icmp {
 /// Fails as `try_from` does. It allocates no memory.
 impl<'a> AttributeFromRaw<'a> for Icmp {
     ghost use Rattle.std.specs.Prelude.{false};
-    ghost use Rattle.stun_types_write.specs.ValueReading.{value_refusal};
+    ghost use Rattle.turn_types_attributes.specs.Write.ValueReading.{value_refusal};
     ghost use Rattle.turn_types_peer.specs.PeerValues.{icmp_decoded, icmp_value};
 
     ghost read_refusal = { value_refusal icmp_kind 8 8 };

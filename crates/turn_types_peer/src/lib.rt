@@ -7,3 +7,7 @@ pub mod connection_id;
 pub mod data;
 pub mod icmp;
 pub mod xor_peer_address;
+
+pub use turn_types_attributes;
+pub use turn_types_attributes::{stun_types_base, stun_types_wire};
+use turn_types_attributes::{stun_types_attributes, stun_types_write};

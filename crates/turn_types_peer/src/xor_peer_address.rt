@@ -1,23 +1,24 @@
 //! XOR-PEER-ADDRESS (RFC 8656, section 18.3).
 
 ghost use Rattle.std.specs.Prelude.{Some, ◌≡◌};
-ghost use Rattle.stun_types_write.specs.ValueReading.{IsNamed};
-ghost use Rattle.stun_types_attributes.specs.Addresses.{address_of, address_value};
-ghost use Rattle.stun_types_attributes.specs.Xor.{xored};
+ghost use Rattle.turn_types_attributes.specs.Write.ValueReading.{IsNamed};
+ghost use Rattle.turn_types_attributes.specs.StunTypesAttributes.Addresses.{address_of};
+ghost use Rattle.turn_types_attributes.specs.StunTypesAttributes.Addresses.{address_value};
+ghost use Rattle.turn_types_attributes.specs.StunTypesAttributes.Xor.{xored};
 ghost use Rattle.turn_types_attributes.specs.TurnRegistry.{xor_peer_address_kind};
 
+use crate::stun_types_attributes::socket_addr::XorSocketAddr;
+use crate::stun_types_base::memory::NoMemory;
+use crate::stun_types_wire::attribute::{AttributeType, RawAttribute};
+use crate::stun_types_wire::error::StunParseError;
+use crate::stun_types_wire::transaction::TransactionId;
+use crate::stun_types_write::attribute::{
+    Attribute, AttributeFromRaw, AttributeStaticType, AttributeWrite,
+};
 use std::alloc::Global;
 use std::convert::TryFrom;
 use std::marker::Model;
 use std::net::SocketAddr;
-use stun_types_attributes::socket_addr::XorSocketAddr;
-use stun_types_base::memory::NoMemory;
-use stun_types_wire::attribute::{AttributeType, RawAttribute};
-use stun_types_wire::error::StunParseError;
-use stun_types_wire::transaction::TransactionId;
-use stun_types_write::attribute::{
-    Attribute, AttributeFromRaw, AttributeStaticType, AttributeWrite,
-};
 use turn_types_attributes::registry;
 
 /// The address of a peer, XORed as in XOR-MAPPED-ADDRESS (RFC 8656, section 18.3). Contracts see
@@ -97,8 +98,9 @@ impl AttributeWrite for XorPeerAddress {
 ///    IPv6.
 impl<'a, 'raw> TryFrom<&'raw RawAttribute<'a>> for XorPeerAddress {
     ghost use Rattle.std.specs.Prelude.{◌≡◌, MatchResult, Some, None};
-    ghost use Rattle.stun_types_write.specs.ValueReading.{IsNamed};
-    ghost use Rattle.stun_types_attributes.specs.Addresses.{address_again, address_read_refusal};
+    ghost use Rattle.turn_types_attributes.specs.Write.ValueReading.{IsNamed};
+    ghost use Rattle.turn_types_attributes.specs.StunTypesAttributes.Addresses.{address_again};
+    ghost use Rattle.turn_types_attributes.specs.StunTypesAttributes.Addresses.{address_read_refusal};
 
     type Error = StunParseError;
 
@@ -116,7 +118,8 @@ impl<'a, 'raw> TryFrom<&'raw RawAttribute<'a>> for XorPeerAddress {
 /// Fails as `try_from` does. It allocates no memory.
 impl<'a> AttributeFromRaw<'a> for XorPeerAddress {
     ghost use Rattle.std.specs.Prelude.{false};
-    ghost use Rattle.stun_types_attributes.specs.Addresses.{address_again, address_read_refusal};
+    ghost use Rattle.turn_types_attributes.specs.StunTypesAttributes.Addresses.{address_again};
+    ghost use Rattle.turn_types_attributes.specs.StunTypesAttributes.Addresses.{address_read_refusal};
 
     ghost read_refusal = { address_read_refusal xor_peer_address_kind };
 

@@ -1,6 +1,6 @@
 use Rattle.std.proofs.Common.{◌≡◌, map}
 use Rattle.std.specs.Option.{option_or}
-use Rattle.stun_types_wire.specs.Grammar.{visible}
+use Rattle.stun_types_message.specs.Wire.Grammar.{visible}
 use Rattle.stun_proto_auth.specs.Claims.{last_of_kind}
 use Rattle.stun_proto_auth.proofs.last.last_attribute.Given as goal
 

@@ -1,6 +1,6 @@
 use Rattle.std.proofs.Common.{◌≡◌, Some, ap, sym, ◌∙◌}
 use Rattle.stun_proto_auth.specs.Claims.{claimed}
-use Rattle.stun_types_wire.specs.declared.algorithm.IntegrityAlgorithm.{IntegrityAlgorithm}
+use Rattle.stun_proto_auth.specs.Wire.declared.algorithm.IntegrityAlgorithm.{IntegrityAlgorithm}
 use Rattle.stun_proto_verify.specs.Judgement.{ServerAccepts}
 use Rattle.stun_proto_verify.proofs.Judging.{accepts, digest_refused, accepts_user, in_realm, not_memory}
 use Rattle.stun_proto_verify.proofs.judgement.judge_user.Goals as goal

@@ -1,8 +1,8 @@
 use Rattle.std.proofs.Common.{ℕ, List, ◌-◌, ap, ◌∙◌}
-use Rattle.stun_types_wire.specs.Covered.{with_length}
-use Rattle.stun_types_wire.specs.Fingerprints.{fingerprint_value}
-use Rattle.stun_types_wire.specs.Registry.{fingerprint_kind}
-use Rattle.stun_types_write.specs.Adding.{attr_of}
+use Rattle.stun_types_integrity.specs.Wire.Covered.{with_length}
+use Rattle.stun_types_integrity.specs.Wire.Fingerprints.{fingerprint_value}
+use Rattle.stun_types_integrity.specs.Wire.Registry.{fingerprint_kind}
+use Rattle.stun_types_integrity.specs.Write.Adding.{attr_of}
 use Rattle.stun_types_add.specs.FingerprintValues.{turned_bytes}
 use Rattle.stun_types_add.proofs.Added.{marked, pushed_long}
 use Rattle.stun_types_add.proofs.fingerprint.mark.Goals as goal

@@ -1,11 +1,11 @@
 use Rattle.std.proofs.Common.{rules, ℕ, List, [], ◌≡◌, ◌+◌, ◌-◌, ◌++◌, length, refl, sym, ap, subst, ◌∙◌, arith}
 use Rattle.std.proofs.lemmas.List.{append-nil}
-use Rattle.stun_types_wire.specs.Attributes.{attr_size}
-use Rattle.stun_types_wire.specs.Covered.{with_length}
+use Rattle.stun_types_integrity.specs.Wire.Attributes.{attr_size}
+use Rattle.stun_types_integrity.specs.Wire.Covered.{with_length}
 use Rattle.stun_types_integrity.specs.Integrity.{integrity_hmac}
 use Rattle.stun_types_integrity.specs.Signing.{hmac_length}
-use Rattle.stun_types_write.specs.Adding.{attr_of}
-use Rattle.stun_types_write.specs.Drafts.{Draft, HasRoom, pushed_attribute}
+use Rattle.stun_types_integrity.specs.Write.Adding.{attr_of}
+use Rattle.stun_types_integrity.specs.Write.Drafts.{Draft, HasRoom, pushed_attribute}
 use Rattle.stun_types_add.proofs.Adds.{long_enough}
 use Rattle.stun_types_add.proofs.Added.{signed, decoded_fits, decoded_first, decoded_room}
 use Rattle.stun_types_add.proofs.signing.sign.Goals as goal

@@ -1,5 +1,5 @@
 use Rattle.std.proofs.Common.{◌≡◌, length}
-use Rattle.stun_types_write.specs.Adding.{has_kind}
+use Rattle.stun_types_auth_attributes.specs.Write.Adding.{has_kind}
 use Rattle.stun_types_attributes.specs.UnknownTypes.{types_decoded}
 use Rattle.stun_types_attributes.proofs.unknown_attributes.decodes_type.Given as goal
 

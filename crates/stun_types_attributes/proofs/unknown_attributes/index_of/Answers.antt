@@ -1,5 +1,5 @@
 use Rattle.std.proofs.Common.{◌≡◌, ◌≤◌, ◌+◌, ◌*◌, ℕ, List, length, get_or, take, ap, ◌∙◌, arith}
-use Rattle.stun_types_write.specs.Adding.{has_kind}
+use Rattle.stun_types_auth_attributes.specs.Write.Adding.{has_kind}
 use Rattle.stun_types_attributes.specs.TypeMarks.{is_marked}
 use Rattle.stun_types_attributes.specs.UnknownTypes.{types_decoded}
 use Rattle.stun_types_attributes.proofs.TypeMarks.{next_marked, all_marked}

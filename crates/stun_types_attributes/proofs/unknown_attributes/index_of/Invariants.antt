@@ -1,5 +1,5 @@
 use Rattle.std.proofs.Common.{◌≡◌, ◌||◌, ℕ, length}
-use Rattle.stun_types_write.specs.Adding.{has_kind}
+use Rattle.stun_types_auth_attributes.specs.Write.Adding.{has_kind}
 use Rattle.stun_types_attributes.specs.TypeMarks.{is_marked}
 use Rattle.stun_types_attributes.specs.UnknownTypes.{types_decoded}
 use Rattle.stun_types_attributes.proofs.unknown_attributes.index_of.Given as goal

@@ -1,10 +1,10 @@
 use Rattle.std.proofs.Common.{ap, ◌∙◌}
 use Rattle.std.specs.Prelude.{ℕ, List, map}
 use Rattle.std.specs.List.{list_any}
-use Rattle.stun_types_wire.specs.declared.attribute.AttributeType.{AttributeType}
-use Rattle.stun_types_wire.specs.Attributes.{Attr}
-use Rattle.stun_types_wire.specs.Grammar.{visible}
-use Rattle.stun_types_wire.proofs.Left.{map_numbered}
+use Rattle.stun_types_attributes.specs.Wire.declared.attribute.AttributeType.{AttributeType}
+use Rattle.stun_types_attributes.specs.Wire.Attributes.{Attr}
+use Rattle.stun_types_attributes.specs.Wire.Grammar.{visible}
+use Rattle.stun_types_attributes.proofs.Wire.Left.{map_numbered}
 use Rattle.stun_types_message.specs.Objections.{is_unknown}
 use Rattle.stun_types_message.proofs.check.shows_unknown.Goals as goal
 

@@ -1,9 +1,9 @@
 use Rattle.std.proofs.Common.{rules, ◌≡◌, ◌+◌, ◌*◌, ◌^◌, ◌<◌, false, ℕ, List, [], length, map, drop, refl, sym, ap, ◌∙◌, arith, inl}
 use Rattle.std.proofs.lemmas.List.{length-drop, length-replicate}
-use Rattle.stun_types_wire.specs.declared.attribute.AttributeType.{AttributeType}
-use Rattle.stun_types_wire.specs.Attributes.{Attr, attr_at, attributes, size_at}
-use Rattle.stun_types_wire.specs.Grammar.{visible}
-use Rattle.stun_types_wire.proofs.Whole.{attributes_short, attributes_whole, not_whole, whole_long}
+use Rattle.stun_types_attributes.specs.Wire.declared.attribute.AttributeType.{AttributeType}
+use Rattle.stun_types_attributes.specs.Wire.Attributes.{Attr, attr_at, attributes, size_at}
+use Rattle.stun_types_attributes.specs.Wire.Grammar.{visible}
+use Rattle.stun_types_attributes.proofs.Wire.Whole.{attributes_short, attributes_whole, not_whole, whole_long}
 use Rattle.stun_types_message.specs.Objections.{unknown_kinds, with_unknown}
 use Rattle.stun_types_message.proofs.Listing.{all_listed, listed_with, next_listed, none_listed}
 use Rattle.stun_types_message.proofs.Marks.{none_marked}

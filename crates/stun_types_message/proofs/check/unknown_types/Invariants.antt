@@ -1,7 +1,7 @@
 use Rattle.std.proofs.Common.{◌≡◌, ◌+◌, ◌*◌, ◌^◌, ◌<◌, ℕ, List, length, map}
 use Rattle.std.specs.Prelude.{sum_by}
-use Rattle.stun_types_wire.specs.Attributes.{attr_size, attributes}
-use Rattle.stun_types_wire.specs.Grammar.{visible}
+use Rattle.stun_types_attributes.specs.Wire.Attributes.{attr_size, attributes}
+use Rattle.stun_types_attributes.specs.Wire.Grammar.{visible}
 use Rattle.stun_types_message.specs.MarkedTypes.{IsListing}
 use Rattle.stun_types_message.specs.Objections.{unknown_kinds}
 use Rattle.stun_types_message.proofs.Listing.{listed_with}

@@ -1,6 +1,6 @@
 use Rattle.std.proofs.Common.{◌≡◌, ℕ, List, bytes_eq, refl, sym, ap, ◌∙◌}
-use Rattle.stun_types_wire.specs.Attributes.{attr_at, length_at}
-use Rattle.stun_types_wire.specs.Fingerprints.{fingerprint_value}
+use Rattle.stun_types_attributes.specs.Wire.Attributes.{attr_at, length_at}
+use Rattle.stun_types_attributes.specs.Wire.Fingerprints.{fingerprint_value}
 use Rattle.stun_types_add.specs.FingerprintValues.{turned_bytes}
 use Rattle.stun_types_message.proofs.Fingerprints.{covered_by_four, value_of_four}
 use Rattle.stun_types_message.proofs.fingerprint.has_value.Goals as goal

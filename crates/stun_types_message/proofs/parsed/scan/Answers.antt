@@ -1,7 +1,7 @@
 use Rattle.std.proofs.Common.{rules, ◌≡◌, length, sym, ◌∙◌, arith, inl}
 use Rattle.stun_types_message.proofs.Scanning.{none_after, step_at}
-use Rattle.stun_types_wire.proofs.Scan.{visible_short}
-use Rattle.stun_types_wire.proofs.Whole.{not_whole}
+use Rattle.stun_types_attributes.proofs.Wire.Scan.{visible_short}
+use Rattle.stun_types_attributes.proofs.Wire.Whole.{not_whole}
 use Rattle.stun_types_message.specs.ShapeStages.{stage_rank}
 use Rattle.stun_types_message.proofs.Shows.{end_of_visible}
 use Rattle.stun_types_message.proofs.parsed.scan.Goals as goal

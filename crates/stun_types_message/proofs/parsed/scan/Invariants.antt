@@ -1,5 +1,5 @@
 use Rattle.std.proofs.Common.{length}
-use Rattle.stun_types_wire.proofs.Scan.{Continues}
+use Rattle.stun_types_attributes.proofs.Wire.Scan.{Continues}
 use Rattle.stun_types_message.specs.ShapeStages.{stage_rank}
 use Rattle.stun_types_message.proofs.parsed.scan.Given as goal
 

@@ -1,6 +1,6 @@
 use Rattle.std.proofs.Common.{◌∷◌, [], None, refl, subst}
-use Rattle.stun_types_wire.specs.Attributes.{Attr}
-use Rattle.stun_types_wire.specs.Grammar.{number_at}
+use Rattle.stun_types_attributes.specs.Wire.Attributes.{Attr}
+use Rattle.stun_types_attributes.specs.Wire.Grammar.{number_at}
 use Rattle.stun_types_add.specs.Calls.{IsComposed}
 use Rattle.stun_types_add.proofs.Taken.{composed_more, composed_none}
 use Rattle.stun_types_message.specs.Objections.{error_attribute, error_type}

@@ -1,5 +1,5 @@
 use Rattle.std.proofs.Common.{◌≡◌, None, refl, ap, ◌∙◌, subst}
-use Rattle.stun_types_wire.specs.Grammar.{number_at}
+use Rattle.stun_proto_transaction.specs.Wire.Grammar.{number_at}
 use Rattle.stun_proto_agent.specs.Sending.{started, stored_under, request_refusal}
 use Rattle.stun_proto_agent.proofs.Sent.{after_request, first_sent}
 use Rattle.stun_proto_agent.proofs.agent.StunAgent.send_request.Goals as goal

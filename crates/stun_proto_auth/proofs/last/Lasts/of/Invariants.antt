@@ -1,5 +1,5 @@
 use Rattle.std.proofs.Common.{◌≡◌, map}
-use Rattle.stun_types_wire.specs.Grammar.{visible}
+use Rattle.stun_types_message.specs.Wire.Grammar.{visible}
 use Rattle.stun_proto_auth.specs.Claims.{lasts}
 use Rattle.stun_proto_auth.proofs.Lasts.{joined}
 use Rattle.stun_proto_auth.proofs.last.Lasts.of.Given as goal

@@ -1,8 +1,8 @@
 use Rattle.std.proofs.Common.{◌≡◌, ℕ, List, None, ap, ◌∙◌}
 use Rattle.std.specs.FinMap as map
-use Rattle.stun_types_base.specs.GeneratorWords.{words_of}
-use Rattle.stun_proto_auth.specs.declared.nonce.TheConstants.{NONCE_WORDS}
-use Rattle.stun_proto_auth.specs.Nonce.{nonce_text, features_offered}
+use Rattle.stun_proto_verify.specs.Base.GeneratorWords.{words_of}
+use Rattle.stun_proto_verify.specs.Auth.declared.nonce.TheConstants.{NONCE_WORDS}
+use Rattle.stun_proto_verify.specs.Auth.Nonce.{nonce_text, features_offered}
 use Rattle.stun_proto_server.specs.Server.{Server, room_for}
 use Rattle.stun_proto_server.proofs.Apart.{generated_others}
 use Rattle.stun_proto_server.proofs.Maps.{room-clients}

@@ -1,5 +1,5 @@
 use Rattle.std.proofs.Common.{sym, ap, ◌∙◌, nat_lt}
-use Rattle.stun_types_base.specs.Times.{time_after}
+use Rattle.stun_proto_verify.specs.Base.Times.{time_after}
 use Rattle.stun_proto_server.specs.Server.{is_standing}
 use Rattle.stun_proto_server.proofs.Maps.{get-clients}
 use Rattle.stun_proto_server.proofs.long_term.LongTermServerAuth.has_standing_nonce.Goals as goal

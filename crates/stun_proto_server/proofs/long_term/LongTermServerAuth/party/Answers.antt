@@ -1,6 +1,6 @@
 use Rattle.std.proofs.Common.{sym, subst, ◌∙◌}
 use Rattle.stun_proto_verify.specs.UserKeys.{AreKeysOf}
-use Rattle.stun_types_integrity.specs.Credentials.{LongTermSecret}
+use Rattle.stun_proto_verify.specs.Integrity.Credentials.{LongTermSecret}
 use Rattle.stun_proto_server.specs.ServerSigning.{key_in}
 use Rattle.stun_proto_server.proofs.long_term.LongTermServerAuth.party.Goals as goal
 

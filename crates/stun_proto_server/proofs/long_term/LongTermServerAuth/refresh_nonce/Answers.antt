@@ -1,7 +1,7 @@
 use Rattle.std.proofs.Common.{sym, ap, ◌∙◌, if◌then◌else◌}
-use Rattle.stun_types_base.proofs.WordLemmas.{stream_after-zero}
-use Rattle.stun_types_base.specs.GeneratorWords.{stream_after}
-use Rattle.stun_proto_auth.specs.declared.nonce.TheConstants.{NONCE_WORDS}
+use Rattle.stun_proto_verify.proofs.Base.WordLemmas.{stream_after-zero}
+use Rattle.stun_proto_verify.specs.Base.GeneratorWords.{stream_after}
+use Rattle.stun_proto_verify.specs.Auth.declared.nonce.TheConstants.{NONCE_WORDS}
 use Rattle.stun_proto_server.proofs.long_term.LongTermServerAuth.refresh_nonce.Goals as goal
 
 pub returns-then-has_standing_nonce-clause-stream : goal.returns-then-has_standing_nonce-clause-stream

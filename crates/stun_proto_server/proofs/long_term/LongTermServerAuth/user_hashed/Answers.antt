@@ -1,6 +1,6 @@
 use Rattle.std.proofs.Common.{◌≡◌, ℕ, List, Some, sym, ap, ◌∙◌, subst}
 use Rattle.std.specs.Option.{option_map}
-use Rattle.stun_types_auth_attributes.specs.Userhashes.{userhash_of}
+use Rattle.stun_proto_verify.specs.AuthAttributes.Userhashes.{userhash_of}
 use Rattle.stun_proto_server.specs.StoredKeys.{IsHashed}
 use Rattle.stun_proto_server.specs.Users.{IsFoundBy}
 use Rattle.stun_proto_server.specs.declared.users.KeyedUser.{KeyedUser}

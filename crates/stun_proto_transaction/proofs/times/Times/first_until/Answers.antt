@@ -1,6 +1,6 @@
 use Rattle.std.proofs.Common.{rules, arith, ◌≡◌, ◌<◌, ◌≤◌, length, get_or, inl, inr}
 use Rattle.std.proofs.lemmas.List.{get_or_default}
-use Rattle.stun_types_base.specs.Times.{greatest_time}
+use Rattle.stun_types_message.specs.Base.Times.{greatest_time}
 use Rattle.stun_proto_transaction.proofs.Bounds.{all_later, passed_later, passed_lower}
 use Rattle.stun_proto_transaction.proofs.times.Times.first_until.Goals.{then-as_nanos+else-le-2, else-as_nanos}
 use Rattle.stun_proto_transaction.proofs.times.Times.first_until.Goals as goal

@@ -1,6 +1,6 @@
 use Rattle.std.proofs.Common.{◌≡◌, ℕ, ◌-◌, ◌<◌, get_or, vec_len}
 use Rattle.std.specs.Prelude.{◌⊎◌}
-use Rattle.stun_types_base.specs.Times.{greatest_time}
+use Rattle.stun_types_message.specs.Base.Times.{greatest_time}
 use Rattle.stun_proto_transaction.specs.Watched.{IsStored}
 use Rattle.stun_proto_transaction.proofs.times.Times.first_until.Given as goal
 

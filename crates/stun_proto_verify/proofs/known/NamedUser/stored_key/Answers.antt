@@ -1,7 +1,7 @@
 use Rattle.std.proofs.Common.{Option, subst, ◌∙◌}
 use Rattle.std.specs.Prelude.{IfSome}
 use Rattle.std.specs.Cmp.Lexicographic.{same_text}
-use Rattle.stun_types_integrity.specs.Credentials.{long_term_key}
+use Rattle.stun_proto_auth.specs.Integrity.Credentials.{long_term_key}
 use Rattle.stun_proto_verify.specs.UserKeys.{AreKeysOf}
 use Rattle.stun_proto_verify.specs.declared.known.StoredKeys.{StoredKeys}
 use Rattle.stun_proto_verify.proofs.known.NamedUser.stored_key.Goals as goal

@@ -1,8 +1,8 @@
 use Rattle.std.proofs.Common.{bit_xor, ap, ◌∙◌}
 use Rattle.byteorder.specs.Endian.{big_bytes}
-use Rattle.stun_types_digest.specs.Crc.{crc32}
-use Rattle.stun_types_wire.specs.Fingerprints.{fingerprint_value}
-use Rattle.stun_types_wire.specs.Registry.{fingerprint_mask}
+use Rattle.stun_types_integrity.specs.Digest.Crc.{crc32}
+use Rattle.stun_types_integrity.specs.Wire.Fingerprints.{fingerprint_value}
+use Rattle.stun_types_integrity.specs.Wire.Registry.{fingerprint_mask}
 use Rattle.stun_types_add.proofs.FingerprintChunks.{decoded_in_chunks}
 use Rattle.stun_types_add.proofs.attribute.Fingerprint.of_message.Goals as goal
 

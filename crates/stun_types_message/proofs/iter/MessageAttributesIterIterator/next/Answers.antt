@@ -1,7 +1,7 @@
 use Rattle.std.proofs.Common.{take, ap, sym, refl, ◌∙◌, List, ℕ}
 use Rattle.stun_types_message.specs.ShapeStages.{stage_rank}
-use Rattle.stun_types_wire.specs.Shape.{may_follow}
-use Rattle.stun_types_wire.proofs.Left.{none_past, none_short, none_cut, none_stops, left_step, goes_from_step}
+use Rattle.stun_types_attributes.specs.Wire.Shape.{may_follow}
+use Rattle.stun_types_attributes.proofs.Wire.Left.{none_past, none_short, none_cut, none_stops, left_step, goes_from_step}
 use Rattle.stun_types_message.proofs.iter.MessageAttributesIterIterator.next.Goals as goal
 
 pub returns-then-self-clause-steps : goal.returns-then-self-clause-steps

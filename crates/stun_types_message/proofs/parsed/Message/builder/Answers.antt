@@ -1,5 +1,5 @@
 use Rattle.std.proofs.Common.{ℕ, ap, ◌∙◌}
-use Rattle.stun_types_wire.specs.Text.{header_text}
+use Rattle.stun_types_attributes.specs.Wire.Text.{header_text}
 use Rattle.stun_types_add.proofs.Started.{started}
 use Rattle.stun_types_message.proofs.parsed.Message.builder.Goals as goal
 

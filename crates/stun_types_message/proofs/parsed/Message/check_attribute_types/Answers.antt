@@ -1,11 +1,11 @@
 use Rattle.std.proofs.Common.{rules, ◌≡◌, ℕ, List, [], length, map, true, false, None, Some, refl, sym, ap, subst, ◌∙◌}
 use Rattle.std.specs.Prelude.{Option}
 use Rattle.std.proofs.lemmas.List.{length-map}
-use Rattle.stun_types_base.specs.Refusals.{IsCause}
-use Rattle.stun_types_wire.specs.declared.attribute.AttributeType.{AttributeType}
-use Rattle.stun_types_wire.specs.declared.error.StunWriteError.{StunWriteError}
-use Rattle.stun_types_wire.specs.declared.error.StunWriteError.TheVariants.{NoMemory}
-use Rattle.stun_types_wire.specs.Grammar.{number_at, visible}
+use Rattle.stun_types_attributes.specs.Base.Refusals.{IsCause}
+use Rattle.stun_types_attributes.specs.Wire.declared.attribute.AttributeType.{AttributeType}
+use Rattle.stun_types_attributes.specs.Wire.declared.error.StunWriteError.{StunWriteError}
+use Rattle.stun_types_attributes.specs.Wire.declared.error.StunWriteError.TheVariants.{NoMemory}
+use Rattle.stun_types_attributes.specs.Wire.Grammar.{number_at, visible}
 use Rattle.stun_types_add.specs.Calls.{IsComposed}
 use Rattle.stun_types_message.specs.Objections.{IsObjected, error_type, objection_refusal, objection_refusal_to, objection_to, unknown_refusal, unknown_response_attributes}
 use Rattle.stun_types_message.proofs.Listing.{missing_is, none_visible, unknown_objection, unknown_refused}

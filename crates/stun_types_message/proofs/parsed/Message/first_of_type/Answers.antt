@@ -1,8 +1,8 @@
 use Rattle.std.proofs.Common.{rules, ◌≡◌, true, false, eqb, Some, length, drop, sym, ap, ◌∙◌, arith}
 use Rattle.std.proofs.lemmas.List.{length-drop}
 use Rattle.stun_types_message.proofs.Validating.{occurs}
-use Rattle.stun_types_wire.specs.Attributes.{Attr, kind_at, size_at}
-use Rattle.stun_types_wire.proofs.Whole.{whole_long}
+use Rattle.stun_types_attributes.specs.Wire.Attributes.{Attr, kind_at, size_at}
+use Rattle.stun_types_attributes.proofs.Wire.Whole.{whole_long}
 use Rattle.stun_types_message.proofs.Shows.{attribute_is, begins_whole, first_at, first_at_after, left_sum, none_at}
 use Rattle.stun_types_message.proofs.parsed.Message.first_of_type.Goals as goal
 

@@ -1,6 +1,6 @@
 use Rattle.std.proofs.Common.{◌≡◌, ◌+◌, eqb, length}
 use Rattle.std.specs.Prelude.{find, sum_by}
-use Rattle.stun_types_wire.specs.Attributes.{attr_size, attributes, numbered}
+use Rattle.stun_types_attributes.specs.Wire.Attributes.{attr_size, attributes, numbered}
 use Rattle.stun_types_message.specs.MessageValidation.{first_of_kind}
 use Rattle.stun_types_message.proofs.parsed.Message.first_of_type.Given as goal
 

@@ -1,5 +1,5 @@
 use Rattle.std.proofs.Common.{refl, rules}
-use Rattle.stun_types_wire.specs.Grammar.{refusal, length_refusal}
+use Rattle.stun_types_attributes.specs.Wire.Grammar.{refusal, length_refusal}
 use Rattle.stun_types_message.specs.Parsed.{IsParsed}
 use Rattle.stun_types_message.proofs.Shows.{visible_text}
 use Rattle.stun_types_message.proofs.parsed.Message.from_bytes.Goals as goal

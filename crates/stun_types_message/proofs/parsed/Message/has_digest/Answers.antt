@@ -1,6 +1,6 @@
 use Rattle.std.proofs.Common.{◌≡◌, List, ℕ, ◌+◌, take, sym, ap, subst, ◌∙◌}
 use Rattle.std.specs.Prelude.{◌↔◌, IsTrue}
-use Rattle.stun_types_integrity.specs.Integrity.{IsPrefix, integrity_hmac}
+use Rattle.stun_types_add.specs.Integrity.Integrity.{IsPrefix, integrity_hmac}
 use Rattle.stun_types_message.proofs.Validating.{covered_whole}
 use Rattle.stun_types_message.proofs.parsed.Message.has_digest.Goals as goal
 

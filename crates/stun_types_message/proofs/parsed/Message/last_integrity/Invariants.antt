@@ -1,6 +1,6 @@
 use Rattle.std.proofs.Common.{◌≡◌, map}
 use Rattle.std.specs.Option.{option_or}
-use Rattle.stun_types_wire.specs.Grammar.{visible}
+use Rattle.stun_types_attributes.specs.Wire.Grammar.{visible}
 use Rattle.stun_types_message.specs.MessageValidation.{last_algorithm}
 use Rattle.stun_types_message.proofs.parsed.Message.last_integrity.Given as goal
 

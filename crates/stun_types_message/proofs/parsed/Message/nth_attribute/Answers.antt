@@ -1,6 +1,6 @@
 use Rattle.std.proofs.Common.{sym, ap, ◌∙◌}
-use Rattle.stun_types_wire.specs.declared.attribute.AttributeType.{AttributeType}
-use Rattle.stun_types_wire.specs.Grammar.{visible}
+use Rattle.stun_types_attributes.specs.Wire.declared.attribute.AttributeType.{AttributeType}
+use Rattle.stun_types_attributes.specs.Wire.Grammar.{visible}
 use Rattle.stun_types_message.specs.TypedReading.{nth_of_kind}
 use Rattle.stun_types_message.proofs.Refusals.{refused_as}
 use Rattle.stun_types_message.proofs.parsed.Message.nth_attribute.Goals as goal

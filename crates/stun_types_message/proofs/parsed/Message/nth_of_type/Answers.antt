@@ -1,9 +1,9 @@
 use Rattle.std.proofs.Common.{ap, ◌∙◌}
 use Rattle.std.specs.Prelude.{ℕ, List, map}
-use Rattle.stun_types_wire.specs.Attributes.{Attr}
-use Rattle.stun_types_wire.specs.Grammar.{visible}
+use Rattle.stun_types_attributes.specs.Wire.Attributes.{Attr}
+use Rattle.stun_types_attributes.specs.Wire.Grammar.{visible}
 use Rattle.stun_types_message.specs.TypedReading.{nth_of_kind}
-use Rattle.stun_types_wire.proofs.Left.{map_numbered}
+use Rattle.stun_types_attributes.proofs.Wire.Left.{map_numbered}
 use Rattle.stun_types_message.proofs.parsed.Message.nth_of_type.Goals as goal
 
 pub loop-attribute-init : goal.loop-attribute-init

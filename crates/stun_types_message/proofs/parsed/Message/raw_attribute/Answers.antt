@@ -1,5 +1,5 @@
 use Rattle.std.proofs.Common.{sym}
-use Rattle.stun_types_wire.specs.Grammar.{visible}
+use Rattle.stun_types_attributes.specs.Wire.Grammar.{visible}
 use Rattle.stun_types_message.proofs.Shows.{found_alone, none_alone}
 use Rattle.stun_types_message.proofs.parsed.Message.raw_attribute.Goals as goal
 

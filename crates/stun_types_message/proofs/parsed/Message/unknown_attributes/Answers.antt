@@ -1,9 +1,9 @@
 use Rattle.std.proofs.Common.{rules, ◌≡◌, ◌∷◌, [], None, List, ℕ, length, refl, ap, subst, ◌∙◌}
 use Rattle.std.proofs.lemmas.List.{length-map}
-use Rattle.stun_types_base.specs.Refusals.{IsCause}
-use Rattle.stun_types_wire.specs.declared.error.StunWriteError.TheVariants.{NoMemory}
-use Rattle.stun_types_wire.specs.declared.attribute.AttributeType.{AttributeType}
-use Rattle.stun_types_wire.specs.Grammar.{number_at}
+use Rattle.stun_types_attributes.specs.Base.Refusals.{IsCause}
+use Rattle.stun_types_attributes.specs.Wire.declared.error.StunWriteError.TheVariants.{NoMemory}
+use Rattle.stun_types_attributes.specs.Wire.declared.attribute.AttributeType.{AttributeType}
+use Rattle.stun_types_attributes.specs.Wire.Grammar.{number_at}
 use Rattle.stun_types_add.specs.Calls.{IsComposed}
 use Rattle.stun_types_add.proofs.Taken.{composed_more}
 use Rattle.stun_types_message.specs.Objections.{error_attribute, error_type, unknown_attribute, unknown_refusal}
