@@ -221,17 +221,38 @@ class Layout(unittest.TestCase):
         self.assertEqual([*layout.laws_below(crates)], ["b stands above a_laws", "c stands above a_laws"])
 
     def test_each_import_is_read(self):
-        text = "use std::fmt;\nuse crate::a::{One, Two as Other};\npub use b::c::Three;\n// use d::Four;\n"
-        read = {("fmt", "std"), ("One", "me::a"), ("Two", "me::a"), ("Three", "b::c")}
-        self.assertEqual({*layout.imports(text, "me")}, read)
+        text = (
+            "use std::fmt;\nuse crate::a::{One, Two as Other};\npub use b::c::Three;\n// use d::Four;\n"
+            "use crate::b::Five;\n"
+        )
+        read = {("fmt", "std"), ("One", "me::a"), ("Two", "me::a"), ("Three", "b::c"), ("Five", "b")}
+        self.assertEqual({*layout.imports(text, "me", {"b", "me"})}, read)
 
     def test_another_path_is_seen(self):
         with tempfile.TemporaryDirectory() as room:
             source = Path(room, "crates", "a", "src")
             source.mkdir(parents=True)
             source.joinpath("lib.rt").write_text("use b::Instant;\nuse stun_types_base::memory::NoMemory;\n")
+            source.joinpath("more.rt").write_text("use crate::b::Instant;\nuse crate::stun_types_base::memory::NoMemory;\n")
             found = [*layout.other_paths(Path(room), {"a": [], "b": [], "stun_types_base": []})]
-        self.assertEqual(found, ["crates/a/src/lib.rt imports Instant from b, not from stun_types_base::instant"])
+        self.assertEqual(
+            found,
+            [
+                f"crates/a/src/{file} imports Instant from b, not from stun_types_base::instant"
+                for file in ("lib.rt", "more.rt")
+            ],
+        )
+
+    def test_paths_are_counted(self):
+        with tempfile.TemporaryDirectory() as room:
+            top = Path(room)
+            chain = [f"c{n}: {' '.join(f'c{m}' for m in range(n))}" for n in range(20)]
+            top.joinpath("crates.txt").write_text("\n".join(chain[:19]))
+            self.assertEqual([*layout.too_many_paths(top)], [])
+            top.joinpath("crates.txt").write_text("\n".join(chain))
+            found = [*layout.too_many_paths(top)]
+        # each crate has twice as many as the one before, and one more
+        self.assertEqual(found, ["crates.txt has 1,048,555 paths, and at most 700,000 are allowed"])
 
 
 class Index(unittest.TestCase):
@@ -637,7 +658,7 @@ class GatePage(PageFile):
             "- commit: e9e13b7", "- crates: 62", "- note: quiet", "- last line: `360 passed, 0 failed`",
             "- proofs: every proof and must-fail edit was done in this run",
             "| processor minutes from nothing, on model 85 | 245 | 6.5 (6.0 user, 0.5 system) |",
-            "| paths that `rt` walks | 1,400,000 | 1,206,140 |",
+            "| paths that `rt` walks | 700,000 | 1,206,140 |",
             "| proofs | 147 | 0 | 600.0 | 300.0 |", "| examples | 13 | 0 | 0.1 |  |",
             "| crates and the static library: proved and built | 4.0 |",
             "| must-fail edits | 1.0 |", "| `rt` itself | 0.5 |",

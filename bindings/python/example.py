@@ -647,15 +647,8 @@ def first_line(file: str) -> str:
         raise argparse.ArgumentTypeError(f"{file}: {error}") from None
 
 
-def read_options() -> argparse.Namespace:
-    parser = argparse.ArgumentParser(allow_abbrev=False, epilog=STATUSES)
+def add_peer_options(parser: argparse.ArgumentParser) -> None:
     add = parser.add_argument
-    add("--server", type=read_address, required=True, metavar="IP:PORT", help="of IPv6 [IP]:PORT")
-    add("--user", required=True)
-    add("--password-file", dest="password", type=first_line, metavar="FILE",
-        help="its first line is the password; without it that is the variable TURN_PASSWORD")
-    add("--password", help="the password, which other users of the machine can see while the program runs")
-    add("--tcp", action="store_true", help="a connection over TCP to the server; peers are reached over UDP")
     add("--peer", type=read_address, metavar="IP:PORT", help="the peer, which is to send back what it gets")
     add("--connect", type=read_address, metavar="IP:PORT",
         help="the peer, over a connection over TCP (RFC 6062); wants --tcp")
@@ -666,19 +659,52 @@ def read_options() -> argparse.Namespace:
         "coturn does, which nobody signs")
     add("--echo", action="store_true", help="the peer is one of this program's own: on loopback, or where --peer or "
         "--connect says; a port 0 is a free one")
+
+
+def add_payload_options(parser: argparse.ArgumentParser) -> None:
+    add = parser.add_argument
     add("--count", type=bounded(0, MOST_COUNT), default=10, help="how many payloads; without it 10")
     add("--size", type=bounded(LEAST_SIZE, MOST_SIZE), default=100, help="bytes of each; without it 100")
     add("--seconds", type=bounded(0, MOST_COUNT), default=0, help="how long the address is kept at least; "
         "without it 0")
     add("--interval", type=bounded(0, MOST_INTERVAL), metavar="MS", help="between two payloads; without it they are "
         "spread over the time that the address is kept, at least 1 ms apart")
-    port = parser.add_mutually_exclusive_group().add_argument
-    port("--even-port", dest="port", action="store_const", const=RelayedPort.EVEN, default=RelayedPort.ANY,
-         help="asks for an even port of the address")
-    port("--reserve", dest="port", action="store_const", const=RelayedPort.EVEN_AND_NEXT,
-         help="the same, and that the server reserve the next port; tells the token for that")
-    port("--token", type=read_token, metavar="HEX",
-         help=f"asks for the port that is reserved under this token, of {TOKEN_DIGITS} digits")
+
+
+def add_port_options(parser: argparse.ArgumentParser) -> None:
+    add = parser.add_mutually_exclusive_group().add_argument
+    add("--even-port", dest="port", action="store_const", const=RelayedPort.EVEN, default=RelayedPort.ANY,
+        help="asks for an even port of the address")
+    add("--reserve", dest="port", action="store_const", const=RelayedPort.EVEN_AND_NEXT,
+        help="the same, and that the server reserve the next port; tells the token for that")
+    add("--token", type=read_token, metavar="HEX",
+        help=f"asks for the port that is reserved under this token, of {TOKEN_DIGITS} digits")
+
+
+def check_options(parser: argparse.ArgumentParser, options: argparse.Namespace) -> None:
+    """Ends the program, with the reason, where options contradict one another or one is missing."""
+    if options.password is None:
+        parser.error("a password is wanted: TURN_PASSWORD, --password-file or --password")
+    if options.accept and (not options.tcp or options.peer or options.connect or options.echo):
+        parser.error("--accept wants --tcp, and none of --peer, --connect and --echo")
+    if options.connect and (not options.tcp or options.peer or options.indications):
+        parser.error("--connect wants --tcp, and neither --peer nor --indications")
+    if not options.echo and any(it and it[1] == 0 for it in (options.peer, options.connect)):
+        parser.error("a peer has a port that isn't 0")
+
+
+def read_options() -> argparse.Namespace:
+    parser = argparse.ArgumentParser(allow_abbrev=False, epilog=STATUSES)
+    add = parser.add_argument
+    add("--server", type=read_address, required=True, metavar="IP:PORT", help="of IPv6 [IP]:PORT")
+    add("--user", required=True)
+    add("--password-file", dest="password", type=first_line, metavar="FILE",
+        help="its first line is the password; without it that is the variable TURN_PASSWORD")
+    add("--password", help="the password, which other users of the machine can see while the program runs")
+    add("--tcp", action="store_true", help="a connection over TCP to the server; peers are reached over UDP")
+    add_peer_options(parser)
+    add_payload_options(parser)
+    add_port_options(parser)
     add("--indications", action="store_true", help="no channel: each payload goes in an indication")
     add("--follow", action="store_true", help="goes on at the server that this one names by an error 300, once")
     add("--ignore-short-lifetimes", action="store_true", help="ignores a renewal that grants less than 600 s")
@@ -688,17 +714,10 @@ def read_options() -> argparse.Namespace:
     if options.password is None:
         # no default of the parser's: it would read the variable as the name of a file
         options.password = os.environ.get("TURN_PASSWORD")
-    if options.password is None:
-        parser.error("a password is wanted: TURN_PASSWORD, --password-file or --password")
+    check_options(parser, options)
     options.is_connection = options.connect is not None
     options.between = Transport.TCP if options.is_connection or options.accept else Transport.UDP
     options.has_accepted = False
-    if options.accept and (not options.tcp or options.peer or options.connect or options.echo):
-        parser.error("--accept wants --tcp, and none of --peer, --connect and --echo")
-    if options.is_connection and (not options.tcp or options.peer or options.indications):
-        parser.error("--connect wants --tcp, and neither --peer nor --indications")
-    if not options.echo and any(it and it[1] == 0 for it in (options.peer, options.connect)):
-        parser.error("a peer has a port that isn't 0")
     if not options.echo and not options.peer and not options.connect:
         options.count = 0
     return options
