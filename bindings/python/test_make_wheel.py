@@ -65,15 +65,16 @@ class Refusals(unittest.TestCase):
             copy = Path(folder, "a", "b", "make_wheel.py")
             copy.parent.mkdir(parents=True)
             copy.write_bytes((HERE / "make_wheel.py").read_bytes())
-            ran = subprocess.run([sys.executable, copy], capture_output=True, text=True)
+            ran = subprocess.run([sys.executable, copy], capture_output=True, text=True, check=False)
         self.assertEqual(ran.returncode, 1)
         self.assertRegex(ran.stderr, "built in a clone .* upgrade it")
 
     @unittest.skipIf(IS_UNPROVED, "what isn't proved isn't installed")
     def test_another_version(self) -> None:
-        with mock.patch.object(turn_client, "__version__", "9.9.9"), tempfile.TemporaryDirectory() as folder:
-            with self.assertRaisesRegex(SystemExit, f"9[.]9[.]9, and VERSION {re.escape(VERSION)}"):
-                make_wheel.build_wheel(folder)
+        refused = self.assertRaisesRegex(SystemExit, f"9[.]9[.]9, and VERSION {re.escape(VERSION)}")
+        other = mock.patch.object(turn_client, "__version__", "9.9.9")
+        with other, tempfile.TemporaryDirectory() as folder, refused:
+            make_wheel.build_wheel(folder)
 
 
 class Metadata(unittest.TestCase):
@@ -139,7 +140,8 @@ class Installed(unittest.TestCase):
 
     @classmethod
     def run_python(cls, *words: str, **more: str) -> str:
-        ran = subprocess.run(words, cwd=cls.room, env={**cls.environment, **more}, capture_output=True, text=True)
+        environment = {**cls.environment, **more}
+        ran = subprocess.run(words, cwd=cls.room, env=environment, capture_output=True, text=True, check=False)
         if ran.returncode != 0:
             raise AssertionError(ran.stdout + ran.stderr)
         return ran.stdout

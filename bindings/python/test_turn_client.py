@@ -638,9 +638,9 @@ class Library(unittest.TestCase):
     def test_another_platform(self) -> None:
         others = {"sys.platform": "darwin", "platform.machine": lambda: "aarch64", "os.confstr_names": {}}
         for name, value in others.items():
-            with self.subTest(name), mock.patch(name, value):
-                with self.assertRaisesRegex(ImportError, "is made for x86-64 Linux with glibc, and this is "):
-                    loaded_from("", "turn_client_of_another_platform")
+            refused = self.assertRaisesRegex(ImportError, "is made for x86-64 Linux with glibc, and this is ")
+            with self.subTest(name), mock.patch(name, value), refused:
+                loaded_from("", "turn_client_of_another_platform")
 
     @unittest.skipIf(IS_UNPROVED, "what isn't proved isn't installed")
     def test_installed(self) -> None:
@@ -648,9 +648,9 @@ class Library(unittest.TestCase):
         with tempfile.TemporaryDirectory() as folder:
             wheel = Path(folder, importlib.import_module("make_wheel").build_wheel(folder))
             shutil.unpack_archive(wheel, folder, "zip")
-            how: dict[str, Any] = {"cwd": folder, "check": True, "capture_output": True, "text": True}
+            how: dict[str, Any] = {"cwd": folder, "capture_output": True, "text": True}
             told = "import turn_client as it; print(it._library(), it._CALL['relayed'].__name__)"
-            ran = subprocess.run([sys.executable, "-c", told], env={"PYTHONPATH": folder}, **how)
+            ran = subprocess.run([sys.executable, "-c", told], env={"PYTHONPATH": folder}, check=True, **how)
             self.assertEqual(ran.stdout, f"{folder}/turn_client/libturn_client.so turn_client_relayed\n")
 
 

@@ -100,6 +100,11 @@ class Case(unittest.IsolatedAsyncioTestCase):
         return transport, protocol
 
 
+async def comes(protocol: Notes, data: bytes) -> None:
+    """Waits until the last payload that came is this one, of the peer."""
+    await until(lambda: protocol.came and protocol.came[-1] == (data, PEER))
+
+
 class Datagrams(Case):
     async def goes_and_comes_back(self, is_stream: bool) -> None:
         transport, protocol = await self.endpoint(is_stream=is_stream)
@@ -139,7 +144,7 @@ class Datagrams(Case):
         transport, protocol = await self.endpoint(channels=False)
         for data in (b"one", b"two"):
             transport.sendto(data, PEER)
-            await until(lambda: protocol.came and protocol.came[-1] == (data, PEER))
+            await comes(protocol, data)
         self.assertEqual([it[2] for it in self.server.payloads], [False, False])
         self.assertEqual(self.server.count(base.CHANNEL_BIND), 0)
 
@@ -150,7 +155,7 @@ class Datagrams(Case):
         await until(lambda: transport._barred)
         for data in (b"one", b"two"):
             transport.sendto(data)
-            await until(lambda: protocol.came and protocol.came[-1] == (data, PEER))
+            await comes(protocol, data)
         self.assertEqual((self.server.count(base.CHANNEL_BIND), protocol.errors), (1, []))
 
     async def test_with_a_peer(self) -> None:

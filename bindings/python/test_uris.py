@@ -26,8 +26,8 @@ from turn_client_asyncio import TurnUri, UriError, UriRefusal, UriScheme, _uris 
 
 ROWS = HERE.parents[1] / "tests" / "driver" / "uris.c"
 GOOD = re.compile(r'^    \{"(?P<text>[^"]+)", TURN_URI_(?P<scheme>\w+), "(?P<host>[^"]+)", (?P<port>\d+), '
-                  r'(?P<transport>0|TURN_UDP|TURN_TCP), (?P<family>[046]), (?P<is_secure>true|false)\},$', re.M)
-BAD = re.compile(r'^    \{"(?P<text>[^"]*)", TURN_URI_(?P<refusal>\w+)\},$', re.M)
+                  r'(?P<transport>0|TURN_UDP|TURN_TCP), (?P<family>[046]), (?P<is_secure>true|false)\},$', re.MULTILINE)
+BAD = re.compile(r'^    \{"(?P<text>[^"]*)", TURN_URI_(?P<refusal>\w+)\},$', re.MULTILINE)
 UDP, TCP = turn.Transport.UDP, turn.Transport.TCP
 
 

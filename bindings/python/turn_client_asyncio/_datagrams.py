@@ -81,7 +81,7 @@ class TurnTransport(Driver, asyncio.DatagramTransport):
         """Calls the protocol. What that raises is the loop's to handle, as with any transport."""
         try:
             getattr(self._protocol, name)(*given)
-        except Exception as error:
+        except Exception as error:  # noqa: BLE001, as a protocol may raise any
             self._loop.call_exception_handler({
                 "message": f"{name} of a protocol over a TURN server failed", "exception": error, "transport": self,
                 "protocol": self._protocol})

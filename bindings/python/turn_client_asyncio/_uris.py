@@ -152,7 +152,7 @@ def _name(text: str) -> tuple[str, str]:
         raise _Refused(UriRefusal.NO_HOST)
     if not NAME.fullmatch(host):
         raise _Refused(UriRefusal.UNSUPPORTED_HOST)
-    host = host[:-1] if host.endswith(".") else host
+    host = host.removesuffix(".")
     if len(host) > HOST_MAX:
         raise _Refused(UriRefusal.LONG_HOST)
     labels = host.split(".")
