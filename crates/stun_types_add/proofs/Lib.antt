@@ -1,4 +1,5 @@
 pub mod Turned
+pub mod Values
 pub mod FingerprintChunks
 pub mod Added
 pub mod Adds

@@ -1,3 +1,4 @@
+pub mod Numbered
 pub mod Composed
 pub mod Splits
 pub mod Covered

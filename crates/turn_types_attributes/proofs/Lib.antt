@@ -1,3 +1,4 @@
+pub mod Values
 pub mod AddressErrors
 pub mod EvenPorts
 pub mod Families
