@@ -1,3 +1,4 @@
+pub mod Below
 pub mod Adding
 pub mod NonceLemmas
 pub mod Keeping

@@ -27,7 +27,7 @@ pub fn offers(value: &[u8], algorithm: IntegrityAlgorithm) -> bool
 
 /// Returns whether an entry has the number of the password algorithm that derives the keys of an
 /// integrity algorithm.
-#[tactic(auto, unfolding(stun_types_message::specs::AuthAttributes::Entries::number_decoded))]
+#[tactic(auto, unfolding(crate::proofs::Below::number_decoded))]
 fn decodes(entry: &[u8; 4], algorithm: IntegrityAlgorithm) -> bool
     ensures { result ≡ (number_decoded entry.now == number_by algorithm) }
 {

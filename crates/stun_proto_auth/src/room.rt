@@ -22,7 +22,7 @@ use crate::stun_types_write::writer::MessageWrite;
 ///
 /// 1. `TooLarge`: the part's value is over its limit.
 /// 2. The errors of `add_attribute`.
-#[tactic(auto, unfolding(stun_types_message::specs::Write::Adding::add_refusal))]
+#[tactic(auto, unfolding(crate::proofs::Below::add_refusal))]
 fn fits_after<W: MessageWrite>(
     writer: &W,
     before: usize,

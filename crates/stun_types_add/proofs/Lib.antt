@@ -1,5 +1,5 @@
 pub mod Turned
-pub mod Values
+pub mod Below
 pub mod FingerprintChunks
 pub mod Added
 pub mod Adds

@@ -1,4 +1,4 @@
-pub mod Numbered
+pub mod Below
 pub mod Composed
 pub mod Splits
 pub mod Covered

@@ -99,7 +99,7 @@ struct Unknown {
 }
 
 /// Returns whether a message has a visible type that is comprehension-required and not supported.
-#[tactic(auto, using(crate::proofs::Numbered::map_numbered))]
+#[tactic(auto, using(crate::proofs::Below::map_numbered))]
 fn shows_unknown(msg: &Message, supported: &[AttributeType]) -> bool
     ensures { result ≡ list_any (λ a. is_unknown (map (λ t. t.0) supported.now) a.kind)
         (visible msg.now) }
@@ -179,7 +179,7 @@ impl Unknown {
 }
 
 /// Returns whether a type is comprehension-required and not supported.
-#[tactic(auto, using(crate::proofs::Numbered::any_numbers))]
+#[tactic(auto, using(crate::proofs::Below::any_numbers))]
 fn is_unknown_type(atype: AttributeType, supported: &[AttributeType]) -> bool
     ensures { result ≡ is_unknown (map (λ t. t.0) supported.now) atype.0 }
 {

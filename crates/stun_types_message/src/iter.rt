@@ -35,7 +35,7 @@ impl<'a> Model for MessageAttributesIter<'a> {
 
 impl<'a> MessageAttributesIter<'a> {
     /// Creates the iterator over the visible attributes after the header of a message.
-    #[tactic(auto, unfolding(stun_types_attributes::specs::Wire::Grammar::visible))]
+    #[tactic(auto, unfolding(crate::proofs::Below::visible))]
     pub fn new(bytes: &'a [u8]) -> MessageAttributesIter<'a>
         ensures { result ≡ numbered header_size (visible bytes.now) }
     {

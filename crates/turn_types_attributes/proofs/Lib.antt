@@ -1,4 +1,4 @@
-pub mod Values
+pub mod Below
 pub mod AddressErrors
 pub mod EvenPorts
 pub mod Families

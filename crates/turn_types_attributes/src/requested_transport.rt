@@ -145,7 +145,7 @@ impl<'a> AttributeFromRaw<'a> for RequestedTransport {
         RequestedTransport::from_raw_ref(alloc, &raw)
     }
 
-    #[tactic(auto, using(crate::proofs::Values::value_is_accepted))]
+    #[tactic(auto, using(crate::proofs::Below::value_is_accepted))]
     fn proof_is_read_back(&self, _read: &RequestedTransport) {}
 }
 

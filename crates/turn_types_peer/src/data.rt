@@ -138,7 +138,7 @@ impl<'a> AttributeFromRaw<'a> for Data {
         })
     }
 
-    #[tactic(auto, using(crate::proofs::Values::value_is_accepted))]
+    #[tactic(auto, using(crate::proofs::Below::value_is_accepted))]
     fn proof_is_read_back(&self, _read: &Data) {
         let _ = self.data();
     }
