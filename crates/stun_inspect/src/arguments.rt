@@ -25,9 +25,25 @@ pub enum Form {
     Json,
 }
 
+/// What is read.
+#[derive(Clone, Copy, Debug, PartialEq, Eq)]
+pub enum Input {
+    /// Lines of hex.
+    Lines,
+    /// A capture of packets, in the format pcap.
+    Pcap,
+}
+
+/// What the arguments ask for.
+#[derive(Clone, Copy, Debug, PartialEq, Eq)]
+pub(crate) struct Wanted {
+    pub(crate) form: Form,
+    pub(crate) input: Input,
+}
+
 /// Reads the arguments. If they are refused, or ask for the help or the version, it prints that,
 /// and returns the exit status as the error.
-pub(crate) fn read_arguments(rt: &HostRuntime) -> Result<Form, ExitCode> {
+pub(crate) fn read_arguments(rt: &HostRuntime) -> Result<Wanted, ExitCode> {
     let words = match env::args(rt) {
         Ok(words) => words,
         Err(error) => return Err(end_unread(rt, error.kind())),
@@ -35,8 +51,8 @@ pub(crate) fn read_arguments(rt: &HostRuntime) -> Result<Form, ExitCode> {
     let Ok(words) = words.collect::<Vec<String>>(rt.alloc()) else {
         return Err(end_without_memory(rt));
     };
-    match read_form(rt.alloc(), words.as_slice()) {
-        Ok(form) => Ok(form),
+    match read_wanted(rt.alloc(), words.as_slice()) {
+        Ok(wanted) => Ok(wanted),
         Err(error) => Err(end_early(rt, &error)),
     }
 }
@@ -48,20 +64,32 @@ pub(crate) fn read_arguments(rt: &HostRuntime) -> Result<Form, ExitCode> {
 /// - `DisplayHelp`, `DisplayVersion`: the error's text is what was asked for.
 /// - `OutOfMemory`: an allocation failed.
 /// - Others: the error's text names the argument that is refused, and says how the program is used.
-fn read_form(alloc: Global, words: &[String]) -> Result<Form, Error> {
+fn read_wanted(alloc: Global, words: &[String]) -> Result<Wanted, Error> {
     let json = Arg::new(alloc, "json")
         .long("json")
-        .help("Print one JSON object for each line that contains bytes")
+        .help("Print one JSON object for each line that contains bytes, or for each packet")
+        .action(ArgAction::SetTrue);
+    let pcap = Arg::new(alloc, "pcap")
+        .long("pcap")
+        .help("Read a capture in the format pcap, in place of lines")
         .action(ArgAction::SetTrue);
     let matches = Command::new(alloc, "stun-inspect")
         .version(VERSION)
-        .about("Reads lines of hex from standard input, and says what the bytes are")
+        .about("Reads lines of hex, or a capture, from standard input, and says what the bytes are")
         .arg(json)?
+        .arg(pcap)?
         .try_get_matches_from(words)?;
-    Ok(if matches.get_flag("json") {
-        Form::Json
-    } else {
-        Form::Text
+    Ok(Wanted {
+        form: if matches.get_flag("json") {
+            Form::Json
+        } else {
+            Form::Text
+        },
+        input: if matches.get_flag("pcap") {
+            Input::Pcap
+        } else {
+            Input::Lines
+        },
     })
 }
 

@@ -63,7 +63,7 @@ pub(crate) fn inspect<I: Read, O: Write>(
 }
 
 /// Prints why a program stopped, and returns its status, or `Fault` if printing fails.
-fn print_last<O: Write>(form: Form, output: &mut O, stop: Stop) -> Status
+pub(crate) fn print_last<O: Write>(form: Form, output: &mut O, stop: Stop) -> Status
     ensures status { result ≢ Status.Fault → result ≡ status_of stop }
     ensures printed { result ≢ Status.Fault → Appends (O.contents output.old)
         (O.contents output.new) (last_text form stop) }
