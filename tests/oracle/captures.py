@@ -168,10 +168,14 @@ def of_connection():
 
 
 def of_others():
-    """Streams of other protocols, which begin with no message: HTTP, TLS; and a stream that begins with a frame."""
+    """Streams of other protocols, which begin with no message: HTTP, TLS; and a stream that begins with a frame. Each
+    once in one packet, and once in two, the first of one byte, which a message may begin with."""
     starts = (b"GET / HTTP/1.1\r\n\r\n", bytes.fromhex("1603010200010001fc0303"), PADDED)
-    packets = [it for n, text in enumerate(starts) for it in (
-        tcp(b"", 100, SYN, (CLIENT[0], 40000 + n)), tcp(text, 101, PUSHED, (CLIENT[0], 40000 + n)))]
+    packets = []
+    for n, text in enumerate(starts):
+        whole, cut = (CLIENT[0], 40000 + n), (CLIENT[0], 41000 + n)
+        packets += [tcp(b"", 100, SYN, whole), tcp(text, 101, PUSHED, whole), tcp(b"", 100, SYN, cut)]
+        packets += [tcp(text[:1], 101, PUSHED, cut), tcp(text[1:], 102, PUSHED, cut)]
     return packets, []
 
 

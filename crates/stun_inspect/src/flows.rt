@@ -17,7 +17,7 @@ struct Stream {
     next: u32,
     /// The bytes that weren't taken yet: of a message or frame that is still incomplete.
     buffered: Vec<u8>,
-    /// Whether bytes were taken.
+    /// Whether a message was taken.
     has_started: bool,
 }
 
@@ -77,7 +77,7 @@ impl Flows {
         }
     }
 
-    /// Returns whether bytes of a stream were taken.
+    /// Returns whether a message was taken from a stream.
     pub(crate) fn has_started(&self, direction: Direction) -> bool {
         match self.streams.get(&direction) {
             Some(stream) => stream.has_started,
@@ -89,7 +89,7 @@ impl Flows {
     pub(crate) fn take(&mut self, direction: Direction, count: usize) {
         if let Some(stream) = self.streams.get_mut(&direction) {
             drop_first(&mut stream.buffered, count);
-            stream.has_started = true;
+            stream.has_started = stream.has_started || count > 0;
         }
     }
 
