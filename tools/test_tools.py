@@ -233,7 +233,8 @@ class Layout(unittest.TestCase):
             source = Path(room, "crates", "a", "src")
             source.mkdir(parents=True)
             source.joinpath("lib.rt").write_text("use b::Instant;\nuse stun_types_base::memory::NoMemory;\n")
-            source.joinpath("more.rt").write_text("use crate::b::Instant;\nuse crate::stun_types_base::memory::NoMemory;\n")
+            own = "use crate::b::Instant;\nuse crate::stun_types_base::memory::NoMemory;\n"
+            source.joinpath("more.rt").write_text(own)
             found = [*layout.other_paths(Path(room), {"a": [], "b": [], "stun_types_base": []})]
         self.assertEqual(
             found,

@@ -17,10 +17,10 @@ IPV4, IPV6 = 0x0800, 0x86DD
 ETHERNET, LOOPBACK, RAW, COOKED, COOKED2 = 1, 0, 101, 113, 276
 CLIENT, SERVER = ("192.0.2.1", 50000), ("198.51.100.7", 3478)
 CLIENT6, SERVER6 = ("2001:db8::1", 50000), ("2001:db8::2", 3478)
-# RFC 5769, section 2.2: a response of UTF-8 text "test vector", and an XOR-MAPPED-ADDRESS
+# RFC 5769, section 2.2: a response with SOFTWARE "test vector", XOR-MAPPED-ADDRESS, MESSAGE-INTEGRITY and FINGERPRINT
 RESPONSE = bytes.fromhex(
-    "0101003c2112a442b7e7a701bc34d686fa87dfae8022000b7465737420766563746f7220002000080001a147e112a643000800142b91f599fd9e"
-    "90c38c7489f92af9ba53f06be7d780280004c07d4c96"
+    "0101003c2112a442b7e7a701bc34d686fa87dfae8022000b7465737420766563746f7220002000080001a147e112a643000800142b91f599"
+    "fd9e90c38c7489f92af9ba53f06be7d780280004c07d4c96"
 )
 REQUEST = bytes.fromhex("000100002112a442000000000000000000007392")
 FRAME = bytes.fromhex("4000000568656c6c6f")
@@ -93,8 +93,8 @@ def lines_of(told):
 def object_of(told):
     how = {"message": lambda data: dissector.message_in_json(data, None), "frame": dissector.frame_in_json}
     known = {
-        "kind": "packet", "number": told.number, "time": told.time, "protocol": told.protocol, "from": shown(told.source),
-        "to": shown(told.to), "frames": [how[word](data) for word, data in told.frames],
+        "kind": "packet", "number": told.number, "time": told.time, "protocol": told.protocol,
+        "from": shown(told.source), "to": shown(told.to), "frames": [how[word](data) for word, data in told.frames],
     }
     return known | ({"gap": told.gap} if told.gap else {}) | ({"broken": told.broken.hex()} if told.broken else {})
 
@@ -104,14 +104,16 @@ def printed(told, last, is_json):
     if is_json:
         known = last if isinstance(last, dict) else {"kind": "capture", "packets": last, "described": len(told)}
         return "".join(f"{dissector.in_text(it)}\n" for it in [*map(object_of, told), known]).encode()
-    refused = {"NotPcap": "not pcap", "Pcapng": "pcapng", "ReadFault": "read fault"}
-    if isinstance(last, dict):
-        why = last["refused"]
-        words = f"link {why['link']}" if "link" in why else f"packet {why['packet']}" if "packet" in why else refused[why["name"]]
-        ended = words if why["name"] == "ReadFault" else f"bad capture: {words}"
-    else:
-        ended = f"capture {last} packets {len(told)} described"
+    ended = refusal(**last["refused"]) if isinstance(last, dict) else f"capture {last} packets {len(told)} described"
     return "".join(f"{line}\n" for it in told for line in lines_of(it)).encode() + f"{ended}\n".encode()
+
+
+def refusal(name, link=None, packet=None):
+    """The last line in words of an input that is refused."""
+    return {
+        "NotPcap": "bad capture: not pcap", "Pcapng": "bad capture: pcapng", "BadLink": f"bad capture: link {link}",
+        "BadPacket": f"bad capture: packet {packet}", "ReadFault": "read fault",
+    }[name]
 
 
 def at(number, fraction="000001"):
@@ -127,7 +129,8 @@ def asked(number, frames, protocol="udp", source=CLIENT, to=SERVER, **more):
 def of_udp():
     """Datagrams: messages, malformed ones too, frames, and others, of which nothing is said."""
     cut = RESPONSE[:-4]
-    payloads = (REQUEST, RESPONSE, FRAME, PADDED, FRAME + bytes(4), FRAME[:-1], cut, b"", b"GET / HTTP/1.1\r\n", REQUEST[:19])
+    others = (b"", b"GET / HTTP/1.1\r\n", REQUEST[:19])
+    payloads = (REQUEST, RESPONSE, FRAME, PADDED, FRAME + bytes(4), FRAME[:-1], cut, *others)
     read = {1: "message", 2: "message", 3: "frame", 4: "frame", 7: "message"}
     told = [asked(n, [(read[n], it)]) for n, it in enumerate(payloads, 1) if n in read]
     return [udp(it) for it in payloads], told
@@ -180,7 +183,7 @@ def of_others():
 
 
 def of_fragments():
-    """What isn't read: fragments, other protocols, a packet that is cut, one without IP; extensions of IPv6 are skipped."""
+    """What isn't read: fragments, other protocols, a packet that is cut, one without IP. Extensions of IPv6 are."""
     whole, six = udp(REQUEST), udp(REQUEST, CLIENT6, SERVER6)
     more, offset = (whole[:6] + bits + whole[8:] for bits in (b"\x20\x00", b"\x00\x03"))
     options = struct.pack(">BB6x", 17, 0)
@@ -205,7 +208,8 @@ def good():
     for number in (12, 14, 228, 229):
         yield f"a raw link of type {number}", capture(one[0], number), 1, one[1]
     yield "the family of loopback in network order", capture([linked(it, LOOPBACK) for it in one[0]], 108), 1, one[1]
-    yield "a length of the check sequence", capture([linked(it, ETHERNET) for it in one[0]], upper=0x24000000), 1, one[1]
+    checked = capture([linked(it, ETHERNET) for it in one[0]], upper=0x24000000)
+    yield "a length of the check sequence", checked, 1, one[1]
     for tags in ([0x8100], [0x88A8, 0x8100]):
         yield f"{len(tags)} tags", capture([tagged(one[0][0], tags)]), 1, one[1]
     yield "three tags", capture([tagged(one[0][0], [0x8100] * 3)]), 1, []

@@ -10,7 +10,9 @@ waits for the socket of the new connection, or changes nothing.
 from traces_attempt_limits import FOURTH
 from traces_attempts import (
     CONNECTION_ATTEMPT, NOW, UNTIL, asked, attempt, comes, goes_on, is_refused, malformed, own, taken, to,
+    waits_and_opens,
 )
+from traces_attempts_beside_connections import is_granted_before
 from traces_base import (
     ALLOCATE, BINDING, CHANNEL_BIND, CREATE_PERMISSION, DONT_FRAGMENT, ERROR, HASHED, INDICATION, MS, NAMED, REFRESH,
     RELAYED, SECOND, SHA1, SHA256, SUCCESS, Trace, challenge, code, error, grant, lifetime, message, number, refresh,
@@ -70,15 +72,7 @@ def never_counts(t, now, k, peer):
 
 def carried():
     t = accepting()
-    comes(t, NOW, announced(1, 7, AT))
-    t.event("none")
-    t.draw(NOW, None)
-    asks_socket(t, NOW, 7, AT)
-    t.poll(NOW, DUE)
-    asks(t, NOW, AT, "refused AlreadyExists")
-    lists(t)
-    opens(t, NOW, 7, AT, ONE)
-    lists(t, (ONE, AT, 7))
+    waits_and_opens(t, announced(1, 7, AT))
     # no response is due: the CONNECTION_BIND is the next message, 50 ms behind the one before
     t.poll(NOW, 150 * MS)
     t.draw(150 * MS - 1, None)
@@ -287,13 +281,7 @@ def before_there_is_one():
     drawn = t.draw(50 * MS, message(ALLOCATE, number(1), [OVER_TCP, lifetime(1800), *HASHED], SHA1))
     never_counts(t, 50 * MS, 4, AT)
     t.poll(50 * MS, LONGEST)
-    reply, text = t.is_handled_once(grant(1)), announced(5, 7, AT)
-    line = t.ask(50 * MS, f"@{drawn}", f"allocate {RELAYED} 600", reply)
-    t.means[text] = ["handled"]
-    t.piece(50 * MS, reply + text, f"@{line}+{text.hex()}")
-    t.poll(50 * MS, 50 * MS)
-    t.event(f"AllocationCreated tcp {RELAYED}")
-    asks_socket(t, 50 * MS, 7, AT)
+    is_granted_before(t, drawn, announced(5, 7, AT))
     return "Indications come before the server has allocated: the one behind the grant counts", t
 
 

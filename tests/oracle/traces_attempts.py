@@ -90,9 +90,9 @@ def goes_on(t, now, s, peer):
 # ---- taken
 
 
-def carried():
-    t = permitted()
-    comes(t, NOW, attempt(1, 7, AT))
+def waits_and_opens(t, text):
+    """What tells of a connection comes: the client asks for a socket, which is opened."""
+    comes(t, NOW, text)
     t.event("none")
     t.draw(NOW, None)
     asks_socket(t, NOW, 7, AT)
@@ -101,6 +101,11 @@ def carried():
     lists(t)
     opens(t, NOW, 7, AT, ONE)
     lists(t, (ONE, AT, 7))
+
+
+def carried():
+    t = permitted()
+    waits_and_opens(t, attempt(1, 7, AT))
     t.poll(NOW, NOW)
     drawn = t.draw(NOW, taken(1))
     t.ask(NOW, f"@{drawn}", "grant", None)

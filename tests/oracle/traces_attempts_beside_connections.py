@@ -22,6 +22,17 @@ from traces_unbound_connections import own_address
 # ---- with an allocation, and without
 
 
+def is_granted_before(t, drawn, text):
+    """The grant comes, and behind it in one piece what tells of a connection, for which the client asks for a socket."""
+    reply = t.is_handled_once(grant(1))
+    line = t.ask(50 * MS, f"@{drawn}", f"allocate {RELAYED} 600", reply)
+    t.means[text] = ["handled"]
+    t.piece(50 * MS, reply + text, f"@{line}+{text.hex()}")
+    t.poll(50 * MS, 50 * MS)
+    t.event(f"AllocationCreated tcp {RELAYED}")
+    asks_socket(t, 50 * MS, 7, AT)
+
+
 def before_there_is_one():
     t, text = over("tcp"), attempt(1, 7, AT)
     t.pieces(0, text)
@@ -31,13 +42,7 @@ def before_there_is_one():
     t.pieces(0, text)
     drawn = t.draw(50 * MS, message(ALLOCATE, number(1), [OVER_TCP, lifetime(1800), *HASHED], SHA1))
     t.pieces(50 * MS, text)
-    reply = t.is_handled_once(grant(1))
-    line = t.ask(50 * MS, f"@{drawn}", f"allocate {RELAYED} 600", reply)
-    t.means[text] = ["handled"]
-    t.piece(50 * MS, reply + text, f"@{line}+{text.hex()}")
-    t.poll(50 * MS, 50 * MS)
-    t.event(f"AllocationCreated tcp {RELAYED}")
-    asks_socket(t, 50 * MS, 7, AT)
+    is_granted_before(t, drawn, text)
     return "An attempt comes before the server has allocated, again and again: the one behind the grant counts", t
 
 

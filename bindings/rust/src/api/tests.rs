@@ -1,6 +1,7 @@
 //! Tests of settings, causes and texts.
 
 use super::*;
+use std::fmt::Debug;
 
 /// What a client is opened with by these settings: the struct of the header.
 fn told(config: &TurnConfig) -> sys::turn_settings {
@@ -50,36 +51,36 @@ fn a_client_is_hardened_unless_set_otherwise() {
     assert_eq!(config.max_connection_attempts(), 7);
 }
 
+/// What C and Rust say of a setting at first, after a change, and after it was changed back.
+fn changes_and_back<T: Copy + Debug + PartialEq>(
+    set: fn(&mut TurnConfig, bool),
+    both: fn(&TurnConfig) -> (T, bool),
+    first: (T, bool),
+    changed: (T, bool),
+) {
+    let mut config = usual();
+    assert_eq!(both(&config), first);
+    for wanted in [changed, first] {
+        set(&mut config, wanted.1);
+        assert_eq!(both(&config), wanted);
+    }
+}
+
 #[test]
 fn short_lifetimes_are_believed_unless_set_otherwise() {
-    let mut config = usual();
-    let both = |config: &TurnConfig| {
-        (
-            told(config).ignore_short_lifetimes,
-            config.short_lifetimes(),
-        )
-    };
-    assert_eq!(both(&config), (0, true));
-    config.set_short_lifetimes(false);
-    assert_eq!(both(&config), (1, false));
-    config.set_short_lifetimes(true);
-    assert_eq!(both(&config), (0, true));
+    let both = |it: &TurnConfig| (told(it).ignore_short_lifetimes, it.short_lifetimes());
+    changes_and_back(TurnConfig::set_short_lifetimes, both, (0, true), (1, false));
 }
 
 #[test]
 fn indications_announce_connections_only_if_set() {
-    let mut config = usual();
-    let both = |config: &TurnConfig| {
-        (
-            told(config).attempt_indications,
-            config.attempt_indications(),
-        )
-    };
-    assert_eq!(both(&config), (0, false));
-    config.set_attempt_indications(true);
-    assert_eq!(both(&config), (1, true));
-    config.set_attempt_indications(false);
-    assert_eq!(both(&config), (0, false));
+    let both = |it: &TurnConfig| (told(it).attempt_indications, it.attempt_indications());
+    changes_and_back(
+        TurnConfig::set_attempt_indications,
+        both,
+        (0, false),
+        (1, true),
+    );
 }
 
 #[test]
