@@ -1,26 +1,18 @@
 /* attempts.c: how long a client takes for the n-th CONNECTION_ATTEMPT (RFC 6062, section 4.4), where the program has
- * opened no socket for those before it: each is compared with all that wait. It is a part of c_calls.c, with the
- * signatures of tests/fuzz/sign.c. A time is the mean of the last ten, the least of several clients.
+ * opened no socket for those before it: each is compared with all that wait. It is a part of c_calls.c. A time is the
+ * mean of the last ten, the least of several clients.
  *
- * The server's messages are written here: a challenge, signed successes of ALLOCATE and CREATE_PERMISSION, and the
+ * The server's messages are of messages.c: a challenge, signed successes of ALLOCATE and CREATE_PERMISSION, and the
  * attempts, which are signed before the clock runs. */
 #include "c_calls.h"
 
 #include <stdbool.h>
 #include <stdio.h>
 #include <stdlib.h>
-#include <string.h>
 
-#include "../tests/fuzz/sign.h"
-#include "turn_client.h"
+#include "messages.h"
 
-enum {
-    HEADER = 20, ID = 4, ID_SIZE = 16, LAST = 10, MILLION = 1000000,
-    CONNECTION_ATTEMPT = 0x000c, SUCCESS = 0x0100, ERROR = 0x0110,
-    INTEGRITY = 0x0008, ERROR_CODE = 0x0009, LIFETIME = 0x000d, PEER = 0x0012, REALM = 0x0014, NONCE = 0x0015,
-    RELAYED = 0x0016, CONNECTION_ID = 0x002a,
-    MESSAGE_MOST = 160, ATTEMPTS_MOST = 10000,
-};
+enum { LAST = 10, MILLION = 1000000, CONNECTION_ATTEMPT = 0x000c, ATTEMPTS_MOST = 10000 };
 
 /* At most so many nanoseconds each, about five times what the machine of docs/SPEED.md takes. */
 static const struct { size_t attempts, clients; double most; } rows[] = {
@@ -29,14 +21,7 @@ static const struct { size_t attempts, clients; double most; } rows[] = {
 
 static const turn_address own = {{192, 0, 2, 1}, 5000, 4}, server = {{192, 0, 2, 2}, 3478, 4};
 static const turn_address peer = {{198, 51, 100, 1}, 9000, 4};
-/* MD5 of `user:realm:pass` */
-static const uint8_t key[] = {0x84, 0x93, 0xfb, 0xc5, 0x3b, 0xa5, 0x82, 0xfb,
-                              0x4c, 0x04, 0x4c, 0x45, 0x6b, 0xdc, 0x40, 0xeb};
 
-struct message {
-    uint8_t bytes[MESSAGE_MOST];
-    size_t size;
-};
 static struct message attempts[ATTEMPTS_MOST];
 static uint8_t out[TURN_MESSAGE_MAX];
 
@@ -48,71 +33,17 @@ static void must(bool holds, const char *what)
     exit(1);
 }
 
-/* ---- the server's messages */
-
-static void set(uint8_t *at, uint32_t value, size_t size)
-{
-    while (size-- > 0) {
-        at[size] = (uint8_t)value;
-        value >>= 8;
-    }
-}
-
-/* A message whose cookie and transaction ID are these bytes. */
-static struct message begin(unsigned type, const uint8_t *id)
-{
-    struct message made = {.size = HEADER};
-    set(made.bytes, type, 2);
-    memcpy(made.bytes + ID, id, ID_SIZE);
-    return made;
-}
-
-static void add(struct message *to, unsigned type, const void *value, size_t size)
-{
-    const size_t padded = (size + 3) / 4 * 4;
-    must(to->size + 4 + padded <= sizeof to->bytes, "room for an attribute");
-    set(to->bytes + to->size, type, 2);
-    set(to->bytes + to->size + 2, (uint32_t)size, 2);
-    memcpy(to->bytes + to->size + 4, value, size);
-    to->size += 4 + padded;
-    set(to->bytes + 2, (uint32_t)(to->size - HEADER), 2);
-}
-
-static void add_number(struct message *to, unsigned type, uint32_t number)
-{
-    uint8_t value[4];
-    set(value, number, sizeof value);
-    add(to, type, value, sizeof value);
-}
-
-/* An address of IPv4, by the cookie (RFC 8489, section 14.2). */
-static void add_address(struct message *to, unsigned type, const turn_address *address, unsigned port)
-{
-    static const uint8_t cookie[] = {0x21, 0x12, 0xa4, 0x42};
-    uint8_t value[8] = {0, 1};
-    set(value + 2, port ^ 0x2112, 2);
-    for (size_t i = 0; i < sizeof cookie; i++)
-        value[4 + i] = address->ip[i] ^ cookie[i];
-    add(to, type, value, sizeof value);
-}
-
-static void sign(struct message *message)
-{
-    uint8_t hmac[HMAC_SIZE];
-    set(message->bytes + 2, (uint32_t)(message->size - HEADER + 4 + HMAC_SIZE), 2);
-    hmac_sha1(key, sizeof key, message->bytes, message->size, hmac);
-    add(message, INTEGRITY, hmac, sizeof hmac);
-}
+/* ---- the attempts */
 
 static void make_attempts(void)
 {
     for (size_t i = 0; i < ATTEMPTS_MOST; i++) {
         uint8_t id[ID_SIZE] = {0x21, 0x12, 0xa4, 0x42};
-        set(id + 4, (uint32_t)i + 1, 4);
-        attempts[i] = begin(CONNECTION_ATTEMPT, id);
-        add_number(&attempts[i], CONNECTION_ID, (uint32_t)i + 1);
-        add_address(&attempts[i], PEER, &peer, (unsigned)i + 1);
-        sign(&attempts[i]);
+        message_set(id + 4, (uint32_t)i + 1, 4);
+        attempts[i] = message_begin(CONNECTION_ATTEMPT, id);
+        message_add_number(&attempts[i], CONNECTION_ID, (uint32_t)i + 1);
+        message_add_address(&attempts[i], PEER, &peer, (unsigned)i + 1);
+        message_sign(&attempts[i]);
     }
 }
 
@@ -129,7 +60,7 @@ static struct message respond(turn_client *client, unsigned class, uint64_t now)
 {
     turn_transmit transmit;
     must(turn_client_draw(client, now, out, sizeof out, &transmit) == TURN_OK, "a request is drawn");
-    return begin(out[1] | class, out + ID);
+    return message_respond(out, class);
 }
 
 static void take_event(turn_client *client, uint32_t kind)
@@ -142,7 +73,6 @@ static void take_event(turn_client *client, uint32_t kind)
  * measured; by default 64 may. */
 static void open_client(turn_client *client)
 {
-    static const uint8_t unauthorized[] = {0, 0, 4, 1};
     const turn_seed seed = {{1}};
     turn_settings settings = TURN_SETTINGS_INIT;
     settings.local = own, settings.server = server;
@@ -151,19 +81,17 @@ static void open_client(turn_client *client)
     settings.max_connection_attempts = ATTEMPTS_MOST;
     must(turn_client_open(client, &settings, "user", 4, "pass", 4, &seed) == TURN_OK, "open");
     struct message challenge = respond(client, ERROR, 0);
-    add(&challenge, ERROR_CODE, unauthorized, sizeof unauthorized);
-    add(&challenge, REALM, "realm", 5);
-    add(&challenge, NONCE, "a nonce", 7);
+    message_challenge(&challenge);
     must(feed(client, &challenge, 0) == TURN_OK, "a challenge");
     struct message allocated = respond(client, SUCCESS, 50 * MILLION);
-    add_address(&allocated, RELAYED, &peer, 50000);
-    add_number(&allocated, LIFETIME, 600);
-    sign(&allocated);
+    message_add_address(&allocated, RELAYED, &peer, 50000);
+    message_add_number(&allocated, LIFETIME, 600);
+    message_sign(&allocated);
     must(feed(client, &allocated, 50 * MILLION) == TURN_OK, "an allocation");
     take_event(client, TURN_ALLOCATION_CREATED);
     must(turn_client_permit(client, TURN_TCP, &peer, 50 * MILLION) == TURN_OK, "permit");
     struct message permitted = respond(client, SUCCESS, 100 * MILLION);
-    sign(&permitted);
+    message_sign(&permitted);
     must(feed(client, &permitted, 100 * MILLION) == TURN_OK, "a permission");
     take_event(client, TURN_PERMISSION_CREATED);
 }

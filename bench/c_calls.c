@@ -2,7 +2,7 @@
  * whose bytes are stored (tests/c/samples.h, `timed`), and of attempts of peers (attempts.c). Each time is the least
  * mean of the rounds, the clock's own taken off.
  *
- *     cc -std=c11 -O2 -Wall -Wextra c_calls.c attempts.c ../tests/c/steps.c ../tests/fuzz/sign.c \
+ *     cc -std=c11 -O2 -Wall -Wextra c_calls.c attempts.c messages.c ../tests/c/steps.c ../tests/fuzz/sign.c \
  *         $(pkg-config --cflags --libs turn_client) -Wl,--wrap=malloc,--wrap=realloc -o c_calls && ./c_calls [ROUNDS]
  *
  * `c_calls.py` does that, and can write results/speed.md.

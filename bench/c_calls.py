@@ -24,7 +24,7 @@ sys.path.insert(0, str(TOP / "tools"))
 import released  # noqa: E402
 import results  # noqa: E402
 
-FILES = ("bench/c_calls.c", "bench/attempts.c", "tests/c/steps.c", "tests/fuzz/sign.c")
+FILES = ("bench/c_calls.c", "bench/attempts.c", "bench/messages.c", "tests/c/steps.c", "tests/fuzz/sign.c")
 SECTION = "Calls from C"
 TIMED = re.compile(r"^  (\S.*?) +(-?\d+) ns +(\d+) allocations$")
 

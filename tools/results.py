@@ -32,7 +32,10 @@ PAGES = {
     "speed": Page(
         "Speed",
         "`docs/SPEED.md` says what is timed, and which bounds there are.",
-        ("Messages, streams, clients and agents", "Calls from C", "A client with many channels", "Memory of a replay"),
+        (
+            "Messages, streams, clients and agents", "Calls from C", "A client with many channels", "Memory of a replay",
+            "Beside other libraries",
+        ),
     ),
     "live": Page(
         "Live runs",
