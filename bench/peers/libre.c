@@ -27,7 +27,7 @@ struct holder {
     struct udp_helper *helper;
     struct turnc *turnc;
 };
-static struct holder holders[CLIENTS], *holder;
+static struct holder holders[CLIENTS], fresh, stream, *holder;
 static bool is_allocated;
 static size_t granted;
 static struct sa server, peer, source;
@@ -64,13 +64,17 @@ static void feed(struct mbuf *mb)
 {
     struct sa from = server;
     mb->pos = 0;
+    row_resume();
     row_must(turnc_recv(holder->turnc, &from, mb) == 0, "a response is taken");
+    row_set_aside();
     mem_deref(mb);
+    row_resume();
 }
 
-/* The method and the transaction ID of the request that was sent. */
+/* The method and the transaction ID of the request that was sent. The server's work, until `feed`, isn't timed. */
 static uint16_t take_request(uint8_t id[STUN_TID_SIZE])
 {
+    row_set_aside();
     row_must(sent != NULL && sent_size >= STUN_HEADER_SIZE, "a request was sent");
     const uint16_t method = sent[1];
     memcpy(id, sent + TRANSACTION_AT, STUN_TID_SIZE);
@@ -82,8 +86,8 @@ static void challenge(void)
 {
     uint8_t id[STUN_TID_SIZE];
     struct stun_errcode error = {UNAUTHORIZED, "Unauthorized"};
-    struct mbuf *mb = mbuf_alloc(BUFFER);
     const uint16_t method = take_request(id);
+    struct mbuf *mb = mbuf_alloc(BUFFER);
     row_must(stun_msg_encode(mb, method, STUN_CLASS_ERROR_RESP, id, &error, NULL, 0, false, 0, 2,
                              STUN_ATTR_REALM, realm, STUN_ATTR_NONCE, "a nonce") == 0, "a challenge");
     feed(mb);
@@ -94,8 +98,8 @@ static void grant(void)
     uint8_t id[STUN_TID_SIZE];
     struct sa relayed;
     const uint32_t lifetime = TURN_MAX_LIFETIME;
-    struct mbuf *mb = mbuf_alloc(BUFFER);
     const uint16_t method = take_request(id);
+    struct mbuf *mb = mbuf_alloc(BUFFER);
     sa_set_in(&relayed, RELAYED_IP, RELAYED_PORT);
     const bool allocates = method == STUN_METHOD_ALLOCATE;
     row_must(stun_msg_encode(mb, method, STUN_CLASS_SUCCESS_RESP, id, NULL, long_term_key, KEY_SIZE, false, 0, 3,
@@ -127,7 +131,8 @@ static void close_client(struct holder *it)
     it->socket = mem_deref(it->socket);
 }
 
-static void open_client(struct holder *it)
+/* A socket whose messages to the server `take_sent` takes. */
+static void open_socket(struct holder *it)
 {
     struct sa own;
     sa_set_in(&own, LOOPBACK, 0);
@@ -135,10 +140,21 @@ static void open_client(struct holder *it)
     row_must(udp_listen(&it->socket, &own, take_other, NULL) == 0, "a socket");
     row_must(udp_register_helper(&it->helper, it->socket, LOWEST_LAYER, take_sent, take_received, NULL) == 0,
              "a helper");
-    row_must(turnc_alloc(&it->turnc, NULL, IPPROTO_UDP, it->socket, 0, &server, user, password, TURN_MAX_LIFETIME,
+}
+
+static void shake_hands_of(struct holder *it, int protocol, void *socket)
+{
+    is_allocated = false;
+    row_must(turnc_alloc(&it->turnc, NULL, protocol, socket, 0, &server, user, password, TURN_MAX_LIFETIME,
                          on_allocated, NULL) == 0, "a client");
     challenge();
     grant();
+}
+
+static void open_client(struct holder *it)
+{
+    open_socket(it);
+    shake_hands_of(it, IPPROTO_UDP, it->socket);
     row_must(is_allocated, "an allocation");
     for (size_t i = 0; i < it->held; i++) {
         sa_set_in(&peer, FIRST_PEER + (uint32_t)i, CHANNEL_PORT);
@@ -177,6 +193,61 @@ static void hold_client(size_t held)
     *holder = (struct holder){.held = held, .made = row_now()};
     granted = 0;
     open_client(holder);
+}
+
+/* ---- requests */
+
+/* A new client is the one that is called from now on; its socket stays. No other is left, as libre has one sorted list
+ * of all timers. */
+static void renew_client(size_t held)
+{
+    (void)held;
+    begin();
+    row_set_aside();
+    for (struct holder *it = holders; it < holders + CLIENTS; it++)
+        close_client(it);
+    stream.turnc = mem_deref(stream.turnc);
+    holder = &fresh;
+    fresh.turnc = mem_deref(fresh.turnc);
+    if (fresh.socket == NULL)
+        open_socket(&fresh);
+    granted = 0;
+    row_resume();
+}
+
+static bool shake_hands(size_t i)
+{
+    (void)i;
+    renew_client(0);
+    shake_hands_of(&fresh, IPPROTO_UDP, fresh.socket);
+    return is_allocated;
+}
+
+/* The messages are checked by `take_request` and by libre itself. */
+static bool is_done(size_t i)
+{
+    (void)i;
+    return is_allocated;
+}
+
+/* The first peer's channel is the first of a new client, whose handshake isn't timed. */
+static bool bind_channel(size_t i)
+{
+    if (i == 0) {
+        row_set_aside();
+        renew_client(0);
+        shake_hands_of(&fresh, IPPROTO_UDP, fresh.socket);
+        row_resume();
+    }
+    sa_set_in(&peer, FIRST_PEER + (uint32_t)i, CHANNEL_PORT);
+    row_must(turnc_add_chan(holder->turnc, &peer, on_granted, NULL) == 0, "a channel is requested");
+    grant();
+    return granted == i + 1;
+}
+
+static bool is_bound(size_t i)
+{
+    return granted == i + 1;
 }
 
 /* ---- payloads */
@@ -265,6 +336,91 @@ static bool send_indication(size_t i)
 static bool is_indication(size_t i)
 {
     return row_is_indication(sent, sent_size, SEND_INDICATION, OTHER_PORT, i);
+}
+
+/* ---- frames of a stream */
+
+static struct tcp_sock *listener;
+static struct tcp_conn *connection;
+static struct tcp_helper *stream_helper;
+static struct mbuf *piece;
+static const uint8_t *next;
+static size_t next_size, payload_size;
+
+static bool take_written(int *err, struct mbuf *mb, void *arg)
+{
+    return take_sent(err, NULL, mb, arg);
+}
+
+/* A connection to a listener of our own, on which `take_written` takes the messages to the server. */
+static void open_connection(void)
+{
+    struct sa own;
+    sa_set_in(&own, LOOPBACK, 0);
+    row_must(tcp_listen(&listener, &own, NULL, NULL) == 0 && tcp_sock_local_get(listener, &own) == 0, "a listener");
+    row_must(tcp_connect(&connection, &own, NULL, NULL, NULL, NULL) == 0, "a connection");
+    row_must(tcp_register_helper(&stream_helper, connection, LOWEST_LAYER, NULL, take_written, NULL, NULL) == 0,
+             "a helper");
+    piece = mbuf_alloc(PIECE_MOST);
+}
+
+static void hold_piece(size_t size)
+{
+    begin();
+    if (connection == NULL)
+        open_connection();
+    holder = &stream;
+    if (stream.turnc == NULL) {
+        granted = 0;
+        shake_hands_of(&stream, IPPROTO_TCP, connection);
+        sa_set_in(&peer, FIRST_PEER, CHANNEL_PORT);
+        row_must(turnc_add_chan(stream.turnc, &peer, on_granted, NULL) == 0, "a channel is requested");
+        grant();
+        row_must(granted == 1, "a channel is granted");
+    }
+    payload_size = size;
+    piece->pos = piece->end = row_piece(piece->buf, size);
+}
+
+static void hold_long(size_t held)
+{
+    (void)held;
+    hold_piece(PAYLOAD);
+}
+
+static void hold_short(size_t held)
+{
+    (void)held;
+    hold_piece(SHORT_PAYLOAD);
+}
+
+/* The next frame of the piece: libre leaves the cutting to its caller. */
+static bool take_next(size_t i)
+{
+    (void)i;
+    const size_t end = piece->end;
+    if (piece->pos == end)
+        piece->pos = 0;
+    const size_t begins = piece->pos;
+    const uint16_t type = ntohs(mbuf_read_u16(piece));
+    const size_t size = ntohs(mbuf_read_u16(piece)) + (type < LEAST_CHANNEL ? STUN_HEADER_SIZE : FRAME_HEADER);
+    piece->pos = begins;
+    if (mbuf_get_left(piece) < size)
+        return false;
+    piece->end = begins + size;
+    source = server;
+    const bool is_right = turnc_recv(stream.turnc, &source, piece) == 0;
+    next = mbuf_buf(piece);
+    next_size = mbuf_get_left(piece);
+    piece->end = end;
+    piece->pos = begins + (size + 3) / 4 * 4;
+    return is_right;
+}
+
+static bool is_next(size_t i)
+{
+    sa_set_in(&peer, FIRST_PEER + (uint32_t)i, CHANNEL_PORT);
+    return next_size == payload_size && memcmp(next, row_payload, payload_size) == 0 && sa_cmp(&source, &peer, SA_ALL);
 }
 
 /* ---- messages */
@@ -357,6 +513,10 @@ static bool is_signed(size_t i)
 }
 
 const struct row_call row_calls[] = {
+    {"handshake", 1, renew_client, shake_hands, is_done},
+    {"bind", HELD_MOST, renew_client, bind_channel, is_bound},
+    {"stream", 1, hold_long, take_next, is_next},
+    {"short", 1, hold_short, take_next, is_next},
     {"take", HELD_MOST, hold_frames, take_frame, is_taken},
     {"turn", HELD_MOST, hold_frames, take_turn, is_taken},
     {"send", HELD_MOST, hold_payload, send_frame, is_frame},

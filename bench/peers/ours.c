@@ -16,7 +16,7 @@ struct holder {
     turn_client client;
 };
 static struct holder holders[CLIENTS];
-static turn_client *client;
+static turn_client fresh, stream, *client;
 static uint8_t datagram[INDICATION_MOST], out[OUT_SIZE];
 static size_t datagram_size;
 static turn_payload taken;
@@ -39,22 +39,25 @@ static bool is_same(const turn_address *a, const turn_address *b)
 
 static void feed(const struct message *message)
 {
+    row_resume();
     row_must(turn_client_feed(client, &server, &own, message->bytes, message->size, now, &taken) == TURN_OK,
              "a response is taken");
 }
 
-/* Draws a request, and begins the response to it. */
+/* Draws a request, and begins the response to it. The server's work, until `feed`, isn't timed. */
 static struct message respond(unsigned class)
 {
     row_must(turn_client_draw(client, now, out, sizeof out, &sent) == TURN_OK, "a request is drawn");
+    row_set_aside();
     return message_respond(out, class);
 }
 
-static void open_client(void)
+static void open_client(uint32_t transport)
 {
     const turn_seed seed = {{1}};
     turn_settings settings = TURN_SETTINGS_INIT;
     settings.local = own, settings.server = server;
+    settings.transport = transport;
     settings.integrity = TURN_SHA1;
     settings.pace = TURN_NO_PACE;
     row_must(turn_client_open(client, &settings, "user", 4, "pass", 4, &seed) == TURN_OK, "open");
@@ -73,6 +76,7 @@ static void grant(void)
 {
     turn_event event;
     while (turn_client_draw(client, now, out, sizeof out, &sent) == TURN_OK) {
+        row_set_aside();
         struct message granted = message_respond(out, SUCCESS);
         message_sign(&granted);
         feed(&granted);
@@ -95,7 +99,7 @@ static void hold_client(size_t held)
     if (it->held != 0)
         return;
     it->held = held;
-    open_client();
+    open_client(TURN_UDP);
     grant();
     for (size_t i = 0; i < held; i++) {
         row_must(turn_client_bind(client, TURN_UDP, peer_of(i, CHANNEL_PORT), now, &until) == TURN_OK, "bind");
@@ -104,6 +108,55 @@ static void hold_client(size_t held)
     }
     row_must(turn_client_channels(client, NULL, 0) == held, "so many channels");
     row_must(turn_client_poll(client, now, &wait) == TURN_OK && wait.until > now, "nothing is due");
+}
+
+/* ---- requests */
+
+/* A new client is the one that is called from now on. */
+static void renew_client(size_t held)
+{
+    (void)held;
+    row_set_aside();
+    client = &fresh;
+    turn_client_close(client);
+    row_resume();
+}
+
+/* From the first call to the event of the allocation. */
+static bool shake_hands(size_t i)
+{
+    turn_event event;
+    (void)i;
+    renew_client(0);
+    open_client(TURN_UDP);
+    return turn_client_event(client, &event) == TURN_OK && event.kind == TURN_ALLOCATION_CREATED;
+}
+
+static bool is_allocated(size_t i)
+{
+    (void)i;
+    return turn_client_relayed(client, NULL, 0) == 1;
+}
+
+/* The first peer's channel is the first of a new client, whose handshake isn't timed. */
+static bool bind_channel(size_t i)
+{
+    uint64_t until;
+    if (i == 0) {
+        row_set_aside();
+        renew_client(0);
+        open_client(TURN_UDP);
+        grant();
+        row_resume();
+    }
+    const int32_t code = turn_client_bind(client, TURN_UDP, peer_of(i, CHANNEL_PORT), now, &until);
+    grant();
+    return code == TURN_OK;
+}
+
+static bool is_bound(size_t i)
+{
+    return turn_client_channels(client, NULL, 0) == i + 1;
 }
 
 /* ---- payloads */
@@ -180,7 +233,85 @@ static bool is_indication(size_t i)
     return row_is_indication(out, sent.size, SEND_INDICATION, OTHER_PORT, i) && is_same(&sent.to, &server);
 }
 
+/* ---- frames of a stream */
+
+static uint8_t piece[PIECE_MOST];
+static size_t piece_size, payload_size, frames_left;
+
+static bool pull(void)
+{
+    return turn_client_pull(client, now, &taken) == TURN_PAYLOAD;
+}
+
+/* What is joined is read: where the payload is. */
+static const uint8_t *read_taken(void)
+{
+    if (!taken.is_joined)
+        return piece + taken.start;
+    row_must(turn_client_read(client, out, sizeof out) == TURN_OK, "joined bytes are read");
+    return out;
+}
+
+static void hold_piece(size_t size)
+{
+    static bool is_open = false;
+    uint64_t until;
+    client = &stream;
+    if (!is_open) {
+        is_open = true;
+        open_client(TURN_TCP);
+        grant();
+        row_must(turn_client_bind(client, TURN_UDP, peer_of(0, CHANNEL_PORT), now, &until) == TURN_OK, "bind");
+        grant();
+    }
+    while (pull())
+        (void)read_taken();
+    payload_size = size;
+    piece_size = row_piece(piece, size);
+    frames_left = 0;
+}
+
+static void hold_long(size_t held)
+{
+    (void)held;
+    hold_piece(PAYLOAD);
+}
+
+static void hold_short(size_t held)
+{
+    (void)held;
+    hold_piece(SHORT_PAYLOAD);
+}
+
+static const uint8_t *payload;
+
+/* The next frame of the piece, and behind the last that there is none; then the piece is fed again. */
+static bool take_next(size_t i)
+{
+    (void)i;
+    bool is_right;
+    if (frames_left == 0) {
+        is_right = turn_client_feed(client, &server, &own, piece, piece_size, now, &taken) == TURN_PAYLOAD;
+        frames_left = piece_size / (FRAME_HEADER + payload_size);
+    } else {
+        is_right = pull();
+    }
+    payload = read_taken();
+    turn_payload none;
+    return is_right && (--frames_left != 0 || turn_client_pull(client, now, &none) == TURN_NOTHING);
+}
+
+static bool is_next(size_t i)
+{
+    return taken.size == payload_size && memcmp(payload, row_payload, payload_size) == 0 &&
+           is_same(&taken.peer, peer_of(i, CHANNEL_PORT));
+}
+
 const struct row_call row_calls[] = {
+    {"handshake", 1, renew_client, shake_hands, is_allocated},
+    {"bind", HELD_MOST, renew_client, bind_channel, is_bound},
+    {"stream", 1, hold_long, take_next, is_next},
+    {"short", 1, hold_short, take_next, is_next},
     {"take", HELD_MOST, hold_frames, take_frame, is_taken},
     {"turn", HELD_MOST, hold_frames, take_turn, is_taken},
     {"send", HELD_MOST, hold_client, send_frame, is_frame},

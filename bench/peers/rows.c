@@ -33,6 +33,21 @@ uint64_t row_now(void)
     return (uint64_t)now.tv_sec * nanoseconds + (uint64_t)now.tv_nsec;
 }
 
+static size_t aside_depth;
+static uint64_t aside_since, aside;
+
+void row_set_aside(void)
+{
+    if (aside_depth++ == 0)
+        aside_since = row_now();
+}
+
+void row_resume(void)
+{
+    if (--aside_depth == 0)
+        aside += row_now() - aside_since;
+}
+
 /* ---- bytes */
 
 void row_write(uint8_t *at, uint32_t value, size_t size)
@@ -61,6 +76,17 @@ void row_frame(uint8_t *at, size_t i)
     row_frame_of(at, i);
     row_write(at + 2, PAYLOAD, 2);
     memcpy(at + FRAME_HEADER, row_payload, PAYLOAD);
+}
+
+size_t row_piece(uint8_t at[PIECE_MOST], size_t payload_size)
+{
+    const size_t frame_size = FRAME_HEADER + payload_size, size = PIECE_MOST / frame_size * frame_size;
+    for (uint8_t *frame = at; frame < at + size; frame += frame_size) {
+        row_frame_of(frame, 0);
+        row_write(frame + 2, (uint32_t)payload_size, 2);
+        memcpy(frame + FRAME_HEADER, row_payload, payload_size);
+    }
+    return size;
 }
 
 bool row_is_frame(const uint8_t *bytes, size_t size, size_t i)
@@ -170,9 +196,10 @@ static void answer(const char *name, size_t held, size_t first, size_t calls)
         return;
     }
     make(row, held, first, calls / WARM + 1);
+    aside = 0;
     const uint64_t began = row_now();
     make(row, held, first, calls);
-    printf("%.3f\n", (double)(row_now() - began) / (double)calls);
+    printf("%.3f\n", (double)(row_now() - began - aside) / (double)calls);
 }
 
 int main(void)

@@ -13,6 +13,8 @@ enum {
     PAYLOAD = 1200,
     FRAME_HEADER = 4,
     FRAME_SIZE = FRAME_HEADER + PAYLOAD,
+    SHORT_PAYLOAD = 160,        /* 20 ms of G.711 */
+    PIECE_MOST = 65536,         /* what is read of a stream at once */
     TRANSACTION_AT = 8,         /* where the 12 bytes of a transaction ID begin, behind the cookie */
     INDICATION_MOST = 1280,     /* bytes of a SEND or a DATA indication of such a payload */
     LEAST_CHANNEL = 0x4000,
@@ -51,12 +53,21 @@ void row_must(bool holds, const char *what);
 /* Nanoseconds of the clock that only goes forward. */
 uint64_t row_now(void);
 
+/* What is done between row_set_aside() and its row_resume(), as a server's work, isn't in the time of a call. They may
+ * be nested. */
+void row_set_aside(void);
+void row_resume(void);
+
 /* Writes the most significant byte first. */
 void row_write(uint8_t *at, uint32_t value, size_t size);
 
 /* The frame of the i-th channel: all of it, which takes FRAME_SIZE bytes, or the channel's number alone. */
 void row_frame(uint8_t *at, size_t i);
 void row_frame_of(uint8_t *at, size_t i);
+
+/* Frames of the first channel, as many as PIECE_MOST takes, each with so many bytes of the payload, which are a multiple
+ * of 4. Returns how many bytes they are. */
+size_t row_piece(uint8_t at[PIECE_MOST], size_t payload_size);
 
 /* An indication with the payload, to or from the i-th peer: all of it, or the peer alone. Returns its size. */
 size_t row_indication(uint8_t *at, uint16_t type, uint16_t port, size_t i);
