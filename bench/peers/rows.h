@@ -65,8 +65,8 @@ void row_write(uint8_t *at, uint32_t value, size_t size);
 void row_frame(uint8_t *at, size_t i);
 void row_frame_of(uint8_t *at, size_t i);
 
-/* Frames of the first channel, as many as PIECE_MOST takes, each with so many bytes of the payload, which are a multiple
- * of 4. Returns how many bytes they are. */
+/* Frames of the first channel, as many as PIECE_MOST takes, each with so many bytes of the payload: a multiple of 4.
+ * Returns how many bytes they are. */
 size_t row_piece(uint8_t at[PIECE_MOST], size_t payload_size);
 
 /* An indication with the payload, to or from the i-th peer: all of it, or the peer alone. Returns its size. */
