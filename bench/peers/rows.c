@@ -33,6 +33,7 @@ uint64_t row_now(void)
     return (uint64_t)now.tv_sec * nanoseconds + (uint64_t)now.tv_nsec;
 }
 
+/* How many times it was set aside and not yet resumed, since when, and how much was. */
 static size_t aside_depth;
 static uint64_t aside_since, aside;
 
