@@ -423,6 +423,18 @@ static bool is_next(size_t i)
     return next_size == payload_size && memcmp(next, row_payload, payload_size) == 0 && sa_cmp(&source, &peer, SA_ALL);
 }
 
+/* The frame that was taken, and each one that is left of the piece. */
+static bool are_all(size_t i)
+{
+    while (is_next(i)) {
+        if (piece->pos == piece->end)
+            return true;
+        if (!take_next(i))
+            return false;
+    }
+    return false;
+}
+
 /* ---- messages */
 
 static void hold_response(size_t held)
@@ -515,8 +527,8 @@ static bool is_signed(size_t i)
 const struct row_call row_calls[] = {
     {"handshake", 1, renew_client, shake_hands, is_done},
     {"bind", HELD_MOST, renew_client, bind_channel, is_bound},
-    {"stream", 1, hold_long, take_next, is_next},
-    {"short", 1, hold_short, take_next, is_next},
+    {"stream", 1, hold_long, take_next, are_all},
+    {"short", 1, hold_short, take_next, are_all},
     {"take", HELD_MOST, hold_frames, take_frame, is_taken},
     {"turn", HELD_MOST, hold_frames, take_turn, is_taken},
     {"send", HELD_MOST, hold_payload, send_frame, is_frame},

@@ -307,11 +307,23 @@ static bool is_next(size_t i)
            is_same(&taken.peer, peer_of(i, CHANNEL_PORT));
 }
 
+/* The frame that was taken, and each one that is left of the piece. */
+static bool are_all(size_t i)
+{
+    while (is_next(i)) {
+        if (frames_left == 0)
+            return true;
+        if (!take_next(i))
+            return false;
+    }
+    return false;
+}
+
 const struct row_call row_calls[] = {
     {"handshake", 1, renew_client, shake_hands, is_allocated},
     {"bind", HELD_MOST, renew_client, bind_channel, is_bound},
-    {"stream", 1, hold_long, take_next, is_next},
-    {"short", 1, hold_short, take_next, is_next},
+    {"stream", 1, hold_long, take_next, are_all},
+    {"short", 1, hold_short, take_next, are_all},
     {"take", HELD_MOST, hold_frames, take_frame, is_taken},
     {"turn", HELD_MOST, hold_frames, take_turn, is_taken},
     {"send", HELD_MOST, hold_client, send_frame, is_frame},
