@@ -5,6 +5,7 @@ pub mod Codes
 pub mod Getters
 pub mod Gone
 pub mod Notes
+pub mod Results
 pub mod SocketsReported
 pub use Rattle.turn_client_proto_recv.specs.Control
 pub use Rattle.turn_client_proto_recv.specs.Datagrams

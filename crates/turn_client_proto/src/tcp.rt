@@ -257,13 +257,13 @@ impl TurnClientApi for TurnClientTcp {
 
     fn poll(&mut self, now: Instant) -> TurnPollRet {
         let before = Unpolled::of(&self.protocol, &self.notes);
-        let answer = polling::poll(&mut self.protocol, now);
+        let answer = polling::poll(&mut self.protocol, &mut None, now);
         note_poll(&mut self.notes, before, &self.protocol);
         answer
     }
 
     fn poll_transmit(&mut self, now: Instant) -> Result<Option<Transmit<Data<'static>>>, NoMemory> {
-        drawing::poll_transmit(&mut self.protocol, now)
+        drawing::poll_transmit(&mut self.protocol, &None, now)
     }
 
     fn poll_event(&mut self) -> Option<TurnEvent> {

@@ -5,6 +5,7 @@ ghost use Rattle.turn_client_proto_allocation.specs.StunTypesWire.Registry.{long
 ghost use Rattle.stun_types_base.specs.declared.transport.TransportType.TheVariants.{Udp};
 ghost use Rattle.turn_client_proto_core.specs.Beginning.{IsNew};
 ghost use Rattle.turn_client_proto_recv.specs.Notes.{no_notes};
+ghost use Rattle.turn_client_proto.specs.Results.{is_of_peer};
 
 use crate::api::TurnClientApi;
 use crate::getters::{
@@ -41,6 +42,7 @@ use turn_client_proto_peers::permission::visible::permissions_at;
 use turn_client_proto_recv::datagram::{is_of_server, take_datagram};
 use turn_client_proto_recv::notes::Notes;
 use turn_client_proto_recv::{closing, connecting, socket};
+use turn_client_proto_timers::quiet::Quiet;
 use turn_client_proto_timers::{deleting, drawing, polling};
 use turn_types_attributes::credentials::TurnCredentials;
 use turn_types_frame::build::TransmitBuild;
@@ -51,6 +53,9 @@ use turn_types_frame::build::TransmitBuild;
 pub struct TurnClientUdp {
     protocol: Protocol,
     notes: Notes,
+    // A span in which nothing is due of what the client holds, if one is known. It stays while
+    // datagrams of peers come and go, so that these cost the same whatever the client holds.
+    quiet: Option<Quiet>,
 }
 
 impl Model for TurnClientUdp {
@@ -64,6 +69,11 @@ impl Model for TurnClientUdp {
     ghost coded = { coded× protocol_code notes_code };
 
     ghost view = { λ c. (c.protocol, c.notes) };
+
+    ghost use Rattle.std.specs.Prelude.{IfSome};
+    ghost use Rattle.turn_client_proto_timers.specs.Quiet.{IsQuiet};
+
+    ghost invariant = { λ c. IfSome c.quiet (IsQuiet c.protocol) };
 }
 
 impl TurnClientUdp {
@@ -91,8 +101,19 @@ impl TurnClientUdp {
         Ok(TurnClientUdp {
             protocol,
             notes: Notes::new(alloc),
+            quiet: None,
         })
     }
+}
+
+/// Returns whether a datagram brought something of a peer, which changes nothing of the client.
+fn is_of_peer<T: AsSlice<u8>>(answer: &TurnRecvRet<T>) -> bool
+    ensures { result ≡ is_of_peer answer.now }
+{
+    matches!(
+        answer,
+        TurnRecvRet::PeerData(_) | TurnRecvRet::PeerIcmp { .. }
+    )
 }
 
 impl TurnClientApi for TurnClientUdp {
@@ -119,6 +140,7 @@ impl TurnClientApi for TurnClientUdp {
     }
 
     fn delete(&mut self, now: Instant) -> Result<(), DeleteError> {
+        self.quiet = None;
         deleting::delete(&mut self.protocol, now)?;
         self.notes.note_deletion();
         Ok(())
@@ -130,6 +152,7 @@ impl TurnClientApi for TurnClientUdp {
         peer_addr: IpAddr,
         now: Instant,
     ) -> Result<(), CreatePermissionError> {
+        self.quiet = None;
         permitting::create_permission(&mut self.protocol, transport, peer_addr, now)
     }
 
@@ -152,6 +175,7 @@ impl TurnClientApi for TurnClientUdp {
         peer_addr: SocketAddr,
         now: Instant,
     ) -> Result<(), BindChannelError> {
+        self.quiet = None;
         binding::bind_channel(&mut self.protocol, transport, peer_addr, now)
     }
 
@@ -160,6 +184,7 @@ impl TurnClientApi for TurnClientUdp {
     }
 
     fn tcp_connect(&mut self, peer_addr: SocketAddr, now: Instant) -> Result<(), TcpConnectError> {
+        self.quiet = None;
         connecting::tcp_connect(&mut self.protocol, peer_addr, now)
     }
 
@@ -171,6 +196,7 @@ impl TurnClientApi for TurnClientUdp {
         local_addr: Option<SocketAddr>,
         now: Instant,
     ) -> Result<(), TcpAllocateError> {
+        self.quiet = None;
         let protocol = &mut self.protocol;
         socket::allocated_tcp_socket(protocol, id, five_tuple, peer_addr, local_addr, now)
     }
@@ -181,6 +207,7 @@ impl TurnClientApi for TurnClientUdp {
         remote_addr: SocketAddr,
         _now: Instant,
     ) -> Result<(), NoMemory> {
+        self.quiet = None;
         closing::tcp_closed(&mut self.protocol, local_addr, remote_addr)
     }
 
@@ -210,18 +237,29 @@ impl TurnClientApi for TurnClientUdp {
         if !is_of_server(&self.protocol, &transmit) {
             return TurnRecvRet::Ignored(transmit);
         }
-        take_datagram(&mut self.protocol, &mut self.notes, transmit, now)
+        let answer = take_datagram(&mut self.protocol, &mut self.notes, transmit, now);
+        if !is_of_peer(&answer) {
+            self.quiet = None;
+        }
+        answer
     }
 
     fn poll(&mut self, now: Instant) -> TurnPollRet {
         let before = Unpolled::of(&self.protocol, &self.notes);
-        let answer = polling::poll(&mut self.protocol, now);
+        let answer = polling::poll(&mut self.protocol, &mut self.quiet, now);
+        if self.quiet.is_none() {
+            self.quiet = Quiet::of(&self.protocol, now);
+        }
         note_poll(&mut self.notes, before, &self.protocol);
         answer
     }
 
     fn poll_transmit(&mut self, now: Instant) -> Result<Option<Transmit<Data<'static>>>, NoMemory> {
-        drawing::poll_transmit(&mut self.protocol, now)
+        let sent = drawing::poll_transmit(&mut self.protocol, &self.quiet, now);
+        if !matches!(sent, Ok(None)) {
+            self.quiet = None;
+        }
+        sent
     }
 
     fn poll_event(&mut self) -> Option<TurnEvent> {
@@ -235,6 +273,7 @@ impl TurnClientApi for TurnClientUdp {
     }
 
     fn protocol_error(&mut self) -> Result<(), NoMemory> {
+        self.quiet = None;
         let events = self.protocol.events.len();
         ending::end(&mut self.protocol)?;
         self.notes
@@ -243,14 +282,17 @@ impl TurnClientApi for TurnClientUdp {
     }
 
     fn set_credentials(&mut self, credentials: TurnCredentials) {
+        self.quiet = None;
         self.protocol.set_credentials(credentials);
     }
 
     fn set_software(&mut self, software: Option<Software>) {
+        self.quiet = None;
         self.protocol.set_software(software);
     }
 
     fn set_fingerprint(&mut self, fingerprint: bool) {
+        self.quiet = None;
         self.protocol.set_fingerprint(fingerprint);
     }
 

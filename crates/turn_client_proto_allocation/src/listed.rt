@@ -211,7 +211,10 @@ fn forget_each(allocations: &mut [Allocation])
 
 /// Returns the earliest of `wait` and of the times at which one of the allocations has to be
 /// polled.
-fn earliest(
+///
+/// `ended` is the transaction that timed out, if any. `ready` is the earliest time at which a
+/// request can be sent.
+pub fn earliest(
     allocations: &[Allocation],
     ended: &Option<TransactionId>,
     ready: Instant,

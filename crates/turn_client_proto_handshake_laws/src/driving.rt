@@ -106,7 +106,7 @@ fn draw(client: &mut Protocol, now: Instant) -> Stage
     requires { now ≤ 2 ^ 62 }
     ensures { IsStep (Drawing now) client.old result client.new }
 {
-    match poll_transmit(client, now) {
+    match poll_transmit(client, &None, now) {
         Ok(Some(_)) => Stage::Drawing(now),
         Ok(None) => Stage::Polling(now),
         Err(NoMemory) => Stage::Failed(now),
@@ -118,7 +118,7 @@ fn ask(client: &mut Protocol, now: Instant) -> Stage
     requires { now ≤ 2 ^ 62 }
     ensures { IsStep (Polling now) client.old result client.new }
 {
-    match poll(client, now) {
+    match poll(client, &mut None, now) {
         TurnPollRet::WaitUntil(time) => Stage::Drawing(time),
         TurnPollRet::AllocateTcpSocket { .. } | TurnPollRet::TcpClose { .. } => Stage::Astray,
         TurnPollRet::Closed => Stage::Over(now),

@@ -1,9 +1,11 @@
 pub mod Answering
 pub mod Draws
 pub mod Expires
+pub mod Lasting
 pub mod Polls
-pub mod Quiet
+pub mod Unsent
 pub mod Reports
+pub mod Spans
 pub mod Usual
 -- Re-exports for the crates above this one.
 pub use Rattle.stun_proto_agent.proofs as StunProtoAgent

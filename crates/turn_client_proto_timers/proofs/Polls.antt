@@ -68,3 +68,8 @@ always_none (Some x) holds = tt
 pub not_closing : (all : List SocketAddr) (wanted : TurnPollRet) (until : ℕ) (p new : Protocol) → IsClosing all wanted p (answer.WaitUntil until) new → Answers wanted p (answer.WaitUntil until) new
 not_closing [] wanted until p new is = is
 not_closing (here ∷ rest) wanted until p new is = absurd (Prim.cc is.0)
+
+-- A list of at most no sockets is empty.
+pub nothing_closes : (closing : List SocketAddr) (count : ℕ) → count ≡ length closing → count ≤ 0 → closing ≡ []
+nothing_closes [] count is none = refl
+nothing_closes (here ∷ rest) count is none = absurd (omega (arith, is, none))

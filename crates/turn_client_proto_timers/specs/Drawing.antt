@@ -9,7 +9,6 @@ use Rattle.turn_client_proto_allocation.specs.StunProtoTransaction.Least.{IsLeas
 use Rattle.stun_types_base.specs.Times.{time_after}
 use Rattle.stun_proto_agent.specs.Sending.{NoneDue, is_due_of, stored_under, with_request}
 use Rattle.stun_proto_agent.specs.State.{is_tcp}
-use Rattle.stun_types_base.specs.declared.transport.TransportType.{TransportType}
 use Rattle.turn_client_proto_allocation.specs.declared.allocation.Allocation.{Allocation}
 use Rattle.turn_client_proto_messages.specs.Requests.{request_text}
 use Rattle.turn_client_proto_messages.specs.declared.request.TurnRequest.{TurnRequest}

@@ -1,6 +1,7 @@
 pub mod Answering
 pub mod Drawing
 pub mod Polling
+pub mod Quiet
 pub mod Reporting
 pub mod Wanting
 -- Re-exports for the crates above this one.

@@ -1,6 +1,6 @@
 //! What a client sends.
 
-ghost use Rattle.std.specs.Prelude.{◌≡◌, ◌≢◌, [], ℕ, IfOk, MatchOption, find, OnErr, OnOk, Some, None};
+ghost use Rattle.std.specs.Prelude.{◌≡◌, ◌≢◌, [], ℕ, false, IfOk, IfSome, MatchOption, find, OnErr, OnOk, Some, None};
 ghost use Rattle.std.specs.Option.{option_map};
 ghost use Rattle.stun_proto_agent.specs.Sending.{NoneDue};
 ghost use Rattle.turn_client_proto_messages.specs.Requests.{request_text};
@@ -13,12 +13,14 @@ ghost use Rattle.turn_client_proto_timers.specs.Drawing.{first_allocated, first_
 ghost use Rattle.turn_client_proto_timers.specs.Drawing.{first_refreshed, is_resting, sent_at_once};
 ghost use Rattle.turn_client_proto_api.specs.Sent.{sent_of};
 ghost use Rattle.turn_client_proto_timers.specs.Polling.{pace_of};
+ghost use Rattle.turn_client_proto_timers.specs.Quiet.{IsQuiet};
 ghost use Rattle.turn_client_proto_timers.specs.Wanting.{wanted};
 ghost use Rattle.turn_client_proto_core.specs.Ending.{HasFailed, IsUnderWay};
 ghost use Rattle.turn_client_proto_core.specs.Numbering.{IsNextNumber, IsUnused};
 
 use crate::answers::take_answer;
 use crate::polling::next_send;
+use crate::quiet::Quiet;
 use crate::wanting::{Want, refresh_first, renew_channel_first, renew_first, wanted};
 use std::net::{IpAddr, SocketAddr};
 use stun_proto_agent::error::StunError;
@@ -46,21 +48,27 @@ use turn_client_proto_messages::request::TurnRequest;
 ///    REFRESH of the allocation, then a CHANNEL_BIND for a channel, then a CREATE_PERMISSION for a
 ///    permission.
 ///
+/// `quiet` is a span in which nothing is due of what the client holds, if one is known: in it
+/// nothing is renewed, and the call doesn't look at what the client holds. Only if the result is
+/// `None` it is still one afterwards.
+///
 /// # Errors
 ///
 /// - `NoMemory`: a memory allocation failed, and the client has failed. Memory is needed only for a
 ///   request that is retransmitted or made by this call, not for a queued message or for `None`.
 pub fn poll_transmit(
     protocol: &mut Protocol,
+    quiet: &Option<Quiet>,
     now: Instant,
 ) -> Result<Option<Transmit<Data<'static>>>, NoMemory>
+    requires known { IfSome quiet.now (IsQuiet protocol.old) }
     ensures ok { IfOk result (λ answer.
         IsTransmitted protocol.old now (option_map sent_of answer) protocol.new) }
     ensures err { OnErr result (HasFailed protocol.old protocol.new) }
     ensures memory { OnErr result (HasToSend protocol.old now) }
 {
     let events = protocol.events.len();
-    match draw(protocol, now) {
+    match draw(protocol, quiet, now) {
         Ok(answer) => Ok(answer),
         Err(e) => {
             protocol.fail(events);
@@ -71,7 +79,12 @@ pub fn poll_transmit(
 
 /// Returns the message to send for `poll_transmit`. If a memory allocation fails, the client is
 /// left in an intermediate state (`IsUnderWay`).
-fn draw(protocol: &mut Protocol, now: Instant) -> Result<Option<Transmit<Data<'static>>>, NoMemory>
+fn draw(
+    protocol: &mut Protocol,
+    quiet: &Option<Quiet>,
+    now: Instant,
+) -> Result<Option<Transmit<Data<'static>>>, NoMemory>
+    requires known { IfSome quiet.now (IsQuiet protocol.old) }
     ensures ok { IfOk result (λ answer.
         IsTransmitted protocol.old now (option_map sent_of answer) protocol.new) }
     ensures err { OnErr result (IsUnderWay protocol.old protocol.new) }
@@ -83,7 +96,7 @@ fn draw(protocol: &mut Protocol, now: Instant) -> Result<Option<Transmit<Data<'s
     if is_resting(protocol, now) {
         return Ok(draw_answer(protocol));
     }
-    draw_next(protocol, now)
+    draw_next(protocol, quiet, now)
 }
 
 /// Returns a request whose retransmission is due.
@@ -130,8 +143,11 @@ fn draw_answer(protocol: &mut Protocol) -> Option<Transmit<Data<'static>>>
 /// Returns the first message of the queue, or one that is made now if the queue is empty.
 fn draw_next(
     protocol: &mut Protocol,
+    quiet: &Option<Quiet>,
     now: Instant,
 ) -> Result<Option<Transmit<Data<'static>>>, NoMemory>
+    requires known { IfSome quiet.now (IsQuiet protocol.old) }
+    requires free { is_resting (pace_of protocol.old) protocol.old.last_send now ≡ false }
     ensures ok { IfOk result (λ answer.
         IsNextSent protocol.old.queue protocol.old now (option_map sent_of answer) protocol.new) }
     ensures err { OnErr result (IsUnderWay protocol.old protocol.new) }
@@ -146,12 +162,18 @@ fn draw_next(
             protocol.last_send = Some(now);
             Ok(Some(sent))
         }
-        None => begin(protocol, now),
+        None => begin(protocol, quiet, now),
     }
 }
 
 /// Returns a message that is made now: the first ALLOCATE, or a renewal that is due.
-fn begin(protocol: &mut Protocol, now: Instant) -> Result<Option<Transmit<Data<'static>>>, NoMemory>
+fn begin(
+    protocol: &mut Protocol,
+    quiet: &Option<Quiet>,
+    now: Instant,
+) -> Result<Option<Transmit<Data<'static>>>, NoMemory>
+    requires known { IfSome quiet.now (IsQuiet protocol.old) }
+    requires free { is_resting (pace_of protocol.old) protocol.old.last_send now ≡ false }
     ensures ok { IfOk result (λ answer.
         IsStarted protocol.old.phase protocol.old now (option_map sent_of answer) protocol.new) }
     ensures err { OnErr result (IsUnderWay protocol.old protocol.new) }
@@ -160,20 +182,38 @@ fn begin(protocol: &mut Protocol, now: Instant) -> Result<Option<Transmit<Data<'
 {
     match &protocol.phase {
         Phase::Initial => Ok(Some(send_first(protocol, now)?)),
-        Phase::Authenticated => renew(protocol, now),
+        Phase::Authenticated => renew(protocol, quiet, now),
         Phase::InitialSent(_) | Phase::Authenticating(_) | Phase::Ended => Ok(None),
+    }
+}
+
+/// Returns what is to be renewed: of nothing in a span in which nothing is due.
+fn want_now(protocol: &Protocol, quiet: &Option<Quiet>, now: Instant) -> Option<Want>
+    requires known { IfSome quiet.now (IsQuiet protocol.now) }
+    requires free { is_resting (pace_of protocol.now) protocol.now.last_send now ≡ false }
+    ensures { result ≡ wanted now protocol.now.allocations }
+{
+    match quiet {
+        Some(span) if span.covers(now) => None,
+        _ => wanted(protocol.allocations.as_slice(), now),
     }
 }
 
 /// Returns the renewal that is due: a REFRESH for an allocation, a CHANNEL_BIND for a channel, or a
 /// CREATE_PERMISSION for a permission.
-fn renew(protocol: &mut Protocol, now: Instant) -> Result<Option<Transmit<Data<'static>>>, NoMemory>
+fn renew(
+    protocol: &mut Protocol,
+    quiet: &Option<Quiet>,
+    now: Instant,
+) -> Result<Option<Transmit<Data<'static>>>, NoMemory>
+    requires known { IfSome quiet.now (IsQuiet protocol.old) }
+    requires free { is_resting (pace_of protocol.old) protocol.old.last_send now ≡ false }
     ensures ok { IfOk result (λ answer. IsRenewed (wanted now protocol.old.allocations)
         protocol.old now (option_map sent_of answer) protocol.new) }
     ensures err { OnErr result (IsUnderWay protocol.old protocol.new) }
     ensures memory { OnErr result (wanted now protocol.old.allocations ≢ None) }
 {
-    let Some(want) = wanted(protocol.allocations.as_slice(), now) else {
+    let Some(want) = want_now(protocol, quiet, now) else {
         return Ok(None);
     };
     match want {

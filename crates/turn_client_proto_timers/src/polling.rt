@@ -12,9 +12,11 @@ ghost use Rattle.turn_client_proto_timers.specs.Polling.{after_asking, answer_of
 ghost use Rattle.turn_client_proto_timers.specs.Polling.{ended_of, left, longest_pause};
 ghost use Rattle.turn_client_proto_timers.specs.Polling.{pace_of, ready_after, wait_of};
 ghost use Rattle.turn_client_proto_timers.specs.Polling.{wait_to_send, waits_until};
+ghost use Rattle.turn_client_proto_timers.specs.Quiet.{IsQuiet};
 ghost use Rattle.turn_client_proto_timers.specs.Reporting.{all_failures};
 
 use crate::answers::has_answer;
+use crate::quiet::Quiet;
 use crate::reporting;
 use std::time::Duration;
 use stun_proto_agent::agent::StunAgentPollRet;
@@ -43,7 +45,7 @@ pub(crate) fn next_send(pace: Duration, last: Instant) -> Instant
 }
 
 /// Returns the end of the longest wait.
-fn longest_wait(now: Instant) -> Instant
+pub(crate) fn longest_wait(now: Instant) -> Instant
     ensures { result ≡ time_after now longest_pause }
 {
     now.saturating_add(Duration::from_secs(LONGEST_PAUSE))
@@ -122,14 +124,20 @@ fn answer_of(
 ///
 /// A client that has ended returns `Closed` only, even if there are sockets to close.
 ///
+/// `quiet` is a span in which nothing is due of what the client holds, if one is known. A call in
+/// it doesn't look at what the client holds, whose size then costs no time. Any other call that does
+/// sets `quiet` to `None`.
+///
 /// # Errors
 ///
 /// - `NoMemory`: a memory allocation failed, and the client has failed. Memory is needed only if no
 ///   event and no reply is queued, no socket is requested, and there is something to report: an
 ///   ALLOCATE ended without a response; the request for a permission, a channel or a connection
 ///   did; a permission or a channel expired; or a connection is removed.
-pub fn poll(protocol: &mut Protocol, now: Instant) -> TurnPollRet
-    ensures { IsPolled protocol.old now result protocol.new }
+pub fn poll(protocol: &mut Protocol, quiet: &mut Option<Quiet>, now: Instant) -> TurnPollRet
+    requires known { IfSome quiet.old (IsQuiet protocol.old) }
+    ensures polled { IsPolled protocol.old now result protocol.new }
+    ensures known { IfSome quiet.new (IsQuiet protocol.new) }
 {
     let events = protocol.events.len();
     if events > 0 {
@@ -138,9 +146,10 @@ pub fn poll(protocol: &mut Protocol, now: Instant) -> TurnPollRet
     if has_answer(&protocol.queue) {
         return TurnPollRet::WaitUntil(now);
     }
-    match poll_agent(protocol, now) {
+    match poll_agent(protocol, quiet, now) {
         Ok(answer) => answer,
         Err(NoMemory) => {
+            *quiet = None;
             protocol.fail(events);
             TurnPollRet::NoMemory
         }
@@ -160,7 +169,7 @@ fn wait_to_send(protocol: &Protocol, now: Instant, wait: Instant) -> Instant
 }
 
 /// Returns the earliest time at which another message may be sent.
-fn ready_after(protocol: &Protocol, now: Instant) -> Instant
+pub(crate) fn ready_after(protocol: &Protocol, now: Instant) -> Instant
     ensures { result ≡ ready_after (pace_of protocol.now) protocol.now.last_send now }
 {
     match protocol.last_send {
@@ -170,43 +179,53 @@ fn ready_after(protocol: &Protocol, now: Instant) -> Instant
 }
 
 /// Polls the agent, then the client. No event and no reply is queued.
-fn poll_agent(protocol: &mut Protocol, now: Instant) -> Result<TurnPollRet, NoMemory>
+fn poll_agent(
+    protocol: &mut Protocol,
+    quiet: &mut Option<Quiet>,
+    now: Instant,
+) -> Result<TurnPollRet, NoMemory>
+    requires known { IfSome quiet.old (IsQuiet protocol.old) }
     ensures ok { IfOk result (λ answer. IsAgentPolled protocol.old now answer protocol.new) }
     ensures named { IfOk result (λ answer. answer ≢ TurnPollRet.NoMemory) }
     ensures err { OnErr result (IsUnderWay protocol.old protocol.new) }
     ensures memory { OnErr result (HasToReport protocol.old now) }
+    ensures known { IfOk result (λ _. IfSome quiet.new (IsQuiet protocol.new)) }
 {
     let wait = wait_to_send(protocol, now, longest_wait(now));
     let ticked = protocol.agent.poll(now);
     let ended = ended_of(&ticked);
-    poll_phase(protocol, &ended, wait_of(wait, &ticked), now)
+    poll_phase(protocol, quiet, &ended, wait_of(wait, &ticked), now)
 }
 
 /// Polls the client after its agent. `ended` is the transaction that ended, `wait` the wait so far.
 fn poll_phase(
     protocol: &mut Protocol,
+    quiet: &mut Option<Quiet>,
     ended: &Option<TransactionId>,
     wait: Instant,
     now: Instant,
 ) -> Result<TurnPollRet, NoMemory>
+    requires known { IfSome quiet.old (IsQuiet protocol.old) }
     ensures ok { IfOk result (λ answer.
         IsPolledIn protocol.old.phase ended.now wait protocol.old now answer protocol.new) }
     ensures named { IfOk result (λ answer. answer ≢ TurnPollRet.NoMemory) }
     ensures err { OnErr result (IsUnderWay protocol.old protocol.new) }
     ensures memory { OnErr result
         (HasToReportIn protocol.old.phase ended.now protocol.old now) }
+    ensures known { IfOk result (λ _. IfSome quiet.new (IsQuiet protocol.new)) }
 {
     match &protocol.phase {
         Phase::Initial => Ok(TurnPollRet::WaitUntil(now)),
         Phase::Ended => Ok(TurnPollRet::Closed),
         Phase::InitialSent(numbers) | Phase::Authenticating(numbers) => {
             if is_among(ended, numbers.as_slice()) {
+                *quiet = None;
                 end(protocol)?;
                 return Ok(TurnPollRet::Closed);
             }
             Ok(waits_until(ended, now, wait))
         }
-        Phase::Authenticated => poll_standing(protocol, ended, wait, now),
+        Phase::Authenticated => poll_standing(protocol, quiet, ended, wait, now),
     }
 }
 
@@ -232,21 +251,66 @@ fn ask_socket(protocol: &mut Protocol) -> Option<TurnPollRet>
     })
 }
 
-/// Requests a socket from the caller if one is to be requested, else does the timed work of the
+/// Returns the result in a span in which nothing is due, if no transaction has ended: the earlier of
+/// `wait` and the end of the span. Returns `None` if the allocations have to be looked at.
+fn answer_quietly(
+    protocol: &Protocol,
+    quiet: &Option<Quiet>,
+    ended: &Option<TransactionId>,
+    wait: Instant,
+    now: Instant,
+) -> Option<TurnPollRet>
+    requires known { IfSome quiet.now (IsQuiet protocol.now) }
+    ensures ok { IfSome result (λ answer.
+        IsPolledStanding ended.now wait protocol.now now answer protocol.now) }
+    ensures named { IfSome result (λ answer. answer ≢ TurnPollRet.NoMemory) }
+{
+    let Some(span) = quiet else {
+        return None;
+    };
+    let None = ended else {
+        return None;
+    };
+    let allocations = protocol.allocations.as_slice();
+    if !span.covers(now) || !span.reaches(wait) {
+        return None;
+    }
+    if protocol.closing.len() > 0 || allocations.is_empty() {
+        return None;
+    }
+    Some(TurnPollRet::WaitUntil(sooner(wait, span.until, now)))
+}
+
+/// Returns the earlier of `wait` and `until`, but not a time before `now`.
+fn sooner(wait: Instant, until: Instant, now: Instant) -> Instant
+    ensures { result ≡ max (min wait until) now }
+{
+    wait.min(until).max(now)
+}
+
+/// Does the timed work of what the server has allocated: nothing in a span in which nothing is due.
+/// Otherwise requests a socket from the caller if one is to be requested, else goes over the
 /// allocations.
 fn poll_standing(
     protocol: &mut Protocol,
+    quiet: &mut Option<Quiet>,
     ended: &Option<TransactionId>,
     wait: Instant,
     now: Instant,
 ) -> Result<TurnPollRet, NoMemory>
+    requires known { IfSome quiet.old (IsQuiet protocol.old) }
     ensures ok { IfOk result (λ answer.
         IsPolledStanding ended.now wait protocol.old now answer protocol.new) }
     ensures named { IfOk result (λ answer. answer ≢ TurnPollRet.NoMemory) }
     ensures err { OnErr result (IsUnderWay protocol.old protocol.new) }
     ensures memory { OnErr result ((unasked protocol.old.allocations ≡ None)
         × (all_failures ended.now now (left ended.now now protocol.old) ≢ [])) }
+    ensures known { IfOk result (λ _. IfSome quiet.new (IsQuiet protocol.new)) }
 {
+    if let Some(answer) = answer_quietly(protocol, quiet, ended, wait, now) {
+        return Ok(answer);
+    }
+    *quiet = None;
     if let Some(answer) = ask_socket(protocol) {
         return Ok(answer);
     }

@@ -1,4 +1,4 @@
-use Rattle.turn_client_proto_timers.proofs.Quiet.{nothing_sent}
+use Rattle.turn_client_proto_timers.proofs.Unsent.{nothing_sent}
 use Rattle.turn_client_proto_timers.proofs.laws.nothing_is_sent_before.Goals as goal
 
 pub returns : goal.returns

@@ -233,7 +233,7 @@ module _ (next ready now time : ℕ) (begins : ready ≤ time) (before : time < 
         ap (λ (o : Option Want). cond (is_some o) (Some (reporting.polled None now a)) (find (wants time) (map (reporting.polled None now) left))) none
         ∙ none_due rest (after_first (next_of None ready now a) (filter_map (next_of None ready now) rest) every) of_permissions.1 of_channels.1
 
-ready_by : (pace : ℕ) (last : Option ℕ) (now time : ℕ) → now ≤ time → is_resting pace last time ≡ false → ready_after pace last now ≤ time
+pub ready_by : (pace : ℕ) (last : Option ℕ) (now time : ℕ) → now ≤ time → is_resting pace last time ≡ false → ready_after pace last now ≤ time
 ready_by pace None now time from free = from
 ready_by pace (Some last) now time from free = let ready = ltb-false time (time_after last pace) free in omega (arith, from, ready)
 
