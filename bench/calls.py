@@ -8,8 +8,9 @@ is granted so many channels, each with its permission, and then on the same trac
 the end. What these took is the difference, of processor time, the least of a few runs each. It takes in
 that a line is read, and its answer printed. Binds are as many as there are channels, so the channels are
 twice as many in the end. A bind with 1,000 channels that takes more than 100 microseconds is a missed
-bound, and so is a `poll` with 1,000 permissions and channels that takes more than 30, and each of them
-with 4,000 that takes more than six times as long. Over the socket of a connection that is to be bound frames
+bound, and so is one with 4,000 that takes more than six times as long. A `poll` or a `draw` while nothing is due
+costs the same whatever the client holds: more than three microseconds with 1,000 permissions and channels, or
+half as long again with 4,000, is a missed bound. Over the socket of a connection that is to be bound frames
 come that tell nothing, 1,000 or 4,000 in a chunk: that a frame of the latter takes more than twice as long is
 a missed bound, too. It ends with 1 where a bound is missed. --results writes a section of results/speed.md.
 """
@@ -34,7 +35,7 @@ MS = 1_000_000
 RUNS = 9
 FEW, MANY = 1_000, 4_000
 CALLS, FRAMES = 5_000, 80_000
-BIND, POLL, GROWTH, OF_FRAMES = 100.0, 30.0, 6.0, 2.0
+BIND, POLL, GROWTH, SAME, OF_FRAMES = 100.0, 3.0, 6.0, 1.5, 2.0
 # a BINDING indication
 FRAME = f"00110000{0x2112A442:08x}{1:024x}"
 
@@ -152,9 +153,9 @@ def measured():
     poll = lambda now, i: f"poll {now + 50 * MS}"
     draw = lambda now, i: f"draw {now + 50 * MS}"
     yield "bind, beside so many channels", *(each(n, n, bind) for n in (FEW, MANY)), BIND, GROWTH
-    yield "poll, beside so many channels", *(each(n, CALLS, poll) for n in (FEW, MANY)), POLL, GROWTH
+    yield "poll, beside so many channels", *(each(n, CALLS, poll) for n in (FEW, MANY)), POLL, SAME
     draws = [each(n, CALLS, draw) for n in (FEW, MANY)]
-    yield "draw with nothing to send, beside so many channels", *draws, POLL, GROWTH
+    yield "draw with nothing to send, beside so many channels", *draws, POLL, SAME
     yield "a frame over a socket, of so many in a chunk", *(each_frame(n) for n in (FEW, MANY)), None, OF_FRAMES
 
 
