@@ -6,6 +6,8 @@ what, over a network that takes time (section 6.2), and what it does if a nonce 
 
 import itertools
 
+from traces_base import block
+
 TRANSPORTS = ("UDP", "TCP")
 FAMILIES = ("IPV4", "IPV6")
 SUPPORTED = {"OnlySha1": {1}, "OnlySha256": {256}, "Both": {1, 256}, "OnlySha512": {512}, "All": {1, 256, 512}}
@@ -27,6 +29,8 @@ LIFETIME, EARLY = 600 * SECOND, 60 * SECOND
 BEFORE = SECOND
 BY_UDP = ("Refresh", "CreatePermission", "ChannelBind")
 BY_TCP = ("Connect", "ConnectionBind")
+# so many transaction IDs of a seed are compared
+COUNT = 1000
 
 
 def come_together(row):
@@ -95,6 +99,13 @@ def request_stale(transport, kind, expiries):
     print(f"{transport} {kind}: held after {expiries} challenges; {client.described()}")
 
 
+def numbers_differ(count):
+    """Whether the first transaction IDs of a seed of zeros differ: each is three words of ChaCha20 (RFC 8439, section
+    2.3)."""
+    words = [it for i in range(-(-3 * count // 16)) for it in block(i, [0] * 8)]
+    return len({tuple(words[at : at + 3]) for at in range(0, 3 * count, 3)}) == count
+
+
 def main():
     for row in itertools.product(TRANSPORTS, FAMILIES, EACH, EACH, FEATURES, FEATURES):
         come_together(row)
@@ -122,6 +133,7 @@ def main():
         request_stale(transport, kind, expiries)
     for kind, expiries in itertools.product(BY_TCP, (1, 2)):
         request_stale("TCP", kind, expiries)
+    print(f"the first {COUNT} transaction IDs of a seed differ: {str(numbers_differ(COUNT)).lower()}")
 
 
 if __name__ == "__main__":

@@ -32,6 +32,7 @@ use stun_proto_auth::feature::Feature;
 use stun_types_base::family::AddressFamily;
 use stun_types_base::transport::TransportType;
 use test_driver::requesting::{Kind, Wanted};
+use turn_desk_world_laws::numbers::numbers_differ;
 
 fn main(rt: HostRuntime) -> anyhow::Result<()> {
     for transport in [TransportType::Udp, TransportType::Tcp] {
@@ -45,7 +46,16 @@ fn main(rt: HostRuntime) -> anyhow::Result<()> {
     link_by(&rt, rt.alloc())?;
     keep_by(&rt, rt.alloc(), TransportType::Udp)?;
     keep_by(&rt, rt.alloc(), TransportType::Tcp)?;
-    wait_all(&rt, rt.alloc())
+    wait_all(&rt, rt.alloc())?;
+    compare_numbers(&rt, rt.alloc())
+}
+
+/// Prints whether transaction IDs of a seed are pairwise different, as the theorem on runs presumes.
+fn compare_numbers(rt: &impl Print, alloc: Global) -> anyhow::Result<()> {
+    let count = 1000;
+    let differ = numbers_differ(alloc, [0; 32], count)?;
+    println!(rt; "the first {count} transaction IDs of a seed differ: {differ}")?;
+    Ok(())
 }
 
 /// Prints what comes of handshakes over networks that take time, and of requests whose nonces have

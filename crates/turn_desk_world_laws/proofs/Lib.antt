@@ -9,6 +9,7 @@ pub mod Beginning
 pub mod Chain
 pub mod Counting
 pub mod Determined
+pub mod Different
 pub mod Ends
 pub mod Delivered
 pub mod Once

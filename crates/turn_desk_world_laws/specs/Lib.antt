@@ -1,6 +1,7 @@
 pub mod AddressRuns
 pub mod Copies
 pub mod Ends
+pub mod Numbers
 pub mod Safety
 pub mod SocketCalls
 pub mod Reported

@@ -1,6 +1,7 @@
-//! Theorems: the theorem on runs of a simulation ([`running`]), and what it means for a layer above
-//! ([`laws`]).
+//! Theorems: the theorem on runs of a simulation ([`running`]), what it means for a layer above
+//! ([`laws`]), and a test of one of its premises ([`numbers`]).
 #![tactic(auto)]
 
 pub mod laws;
+pub mod numbers;
 pub mod running;
