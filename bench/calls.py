@@ -34,7 +34,7 @@ SOCKET, PEER = "192.168.0.1:1001", "10.0.0.3"
 MS = 1_000_000
 RUNS = 9
 FEW, MANY = 1_000, 4_000
-CALLS, FRAMES = 5_000, 80_000
+CALLS, FRAMES = 50_000, 80_000
 BIND, POLL, GROWTH, SAME, OF_FRAMES = 100.0, 3.0, 6.0, 1.5, 2.0
 # a BINDING indication
 FRAME = f"00110000{0x2112A442:08x}{1:024x}"
@@ -130,6 +130,8 @@ def once(path):
 def each(channels, calls, line):
     """Microseconds of a call, of so many more on a client that holds so many channels."""
     t, now = holding(channels)
+    # as in a program's loop: what is due is known then
+    t.say(f"poll {now}")
     before = seconds(t.text())
     for i in range(calls):
         t.say(line(now, i))
