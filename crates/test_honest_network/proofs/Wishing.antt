@@ -58,7 +58,7 @@ pub record HasMade (p q : Protocol) (text : List ℕ) (made : ℕ) : Type 0 wher
   pub last : q.last_send ≡ p.last_send
   pub pace : pace_of q ≡ pace_of p
 
-made_so : (p q : Protocol) (transport : TransportType) (ip : IpAddr) (made : ℕ) → (is : IsPermissionRequested p transport ip made q) → HasMade p q (request_text p.auth (PermissionRequest ip) is.number) made
+made_so : (p q : Protocol) (transport : TransportType) (ip : IpAddr) (made : ℕ) → (is : IsPermissionRequested p transport ip [] made q) → HasMade p q (request_text p.auth (PermissionRequest (ip ∷ [])) is.number) made
 unfolding after_asking requested
 made_so p q transport ip made is = record {
   agent = ap (λ (x : Protocol). x.agent) is.after;
@@ -71,14 +71,14 @@ abbrev ok : Result (Unit {0}) CreatePermissionError
 ok = Ok tt
 
 requested_so : (p q : Protocol) (transport : TransportType) (ip : IpAddr) (made : ℕ) (why : Option CreatePermissionError) → IfSome why (λ error. (ok ≡ Err error) × (q ≡ refused_in (allocation_for transport ip p) transport ip made p))
-    → IfNone why (MatchResult ok (λ _. IsPermissionRequested p transport ip made q) (λ error. (error ≡ not_permitted.NoMemory) × (q ≡ after_number p))) → IsPermissionRequested p transport ip made q
+    → IfNone why (MatchResult ok (λ _. IsPermissionRequested p transport ip [] made q) (λ error. (error ≡ not_permitted.NoMemory) × (q ≡ after_number p))) → IsPermissionRequested p transport ip [] made q
 requested_so p q transport ip made (Some error) refused asks = absurd (Prim.cc refused.0)
 requested_so p q transport ip made None refused asks = asks
 
 pub permission_made : (p q : Protocol) (transport : TransportType) (ip : IpAddr) (made : ℕ) → IsPermissionAnswered p transport ip made (Ok tt) q → (text : List ℕ) × HasMade p q text made
 permission_made p q transport ip made is =
     let asks = requested_so p q transport ip made (permission_refusal p transport ip made) is.refused is.requested in
-    (request_text p.auth (PermissionRequest ip) asks.number, made_so p q transport ip made asks)
+    (request_text p.auth (PermissionRequest (ip ∷ [])) asks.number, made_so p q transport ip made asks)
 
 bound_so : (p q : Protocol) (transport : TransportType) (peer : SocketAddr) (channel made : ℕ) → (is : IsChannelRequested p transport peer channel made q) → HasMade p q (request_text p.auth (ChannelBind channel peer) is.number) made
 unfolding after_binding requested

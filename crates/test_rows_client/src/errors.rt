@@ -5,8 +5,8 @@ use std::fmt::Display;
 use stun_types_base::instant::Instant;
 use stun_types_base::memory::NoMemory;
 use turn_client_proto_api::error::{
-    BindChannelError, CreatePermissionError, DeleteError, SendError, TcpAllocateError,
-    TcpConnectError,
+    BindChannelError, CreatePermissionError, CreatePermissionsError, DeleteError, SendError,
+    TcpAllocateError, TcpConnectError,
 };
 
 /// `error KIND VARIANT`: prints the text of an error. The variant `memory` is the error converted
@@ -16,6 +16,7 @@ pub(crate) fn error(line: &mut Line<'_>) {
     match kind {
         "bind" => bind(line, variant),
         "permission" => permission(line, variant),
+        "permissions" => permissions(line, variant),
         "delete" => delete(line, variant),
         "send" => send(line, variant),
         "connect" => connect(line, variant),
@@ -56,6 +57,20 @@ fn permission(line: &mut Line<'_>, variant: &str) {
         "no-allocation" => Some(CreatePermissionError::NoAllocation),
         "no-memory" => Some(CreatePermissionError::NoMemory),
         "memory" => Some(CreatePermissionError::from(NoMemory)),
+        _ => None,
+    };
+    report(line, error);
+}
+
+/// The errors of creating permissions for several addresses.
+fn permissions(line: &mut Line<'_>, variant: &str) {
+    let refused = |error| Some(CreatePermissionsError::Refused(error));
+    let error = match variant {
+        "invalid-addresses" => Some(CreatePermissionsError::InvalidAddresses),
+        "already-exists" => refused(CreatePermissionError::AlreadyExists),
+        "no-allocation" => refused(CreatePermissionError::NoAllocation),
+        "no-memory" => refused(CreatePermissionError::NoMemory),
+        "memory" => Some(CreatePermissionsError::from(NoMemory)),
         _ => None,
     };
     report(line, error);

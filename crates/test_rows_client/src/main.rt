@@ -1,6 +1,6 @@
 //! Makes the calls that each line of standard input names, and prints the results. The lines are
-//! about a TURN client's settings, its errors, the payloads that it returns, what it sends and the
-//! requests that it writes.
+//! about a TURN client's settings, its errors, the payloads that it returns, what it sends, the
+//! requests that it writes, and permissions of several addresses.
 //!
 //! - A line consists of words separated by single spaces. The first word names the call.
 //! - An empty line and a line that begins with `#` are skipped.
@@ -13,6 +13,7 @@ mod agents;
 mod errors;
 mod line;
 mod payloads;
+mod permits;
 mod requests;
 mod sends;
 mod settings;
@@ -80,6 +81,7 @@ fn ask(line: &mut Line<'_>, kind: &str, stored: &mut Vec<TurnConfig>) {
         "owned" => payloads::owned(line),
         "send" => sends::send(line),
         "request" => requests::request(line),
+        "permits" => permits::permits(line),
         _ => line.is_bad = true,
     }
 }

@@ -12,6 +12,7 @@ use stun_types_wire::transaction::TransactionId;
 use turn_client_proto_api::config::TurnConfig;
 use turn_client_proto_api::families::RequestedFamilies;
 use turn_client_proto_api::options::{AllocateOptions, RelayedPort};
+use turn_client_proto_messages::peer_ips::PeerIps;
 use turn_client_proto_messages::request::TurnRequest;
 use turn_client_proto_messages::signer::Signer;
 use turn_types_attributes::credentials::TurnCredentials;
@@ -25,8 +26,8 @@ use turn_types_attributes::credentials::TurnCredentials;
 /// - NUMBER: the transaction ID.
 /// - ALGORITHM: what the client supports.
 /// - WHAT: `first` and `allocate` over UDP for one IPv4 address, `first-for` and `allocate-for` with
-///   LIFETIME PORT FAMILIES, `refresh` and a lifetime in seconds, or `permission` and an IP address.
-///   FAMILIES: `v4`, `v6` or `both`.
+///   LIFETIME PORT FAMILIES, `refresh` and a lifetime in seconds, or `permission` and one or more IP
+///   addresses. FAMILIES: `v4`, `v6` or `both`.
 pub(crate) fn request(line: &mut Line<'_>) {
     let (challenge, software) = (line.bytes(), line.bytes());
     let fingerprint = line.value(false);
@@ -39,7 +40,9 @@ pub(crate) fn request(line: &mut Line<'_>) {
     describe(line, &mut signer, software.as_slice());
     signer.set_fingerprint(fingerprint);
     validate(line, &mut signer, challenge.as_slice());
-    let request = what(line);
+    let kind = line.word();
+    let peers = peers(line, kind);
+    let request = what(line, kind, peers.as_slice());
     match signer.write_request(line.alloc, number, request) {
         Ok(bytes) => line.hex(bytes.as_slice()),
         Err(_) => line.is_bad = true,
@@ -100,10 +103,23 @@ fn validate(line: &mut Line<'_>, signer: &mut Signer, bytes: &[u8]) {
     }
 }
 
-/// Parses the next words as a request.
-fn what(line: &mut Line<'_>) -> TurnRequest {
+/// Parses all words that are left as IP addresses, if the request is `permission`.
+fn peers(line: &mut Line<'_>, kind: &str) -> Vec<IpAddr> {
+    let mut peers = Vec::new(line.alloc);
+    if kind == "permission" {
+        for _ in 0..line.left() {
+            let peer = line.value(IpAddr::V4(Ipv4Addr::UNSPECIFIED));
+            let is_stored = peers.push(peer).is_ok();
+            line.is_bad = line.is_bad || !is_stored;
+        }
+    }
+    peers
+}
+
+/// Parses the next words as a request of this kind, which names these peers if it is `permission`.
+fn what<'a>(line: &mut Line<'_>, kind: &str, peers: &'a [IpAddr]) -> TurnRequest<'a> {
     let families = RequestedFamilies::only(AddressFamily::IPV4);
-    match line.word() {
+    match kind {
         "first" => TurnRequest::FirstAllocate(TransportType::Udp, families, AllocateOptions::new()),
         "allocate" => TurnRequest::Allocate(TransportType::Udp, families, AllocateOptions::new()),
         "first-for" => {
@@ -115,9 +131,13 @@ fn what(line: &mut Line<'_>) -> TurnRequest {
             TurnRequest::Allocate(TransportType::Udp, families, options)
         }
         "refresh" => TurnRequest::Refresh(line.value(0u32)),
-        "permission" => TurnRequest::CreatePermission(line.value(IpAddr::V4(
-            Ipv4Addr::UNSPECIFIED,
-        ))),
+        "permission" => match PeerIps::new(peers) {
+            Some(peers) => TurnRequest::CreatePermission(peers),
+            None => {
+                line.is_bad = true;
+                TurnRequest::Refresh(0)
+            }
+        },
         _ => {
             line.is_bad = true;
             TurnRequest::Refresh(0)

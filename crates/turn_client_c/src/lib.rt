@@ -6,10 +6,10 @@
 
 ghost use Rattle.std.specs.Net.Socket.{socket_ip};
 ghost use Rattle.std.specs.Prelude.{None, false, length, nat_lt, ◌+◌, ◌≡◌, ◌≢◌};
-ghost use Rattle.turn_client_c_calls.specs.Answers.{bind_answer, connect_answer, delete_answer, memory_answer, permission_answer, socket_answer};
+ghost use Rattle.turn_client_c_calls.specs.Answers.{bind_answer, connect_answer, delete_answer, memory_answer, permission_answer, permissions_answer, socket_answer};
 ghost use Rattle.turn_client_c_calls.specs.Calls.{Named, OnClient, OnCore, OnStored, Reports, Unless};
 ghost use Rattle.turn_client_c_calls.specs.Causes.{Reads, cause_noted, cause_status, domain_status, domain_written, mapped_reported, mapped_status, reason_status, reason_written, reservation_reported, reservation_status};
-ghost use Rattle.turn_client_c_calls.specs.Codes.{bad_family, bad_length, bad_setting, ok, small_buffer};
+ghost use Rattle.turn_client_c_calls.specs.Codes.{bad_addresses, bad_family, bad_length, bad_setting, ok, small_buffer};
 ghost use Rattle.turn_client_c_calls.specs.Lengths.{is_bad_length};
 ghost use Rattle.turn_client_c_calls.specs.Opened.{HoldsOpened, WhyNot};
 ghost use Rattle.turn_client_c_calls.specs.Visible.{Lists, Shows, is_permitted, permitted_of, reported_channel, reported_connection, reported_relayed};
@@ -22,9 +22,10 @@ ghost use Rattle.turn_client_c_calls.specs.TurnClientProtoCore.Binding.{IsBindAn
 ghost use Rattle.turn_client_c_calls.specs.TurnClientProtoRecv.Connecting.{IsConnectAnswered};
 ghost use Rattle.turn_client_c_calls.specs.TurnClientProtoCore.Deleting.{IsDeleteAnswered};
 ghost use Rattle.turn_client_c_calls.specs.TurnClientProto.Getters.{channels_of, connections_of, relayed_of};
-ghost use Rattle.turn_client_c_calls.specs.TurnClientProtoCore.Permitting.{IsPermissionAnswered};
+ghost use Rattle.turn_client_c_calls.specs.TurnClientProtoCore.Permitting.{ArePermissionsAnswered, IsPermissionAnswered};
 ghost use Rattle.turn_client_c_calls.specs.TurnClientProto.SocketsReported.{IsSocketReported};
-ghost use Rattle.turn_client_c_types.specs.Addresses.{address_of, socket_of, reported_ip, transport_of};
+ghost use Rattle.turn_client_c_calls.specs.TurnClientProto.Api.Limits.{most_peer_ips};
+ghost use Rattle.turn_client_c_types.specs.Addresses.{address_of, ips_of, socket_of, reported_ip, transport_of};
 
 use std::alloc::Global;
 use turn_client_c_calls::getters::{TurnChannel, TurnConnection, TurnRelayed};
@@ -306,6 +307,29 @@ pub extern "C" fn turn_client_permit(
         OnCore (λ old new. IsPermissionAnswered old by (socket_ip to) now answer new) old new)))) }
 {
     asking::turn_client_permit(alloc, client, transport, peer, now)
+}
+
+/// Requests permissions for the IP addresses of several peers by one request (RFC 8656, section
+/// 10.1). The peers' ports do not count.
+#[unsafe(no_mangle)]
+pub extern "C" fn turn_client_permit_several(
+    alloc: Global,
+    client: &mut TurnHandle,
+    transport: u32,
+    peers: &[TurnAddress],
+    now: u64,
+) -> i32
+    ensures { Named (transport_of transport) bad_setting client.old.boxed_client.value client.new.boxed_client.value
+        result (λ by.
+        Unless (nat_lt most_peer_ips (length peers.now)) bad_addresses client.old.boxed_client.value
+        client.new.boxed_client.value result
+        (Named (ips_of peers.now) bad_family client.old.boxed_client.value client.new.boxed_client.value
+        result (λ ips.
+        OnClient client.old.boxed_client.value client.new.boxed_client.value result (λ old new.
+        Reports (permissions_answer result) (λ answer.
+        OnCore (λ old new. ArePermissionsAnswered old by ips now answer new) old new))))) }
+{
+    asking::turn_client_permit_several(alloc, client, transport, peers, now)
 }
 
 /// Requests a channel to a peer (RFC 8656, section 12). If one expired a short while ago, writes to

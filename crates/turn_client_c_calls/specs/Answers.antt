@@ -4,13 +4,15 @@ use Rattle.turn_client_proto_api.specs.declared.error.BindChannelError.{BindChan
 use Rattle.turn_client_proto_api.specs.declared.error.BindChannelError.TheVariants as binding
 use Rattle.turn_client_proto_api.specs.declared.error.CreatePermissionError.{CreatePermissionError}
 use Rattle.turn_client_proto_api.specs.declared.error.CreatePermissionError.TheVariants as permission
+use Rattle.turn_client_proto_api.specs.declared.error.CreatePermissionsError.{CreatePermissionsError}
+use Rattle.turn_client_proto_api.specs.declared.error.CreatePermissionsError.TheVariants as permissions
 use Rattle.turn_client_proto_api.specs.declared.error.DeleteError.{DeleteError}
 use Rattle.turn_client_proto_api.specs.declared.error.DeleteError.TheVariants as deletion
 use Rattle.turn_client_proto_api.specs.declared.error.TcpAllocateError.{TcpAllocateError}
 use Rattle.turn_client_proto_api.specs.declared.error.TcpAllocateError.TheVariants as socket
 use Rattle.turn_client_proto_api.specs.declared.error.TcpConnectError.{TcpConnectError}
 use Rattle.turn_client_proto_api.specs.declared.error.TcpConnectError.TheVariants as connection
-use Rattle.turn_client_c_calls.specs.Codes.{already_exists, expired_channel, no_allocation, no_channel, no_memory, no_permission, ok, same}
+use Rattle.turn_client_c_calls.specs.Codes.{already_exists, bad_addresses, expired_channel, no_allocation, no_channel, no_memory, no_permission, ok, same}
 
 abbrev pub delete_answer : ℤ → Option (Result (Unit {0}) DeleteError)
 delete_answer s =
@@ -24,6 +26,14 @@ permission_answer s =
     else if same s no_allocation then Some (Err permission.NoAllocation)
     else if same s already_exists then Some (Err permission.AlreadyExists)
     else if same s no_memory then Some (Err permission.NoMemory) else None
+
+abbrev pub permissions_answer : ℤ → Option (Result (Unit {0}) CreatePermissionsError)
+permissions_answer s =
+    if same s ok then Some (Ok tt)
+    else if same s bad_addresses then Some (Err permissions.InvalidAddresses)
+    else if same s no_allocation then Some (Err (permissions.Refused permission.NoAllocation))
+    else if same s already_exists then Some (Err (permissions.Refused permission.AlreadyExists))
+    else if same s no_memory then Some (Err (permissions.Refused permission.NoMemory)) else None
 
 -- With the last time at which an expired channel makes the peer refused.
 abbrev pub bind_answer : ℤ → ℕ → Option (Result (Unit {0}) BindChannelError)

@@ -85,3 +85,6 @@ zero_seed = negsuc 16
 
 abbrev pub bad_length : ℤ
 bad_length = negsuc 17
+
+abbrev pub bad_addresses : ℤ
+bad_addresses = negsuc 18

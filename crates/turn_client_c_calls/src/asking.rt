@@ -1,25 +1,28 @@
 //! The calls that request something from the server.
 
-ghost use Rattle.std.specs.Prelude.{◌≡◌, Err, Some};
-ghost use Rattle.turn_client_c_types.specs.Addresses.{address_of, transport_of};
-ghost use Rattle.turn_client_c_calls.specs.Answers.{bind_answer, connect_answer, delete_answer, permission_answer};
-ghost use Rattle.turn_client_c_calls.specs.Calls.{Named, OnClient, OnCore, Reports};
-ghost use Rattle.turn_client_c_calls.specs.Codes.{bad_family, bad_setting};
+ghost use Rattle.std.specs.Prelude.{◌≡◌, Err, Some, length, nat_lt};
+ghost use Rattle.turn_client_c_types.specs.Addresses.{address_of, ips_of, transport_of};
+ghost use Rattle.turn_client_c_calls.specs.Answers.{bind_answer, connect_answer, delete_answer, permission_answer, permissions_answer};
+ghost use Rattle.turn_client_c_calls.specs.Calls.{Named, OnClient, OnCore, Reports, Unless};
+ghost use Rattle.turn_client_c_calls.specs.Codes.{bad_addresses, bad_family, bad_setting};
 ghost use Rattle.std.specs.Net.Socket.{socket_ip};
 ghost use Rattle.turn_client_proto.specs.Recv.Connecting.{IsConnectAnswered};
 ghost use Rattle.turn_client_proto.specs.Core.Binding.{IsBindAnswered};
 ghost use Rattle.turn_client_proto.specs.Core.Deleting.{IsDeleteAnswered};
-ghost use Rattle.turn_client_proto.specs.Core.Permitting.{IsPermissionAnswered};
+ghost use Rattle.turn_client_proto.specs.Core.Permitting.{ArePermissionsAnswered, IsPermissionAnswered};
+ghost use Rattle.turn_client_proto_api.specs.Limits.{most_peer_ips};
 
 use crate::handle::TurnHandle;
 use crate::status;
 use std::alloc::Global;
+use std::net::{IpAddr, Ipv4Addr};
 use stun_types_base::instant::Instant;
-use turn_client_c_types::address::{TurnAddress, transport_of};
+use turn_client_c_types::address::{TurnAddress, transport_of, write_ips};
 use turn_client_proto::api::TurnClientApi;
 use turn_client_proto_api::error::{
-    BindChannelError, CreatePermissionError, DeleteError, TcpConnectError,
+    BindChannelError, CreatePermissionError, CreatePermissionsError, DeleteError, TcpConnectError,
 };
+use turn_client_proto_api::limits::MOST_PEER_IPS;
 
 /// Requests the end of all allocations (RFC 8656, section 8.1).
 pub fn turn_client_delete(alloc: Global, client: &mut TurnHandle, now: u64) -> i32
@@ -75,6 +78,62 @@ pub fn turn_client_permit(
         Err(CreatePermissionError::NoAllocation) => status::NO_ALLOCATION,
         Err(_) => status::NO_MEMORY,
     }
+}
+
+/// Returns the status of the result of `create_permissions`.
+fn status_of_permits(answer: Result<(), CreatePermissionsError>) -> i32
+    ensures { permissions_answer result ≡ Some answer }
+{
+    match answer {
+        Ok(()) => status::OK,
+        Err(CreatePermissionsError::InvalidAddresses) => status::BAD_ADDRESSES,
+        Err(CreatePermissionsError::Refused(error)) => match error {
+            CreatePermissionError::AlreadyExists => status::ALREADY_EXISTS,
+            CreatePermissionError::NoAllocation => status::NO_ALLOCATION,
+            _ => status::NO_MEMORY,
+        },
+        Err(_) => status::NO_MEMORY,
+    }
+}
+
+/// Requests permissions for the IP addresses of several peers by one request (RFC 8656, section
+/// 10.1). The peers' ports do not count.
+pub fn turn_client_permit_several(
+    alloc: Global,
+    client: &mut TurnHandle,
+    transport: u32,
+    peers: &[TurnAddress],
+    now: u64,
+) -> i32
+    ensures { Named (transport_of transport) bad_setting client.old.boxed_client.value client.new.boxed_client.value
+        result (λ by.
+        Unless (nat_lt most_peer_ips (length peers.now)) bad_addresses client.old.boxed_client.value
+        client.new.boxed_client.value result
+        (Named (ips_of peers.now) bad_family client.old.boxed_client.value client.new.boxed_client.value
+        result (λ ips.
+        OnClient client.old.boxed_client.value client.new.boxed_client.value result (λ old new.
+        Reports (permissions_answer result) (λ answer.
+        OnCore (λ old new. ArePermissionsAnswered old by ips now answer new) old new))))) }
+{
+    let Some(by) = transport_of(transport) else {
+        return status::BAD_SETTING;
+    };
+    if peers.len() > MOST_PEER_IPS {
+        return status::BAD_ADDRESSES;
+    }
+    let mut room = [IpAddr::V4(Ipv4Addr::from_octets([0; 4])); 32];
+    if !write_ips(peers, &mut room) {
+        return status::BAD_FAMILY;
+    }
+    let Some(mut whole) = client.take(alloc) else {
+        return status::NO_CLIENT;
+    };
+    let (ips, _) = room.split_at(peers.len());
+    let answer = whole
+        .client
+        .create_permissions(by, ips, Instant::from_nanos(now));
+    client.put(whole);
+    status_of_permits(answer)
 }
 
 /// Returns the status of an error of `bind_channel`, and writes the time of `ExpiredChannelExists`.

@@ -77,3 +77,6 @@ pub(crate) const ZERO_SEED: i32 = -17;
 
 /// A length is more than the size of any object.
 pub(crate) const BAD_LENGTH: i32 = -18;
+
+/// There is no address, there are too many, or they are of two families.
+pub(crate) const BAD_ADDRESSES: i32 = -19;

@@ -1,7 +1,7 @@
 -- Addresses and transports, as C passes and gets them.
 use Rattle.std.specs.Prelude.{ℕ, ◌==◌, List, [], ◌∷◌, ◌++◌, take, Option, Some, None, option_map, if◌then◌else◌}
 use Rattle.std.specs.Net.Addr.{ipv4_octets, ipv6_octets, segments_of}
-use Rattle.std.specs.Net.Socket.{v4_ip, v4_port, v6_ip, v6_port}
+use Rattle.std.specs.Net.Socket.{socket_ip, v4_ip, v4_port, v6_ip, v6_port}
 use Rattle.std.specs.declared.net.ip_addr.IpAddr.{IpAddr}
 use Rattle.std.specs.declared.net.ip_addr.IpAddr.TheVariants as ip
 use Rattle.std.specs.declared.net.socket_addr.SocketAddr.{SocketAddr}
@@ -56,3 +56,13 @@ transport_of number = if number == udp_protocol then Some Udp else if number == 
 -- and 6.
 unfoldable pub socket_of : TurnAddress → Option (Option SocketAddr)
 socket_of a = if a.family == 0 then Some None else option_map Some (address_of a)
+
+-- The IP addresses, with that of one more address before them; `None` if it is no address.
+abbrev pub ip_before : Option SocketAddr → Option (List IpAddr) → Option (List IpAddr)
+ip_before None ips = None
+ip_before (Some a) ips = option_map (λ (l : List IpAddr). socket_ip a ∷ l) ips
+
+-- The IP addresses of the addresses that C passes. `None` if the family of one is neither 4 nor 6.
+unfoldable pub ips_of : List TurnAddress → Option (List IpAddr)
+ips_of [] = Some []
+ips_of (a ∷ others) = ip_before (address_of a) (ips_of others)

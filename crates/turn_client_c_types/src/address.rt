@@ -1,8 +1,8 @@
 //! Addresses and transports, as C passes and gets them.
 
-ghost use Rattle.std.specs.Prelude.{◌≡◌, ◌++◌};
+ghost use Rattle.std.specs.Prelude.{◌≡◌, ◌≤◌, ◌++◌, length, take, Some, None, if◌then◌else◌};
 ghost use Rattle.std.specs.Net.Addr.{ipv4_octets};
-ghost use Rattle.turn_client_c_types.specs.Addresses.{address_of, ipv4, no_address, number_of, socket_of, reported_address, reported_ip, transport_of, zeros};
+ghost use Rattle.turn_client_c_types.specs.Addresses.{address_of, ipv4, ips_of, no_address, number_of, socket_of, reported_address, reported_ip, transport_of, zeros};
 
 use std::net::{IpAddr, Ipv4Addr, Ipv6Addr, SocketAddr, SocketAddrV4, SocketAddrV6};
 use stun_types_base::transport::TransportType;
@@ -140,4 +140,20 @@ pub fn socket_of(address: &TurnAddress) -> Option<Option<SocketAddr>>
         Some(socket) => Some(Some(socket)),
         None => None,
     }
+}
+
+/// Writes the IP addresses of addresses to the start of `room`. Returns false if the family of one
+/// is neither 4 nor 6; then not all are written.
+pub fn write_ips(addresses: &[TurnAddress], room: &mut [IpAddr]) -> bool
+    requires { length addresses.now ≤ length room.old }
+    ensures { ips_of addresses.now
+        ≡ (if result then Some (take (length addresses.now) room.new) else None) }
+{
+    for i in 0..addresses.len() {
+        let Some(address) = addresses[i].to_socket() else {
+            return false;
+        };
+        room[i] = address.ip();
+    }
+    true
 }

@@ -12,7 +12,7 @@ ghost use Rattle.turn_client_proto_core.specs.Deleting.{IsDeleteAnswered};
 ghost use Rattle.turn_client_proto_timers.specs.Drawing.{HasToSend, IsTransmitted};
 ghost use Rattle.turn_client_proto_api.specs.Sent.{sent_of};
 ghost use Rattle.turn_client_proto_core.specs.Ending.{HasFailed, ended};
-ghost use Rattle.turn_client_proto_core.specs.Permitting.{IsPermissionAnswered};
+ghost use Rattle.turn_client_proto_core.specs.Permitting.{ArePermissionsAnswered, IsPermissionAnswered};
 ghost use Rattle.turn_client_proto_timers.specs.Polling.{IsPolled};
 ghost use Rattle.turn_client_proto_payload.specs.Sending.{IsSendAnswered, answered_as};
 ghost use Rattle.turn_client_proto.specs.Getters.{channels_of, connections_of, has_permission, permissions_of, relayed_of};
@@ -43,8 +43,8 @@ pub use turn_client_proto_api::cause::{MessageText, TurnCause};
 pub use turn_client_proto_api::config::TurnConfig;
 pub use turn_client_proto_api::data::{DataRangeOrOwned, TurnPeerData};
 pub use turn_client_proto_api::error::{
-    BindChannelError, CreatePermissionError, DeleteError, SendError, TcpAllocateError,
-    TcpConnectError,
+    BindChannelError, CreatePermissionError, CreatePermissionsError, DeleteError, SendError,
+    TcpAllocateError, TcpConnectError,
 };
 pub use turn_client_proto_api::event::TurnEvent;
 pub use turn_client_proto_api::expired::AllocationExpired;
@@ -68,7 +68,7 @@ pub const CLIENT_END: u64 = 1 << 62;
 /// |---|---|
 /// | exchange bytes | `recv`, `poll_recv`, `poll_transmit`, `send_to` |
 /// | time and events | `poll`, `poll_event`, `poll_expired` |
-/// | request something from the server | `create_permission`, `bind_channel`, `tcp_connect`, `delete` |
+/// | request something from the server | `create_permission`, `create_permissions`, `bind_channel`, `tcp_connect`, `delete` |
 /// | report what the caller did | `allocated_tcp_socket`, `tcp_closed`, `protocol_error` |
 /// | change what requests carry | `set_credentials`, `set_software`, `set_fingerprint` |
 /// | read the client's state, without changing it | `relayed_addresses`, `permissions`, `have_permission`, `channels`, `connections`, `transport`, `local_addr`, `remote_addr` |
@@ -195,6 +195,41 @@ pub trait TurnClientApi: Debug + Send {
         now: Instant,
     ) -> Result<(), CreatePermissionError>
         ensures permitted { Leaves (λ old new. IsPermissionAnswered old transport peer_addr now result new)
+            (stored self.old) (stored self.new) }
+        ensures noted { noted self.new ≡ noted self.old };
+
+    /// Requests permissions for several IP addresses by one CREATE_PERMISSION (RFC 8656, section
+    /// 10.1), in the first allocation of this transport whose relayed address is of their family.
+    ///
+    /// - The request names each address once, in the order of their first places.
+    /// - The server grants all of them or none. Each gets an event of its own, of `recv` or `poll`,
+    ///   in that order: `PermissionCreated` or `PermissionCreateFailed`.
+    /// - Each granted permission is valid for 300 seconds, and renewed by a request of its own, as
+    ///   one of `create_permission` is.
+    ///
+    /// # Errors
+    ///
+    /// In this order:
+    ///
+    /// 1. `InvalidAddresses`: there is no address, there are more than 32, or they are of two
+    ///    families.
+    /// 2. `Refused(NoAllocation)`: there is no such allocation, or it has expired. An expired one
+    ///    is marked as expired.
+    /// 3. `Refused(AlreadyExists)`: the allocation has a permission for one of the addresses, or
+    ///    one was requested. Nothing is requested for the others either.
+    /// 4. `Refused(NoAllocation)`: the client has ended.
+    /// 5. `Refused(NoMemory)`: an allocation failed.
+    ///
+    /// Otherwise nothing has changed, except that after `NoMemory` the generator of transaction IDs
+    /// has advanced.
+    fn create_permissions(
+        &mut self,
+        transport: TransportType,
+        peer_addrs: &[IpAddr],
+        now: Instant,
+    ) -> Result<(), CreatePermissionsError>
+        ensures permitted { Leaves (λ old new.
+            ArePermissionsAnswered old transport peer_addrs.now now result new)
             (stored self.old) (stored self.new) }
         ensures noted { noted self.new ≡ noted self.old };
 

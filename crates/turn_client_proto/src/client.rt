@@ -21,8 +21,8 @@ use turn_client_proto_api::answer::{Socket5Tuple, TurnPollRet, TurnRecvRet};
 use turn_client_proto_api::cause::TurnCause;
 use turn_client_proto_api::data::TurnPeerData;
 use turn_client_proto_api::error::{
-    BindChannelError, CreatePermissionError, DeleteError, SendError, TcpAllocateError,
-    TcpConnectError,
+    BindChannelError, CreatePermissionError, CreatePermissionsError, DeleteError, SendError,
+    TcpAllocateError, TcpConnectError,
 };
 use turn_client_proto_api::event::TurnEvent;
 use turn_client_proto_api::expired::AllocationExpired;
@@ -112,6 +112,18 @@ impl TurnClientApi for TurnClient {
         match self {
             TurnClient::Udp(client) => client.create_permission(transport, peer_addr, now),
             TurnClient::Tcp(client) => client.create_permission(transport, peer_addr, now),
+        }
+    }
+
+    fn create_permissions(
+        &mut self,
+        transport: TransportType,
+        peer_addrs: &[IpAddr],
+        now: Instant,
+    ) -> Result<(), CreatePermissionsError> {
+        match self {
+            TurnClient::Udp(client) => client.create_permissions(transport, peer_addrs, now),
+            TurnClient::Tcp(client) => client.create_permissions(transport, peer_addrs, now),
         }
     }
 

@@ -8,6 +8,7 @@ ghost use Rattle.turn_client_proto.specs.Notes.{AreTimed, IsPollNoted, IsTimed, 
 use crate::gone::{first_two, push_gone};
 use std::net::IpAddr;
 use turn_client_proto_allocation::allocation::Allocation;
+use turn_client_proto_allocation::permission::PendingPermission;
 use turn_client_proto_api::cause::TurnCause;
 use turn_client_proto_api::causes::Causes;
 use turn_client_proto_api::event::TurnEvent;
@@ -33,6 +34,30 @@ fn index_of(address: &IpAddr) -> usize
     }
 }
 
+/// Returns how many addresses a request for permissions names, each counted once.
+fn count_of(pending: &PendingPermission) -> usize {
+    let others = pending.others.as_slice();
+    let mut count = 1_usize;
+    for at in 0..others.len() {
+        let (before, rest) = others.split_at(at);
+        if let Some(ip) = rest.first() {
+            if *ip != pending.ip && !before.contains(ip) {
+                count = count.saturating_add(1);
+            }
+        }
+    }
+    count
+}
+
+/// Returns how many permissions are requested in an allocation and not granted yet.
+fn permissions_of(allocation: &Allocation) -> usize {
+    let mut count = 0_usize;
+    for pending in allocation.pending_permissions.as_slice() {
+        count = count.saturating_add(count_of(pending));
+    }
+    count
+}
+
 impl Requested {
     /// Returns how many these allocations have.
     pub(crate) fn of(allocations: &[Allocation]) -> Requested {
@@ -40,7 +65,7 @@ impl Requested {
         let mut channels = [0_usize; 2];
         for allocation in allocations {
             let at = index_of(&allocation.address.ip());
-            permissions[at] = permissions[at].saturating_add(allocation.pending_permissions.len());
+            permissions[at] = permissions[at].saturating_add(permissions_of(allocation));
             channels[at] = channels[at].saturating_add(allocation.pending_channels.len());
         }
         Requested {

@@ -28,8 +28,8 @@ use turn_client_proto_api::cause::TurnCause;
 use turn_client_proto_api::config::TurnConfig;
 use turn_client_proto_api::data::TurnPeerData;
 use turn_client_proto_api::error::{
-    BindChannelError, CreatePermissionError, DeleteError, SendError, TcpAllocateError,
-    TcpConnectError,
+    BindChannelError, CreatePermissionError, CreatePermissionsError, DeleteError, SendError,
+    TcpAllocateError, TcpConnectError,
 };
 use turn_client_proto_api::event::TurnEvent;
 use turn_client_proto_api::expired::AllocationExpired;
@@ -154,6 +154,16 @@ impl TurnClientApi for TurnClientUdp {
     ) -> Result<(), CreatePermissionError> {
         self.quiet = None;
         permitting::create_permission(&mut self.protocol, transport, peer_addr, now)
+    }
+
+    fn create_permissions(
+        &mut self,
+        transport: TransportType,
+        peer_addrs: &[IpAddr],
+        now: Instant,
+    ) -> Result<(), CreatePermissionsError> {
+        self.quiet = None;
+        permitting::create_permissions(&mut self.protocol, transport, peer_addrs, now)
     }
 
     fn have_permission(&self, transport: TransportType, to: IpAddr) -> bool {

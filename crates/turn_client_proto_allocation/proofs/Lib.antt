@@ -1,5 +1,6 @@
 pub mod Changes
 pub mod Earliest
+pub mod Firsts
 pub mod Prefixes
 pub mod Undoing
 pub mod Walks

@@ -1,5 +1,6 @@
 pub mod Awaited
 pub mod Changes
+pub mod Firsts
 pub mod Lending
 pub mod Listed
 pub mod Permissions

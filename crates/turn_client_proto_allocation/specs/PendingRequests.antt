@@ -1,13 +1,15 @@
 -- What the outstanding requests of a client are for, found by their transaction IDs (RFC 8489, section 6).
-use Rattle.std.specs.Prelude.{ℕ, Bool, List, find, is_some, Option, if◌then◌else◌}
+use Rattle.std.specs.Prelude.{ℕ, Bool, List, [], find, is_some, Option, Some, None, if◌then◌else◌}
 use Rattle.std.specs.List.{list_any}
 use Rattle.std.specs.Option.{option_and_then, option_map, option_or}
+use Rattle.std.specs.declared.net.ip_addr.IpAddr.{IpAddr}
 use Rattle.turn_client_proto_allocation.specs.Awaited.{asks_for_channel, asks_for_permission, is_connecting, renews_channel, renews_permission}
 use Rattle.turn_client_proto_allocation.specs.Changes.{change_first}
 use Rattle.turn_client_proto_allocation.specs.Permissions as permissions
 use Rattle.turn_client_proto_allocation.specs.Refreshing.{lifetime_requested, refreshing}
 use Rattle.turn_client_proto_allocation.specs.declared.allocation.Allocation.{Allocation}
 use Rattle.turn_client_proto_allocation.specs.declared.connection.Connecting.{Connecting}
+use Rattle.turn_client_proto_allocation.specs.declared.permission.PendingPermission.{PendingPermission}
 use Rattle.turn_client_proto_allocation.specs.Channels.{requested_again, renewed_again}
 use Rattle.turn_client_proto_allocation.specs.declared.pending.PendingRequest.{PendingRequest}
 use Rattle.turn_client_proto_allocation.specs.declared.pending.PendingRequest.TheVariants.{ChannelRenewal, Lifetime, NewChannel, NewConnection, NewPermission, Renewal}
@@ -22,7 +24,7 @@ abbrev pub channel_renewal_requested : ℕ → Allocation → Option PendingRequ
 channel_renewal_requested transaction_id a =
     option_map (λ c. ChannelRenewal a.transport c.number c.peer) (find (renews_channel transaction_id) a.channels)
 
--- The new permission that the request with this transaction ID requests.
+-- The new permission that the request with this transaction ID requests, by the first of its addresses.
 abbrev pub new_requested : ℕ → Allocation → Option PendingRequest
 new_requested transaction_id a =
     option_map (λ p. NewPermission a.transport p.ip) (find (asks_for_permission transaction_id) a.pending_permissions)
@@ -51,6 +53,25 @@ awaits_reply transaction_id a = is_some (requested_of transaction_id a)
 -- What the request with this transaction ID is for, by the first allocation that awaits its response.
 abbrev pub pending_request : ℕ → List Allocation → Option PendingRequest
 pending_request transaction_id allocations = option_and_then (requested_of transaction_id) (find (awaits_reply transaction_id) allocations)
+
+-- The addresses that a request for the pending permission is for, if one was found.
+abbrev pub addresses_in : Option PendingPermission → List IpAddr
+addresses_in None = []
+addresses_in (Some p) = permissions.addresses_of p
+
+-- The addresses for which the request with this transaction ID requests permissions in the allocation.
+abbrev pub addresses_requested : ℕ → Allocation → List IpAddr
+addresses_requested transaction_id a = addresses_in (find (asks_for_permission transaction_id) a.pending_permissions)
+
+-- The addresses for which a request requests permissions in the allocation, if one was found.
+abbrev pub addresses_wanted : ℕ → Option Allocation → List IpAddr
+addresses_wanted transaction_id None = []
+addresses_wanted transaction_id (Some a) = addresses_requested transaction_id a
+
+-- The addresses for which the request with this transaction ID requests permissions, by the first allocation that
+-- awaits its response.
+abbrev pub addresses_for : ℕ → List Allocation → List IpAddr
+addresses_for transaction_id allocations = addresses_wanted transaction_id (find (awaits_reply transaction_id) allocations)
 
 -- The allocation after the request `transaction_id` was added to the first pending permission that the request `old`
 -- requests. If `old` requests none, it is added to the first permission that `old` is to renew.

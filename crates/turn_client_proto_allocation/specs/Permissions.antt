@@ -1,8 +1,11 @@
 -- The permissions of an allocation (RFC 8656, sections 9 and 10).
 use Rattle.std.specs.Prelude.{ℕ, ◌*◌, ◌-◌, nat_le, max, Bool, true, false, not, ◌&&◌, List, [], ◌∷◌, ◌++◌, map, filter, Option, if◌then◌else◌}
+use Rattle.std.specs.declared.net.ip_addr.IpAddr.{IpAddr}
 use Rattle.turn_client_proto_allocation.specs.Awaited.{asks_for_permission, is_among, renews_permission}
 use Rattle.turn_client_proto_allocation.specs.Changes.{change_first}
+use Rattle.turn_client_proto_allocation.specs.Firsts.{first_of_each}
 use Rattle.turn_client_proto_allocation.specs.Refreshing.{renewed_before, second}
+use Rattle.turn_client_proto_allocation.specs.Same.{is_same_ip}
 use Rattle.turn_client_proto_allocation.specs.declared.permission.PendingPermission.{PendingPermission}
 use Rattle.turn_client_proto_allocation.specs.declared.permission.Permission.{Permission}
 
@@ -74,6 +77,18 @@ abbrev pub renewed_first : (now transaction_id : ℕ) → List Permission → Li
 renewed_first now transaction_id permissions = change_first (wants_renewal now) (awaiting transaction_id) permissions
 
 -- ---- those that were requested
+
+-- Each of the addresses once, in the order in which they come first.
+abbrev pub each_once : List IpAddr → List IpAddr
+each_once ips = first_of_each is_same_ip ips
+
+-- The addresses that the request for the pending permission names, as the caller gave them.
+abbrev pub names_of : PendingPermission → List IpAddr
+names_of p = p.ip ∷ p.others
+
+-- The addresses that a request for the pending permission is for, each once.
+abbrev pub addresses_of : PendingPermission → List IpAddr
+addresses_of p = each_once (names_of p)
 
 -- The transaction that timed out is that of a request for the pending permission.
 abbrev pub is_over : Option ℕ → PendingPermission → Bool

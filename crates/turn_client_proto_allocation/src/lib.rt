@@ -2,6 +2,7 @@
 //! outstanding requests for each. [`requested`] finds the request that a response answers.
 #![tactic(auto)]
 
+pub mod addresses;
 pub mod allocation;
 pub mod channel;
 pub mod channel_of;

@@ -1,10 +1,10 @@
 //! What the outstanding requests of a client are for, found by their transaction IDs (RFC 8489,
 //! section 6).
 
-ghost use Rattle.std.specs.Prelude.{◌≡◌, ◌<◌, IfSome, MatchOption, None, OnOk, OnErr, Some, length, position};
+ghost use Rattle.std.specs.Prelude.{◌≡◌, ◌<◌, IfOk, IfSome, MatchOption, None, OnOk, OnErr, Some, length, position};
 ghost use Rattle.std.specs.List.{list_any};
 ghost use Rattle.turn_client_proto_allocation.specs.Awaited.{asks_for_channel, asks_for_permission, is_connecting, renews_channel};
-ghost use Rattle.turn_client_proto_allocation.specs.PendingRequests.{all_reissued_under, pending_request, requested_of, reissued_under, awaits_reply, channel_requested, channel_renewal_requested, connected_again, connection_requested, new_requested, permission_too, renewal_requested};
+ghost use Rattle.turn_client_proto_allocation.specs.PendingRequests.{addresses_for, addresses_requested, all_reissued_under, pending_request, requested_of, reissued_under, awaits_reply, channel_requested, channel_renewal_requested, connected_again, connection_requested, new_requested, permission_too, renewal_requested};
 ghost use Rattle.turn_client_proto_allocation.specs.Channels.{requested_again, renewed_again};
 
 use crate::allocation::Allocation;
@@ -13,7 +13,9 @@ use crate::channel_of::{is_renewed_by, is_requested_by};
 use crate::connection::Connecting;
 use crate::permission::PendingPermission;
 use crate::permissions;
+use std::alloc::Global;
 use std::net::{IpAddr, SocketAddr};
+use stun_types_base::list::ListOf;
 use stun_types_base::memory::NoMemory;
 use stun_types_base::transport::TransportType;
 use stun_types_wire::transaction::TransactionId;
@@ -30,8 +32,8 @@ pub enum PendingRequest {
     /// A CHANNEL_BIND: the renewal of the channel with this number to this peer, in an allocation
     /// of this transport.
     ChannelRenewal(TransportType, ChannelId, SocketAddr),
-    /// A CREATE_PERMISSION: a new permission for this address, in an allocation of this transport
-    /// (RFC 8656, section 10.1).
+    /// A CREATE_PERMISSION: new permissions, the first of them for this address, in an allocation
+    /// of this transport (RFC 8656, section 10.1).
     NewPermission(TransportType, IpAddr),
     /// A CREATE_PERMISSION: the renewal of the permission for this address, in an allocation of
     /// this transport.
@@ -61,7 +63,8 @@ fn channel_renewal_requested(
     Some(PendingRequest::ChannelRenewal(a.transport, found.number, found.peer))
 }
 
-/// Returns the new permission that the request with this transaction ID requests.
+/// Returns the new permission that the request with this transaction ID requests, by the first of
+/// its addresses.
 fn new_requested(a: &Allocation, transaction_id: TransactionId) -> Option<PendingRequest>
     ensures { result ≡ new_requested transaction_id a.now }
 {
@@ -139,6 +142,40 @@ pub fn pending_request(
     let index = index_awaiting(allocations, transaction_id)?;
     let requested = requested_of(&allocations[index], transaction_id)?;
     Some((index, requested))
+}
+
+/// Returns the addresses for which the request with this transaction ID requests permissions in the
+/// allocation, each once. Fails with `NoMemory` if memory runs out.
+#[tactic(auto, using(crate::proofs::Changes::first_by_index))]
+pub fn addresses_requested(
+    alloc: Global,
+    a: &Allocation,
+    transaction_id: TransactionId,
+) -> Result<ListOf<IpAddr>, NoMemory>
+    ensures { IfOk result (λ ips. ips ≡ addresses_requested transaction_id a.now) }
+{
+    let pending = a.pending_permissions.as_slice();
+    let Some(index) = permissions::index_requested(pending, transaction_id) else {
+        return Ok(ListOf::new(alloc));
+    };
+    pending[index].addresses(alloc)
+}
+
+/// Returns the addresses for which the request with this transaction ID requests permissions, each
+/// once, by the first allocation that awaits its response. Fails with `NoMemory` if memory runs
+/// out.
+#[tactic(auto, using(crate::proofs::Changes::first_by_index))]
+pub fn addresses_for(
+    alloc: Global,
+    allocations: &[Allocation],
+    transaction_id: TransactionId,
+) -> Result<ListOf<IpAddr>, NoMemory>
+    ensures { IfOk result (λ ips. ips ≡ addresses_for transaction_id allocations.now) }
+{
+    let Some(index) = index_awaiting(allocations, transaction_id) else {
+        return Ok(ListOf::new(alloc));
+    };
+    addresses_requested(alloc, &allocations[index], transaction_id)
 }
 
 /// Returns the index of the first channel that the request with this transaction ID requests.

@@ -3,8 +3,9 @@
 ghost use Rattle.std.specs.Prelude.{◌≡◌, [], ◌∷◌, IfOk};
 ghost use Rattle.std.specs.List.{list_any};
 ghost use Rattle.turn_client_proto_allocation.specs.Awaited.{asks_for_permission, has_number, renews_permission};
-ghost use Rattle.turn_client_proto_allocation.specs.Permissions.{has_expired, is_over, next_of_permission, permission_renewal, polled_permission, renewed_permission, wants_renewal};
+ghost use Rattle.turn_client_proto_allocation.specs.Permissions.{addresses_of, has_expired, is_over, next_of_permission, permission_renewal, polled_permission, renewed_permission, wants_renewal};
 
+use crate::addresses;
 use crate::numbers::{has_number, is_among};
 use std::alloc::Global;
 use std::net::IpAddr;
@@ -100,29 +101,45 @@ impl Permission {
     }
 }
 
-/// A permission that is requested and not yet granted.
+/// Permissions that one request is for and that are not yet granted: mostly of one address.
 #[derive(Debug, Drop)]
 pub struct PendingPermission {
-    /// The peer's address.
+    /// The first peer's address.
     pub ip: IpAddr,
-    /// The transaction IDs of the requests for it.
+    /// The further peers' addresses, as the caller gave them: an address may come twice.
+    pub others: ListOf<IpAddr>,
+    /// The transaction IDs of the requests for them.
     pub numbers: ListOf<TransactionId>,
 }
 
 impl PendingPermission {
-    /// Returns a pending permission for the address, requested by the request with this transaction
-    /// ID. Fails with `NoMemory` if memory runs out.
+    /// Returns a pending permission for the addresses, requested by the request with this
+    /// transaction ID. Fails with `NoMemory` if memory runs out.
     pub fn new(
         alloc: Global,
         ip: IpAddr,
+        others: &[IpAddr],
         transaction_id: TransactionId,
     ) -> Result<PendingPermission, NoMemory>
-        ensures { IfOk result (λ pending.
-            pending ≡ record { ip = ip; numbers = transaction_id ∷ [] }) }
+        ensures { IfOk result (λ pending. pending
+            ≡ record { ip = ip; others = others.now; numbers = transaction_id ∷ [] }) }
     {
+        let others = addresses::copied(alloc, others)?;
         let mut numbers = ListOf::new(alloc);
         numbers.push(transaction_id)?;
-        Ok(PendingPermission { ip, numbers })
+        Ok(PendingPermission {
+            ip,
+            others,
+            numbers,
+        })
+    }
+
+    /// Returns the addresses that a request for it is for, each once. Fails with `NoMemory` if
+    /// memory runs out.
+    pub fn addresses(&self, alloc: Global) -> Result<ListOf<IpAddr>, NoMemory>
+        ensures { IfOk result (λ ips. ips ≡ addresses_of self.now) }
+    {
+        addresses::each_once(alloc, self.ip, self.others.as_slice())
     }
 
     /// Returns whether the request with this transaction ID requests it.

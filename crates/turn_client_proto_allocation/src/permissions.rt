@@ -46,7 +46,10 @@ fn index_wanting(permissions: &[Permission], now: Instant) -> Option<usize>
 }
 
 /// Returns the index of the first permission that the request with this transaction ID requests.
-fn index_requested(pending: &[PendingPermission], transaction_id: TransactionId) -> Option<usize>
+pub(crate) fn index_requested(
+    pending: &[PendingPermission],
+    transaction_id: TransactionId,
+) -> Option<usize>
     ensures { result ≡ position (asks_for_permission transaction_id) pending.now }
 {
     pending

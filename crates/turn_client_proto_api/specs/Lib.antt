@@ -4,6 +4,7 @@ pub mod Expired
 pub mod ExpiredSlots
 pub mod Families
 pub mod FamilyOrders
+pub mod Limits
 pub mod Options
 pub mod Payloads
 pub mod Sends

@@ -47,6 +47,18 @@ pub enum CreatePermissionError {
     NoMemory,
 }
 
+/// Why no permissions are requested for several addresses (RFC 8656, section 10.1).
+#[derive(Clone, Copy, Debug, PartialEq, Eq, Error)]
+#[non_exhaustive]
+pub enum CreatePermissionsError {
+    /// There is no address, there are more than `MOST_PEER_IPS`, 32, or they are of two families.
+    #[error("there is no address, there are too many, or they are of two families")]
+    InvalidAddresses,
+    /// The call is refused as `create_permission` is.
+    #[error("{}", .0)]
+    Refused(CreatePermissionError),
+}
+
 /// Why the end of the allocations is not requested (RFC 8656, section 8.1).
 #[derive(Clone, Copy, Debug, PartialEq, Eq, Error)]
 #[non_exhaustive]
@@ -135,6 +147,18 @@ impl From<NoMemory> for CreatePermissionError {
 
     fn from(_error: NoMemory) -> CreatePermissionError {
         CreatePermissionError::NoMemory
+    }
+}
+
+impl From<NoMemory> for CreatePermissionsError {
+    ghost use Rattle.std.specs.Prelude.{◌≡◌};
+    ghost use Rattle.turn_client_proto_api.specs.declared.error.CreatePermissionError.TheVariants.{NoMemory};
+    ghost use Rattle.turn_client_proto_api.specs.declared.error.CreatePermissionsError.TheVariants.{Refused};
+
+    ghost from_gives = { λ _ error. error ≡ Refused NoMemory };
+
+    fn from(_error: NoMemory) -> CreatePermissionsError {
+        CreatePermissionsError::Refused(CreatePermissionError::NoMemory)
     }
 }
 

@@ -11,6 +11,7 @@ pub mod error;
 pub mod event;
 pub mod expired;
 pub mod families;
+pub mod limits;
 pub mod options;
 pub mod queue;
 pub mod send;

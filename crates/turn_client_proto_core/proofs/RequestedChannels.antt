@@ -45,15 +45,15 @@ module _ (old new : Protocol) (request : TurnRequest) (ip : IpAddr) (number now 
 
   -- If it isn't, the request asks for the permission too.
   pub beside_requested : (found : Option Allocation) (given : IpAddr) → found ≡ Some a → given ≡ ip → knows ip a ≡ false
-      → IfSome found (λ x. new ≡ record (requested old request number now) { allocations = slice_set old.allocations index (permissions.asking (record { ip = given; numbers = number ∷ [] }) x) })
+      → IfSome found (λ x. new ≡ record (requested old request number now) { allocations = slice_set old.allocations index (permissions.asking (record { ip = given; others = []; numbers = number ∷ [] }) x) })
       → IfSome found (λ x. new ≡ record (requested old request number now) { allocations = slice_set old.allocations index (permission_beside ip number x) })
   unfolding permission_beside
   beside_requested None given some same is after = tt
   beside_requested (Some x) given some same is after =
       after ∙ ap (λ (y : Allocation). record (requested old request number now) { allocations = slice_set old.allocations index y })
-      (ap (λ (i : IpAddr). permissions.asking (record { ip = i; numbers = number ∷ [] }) x) same ∙ sym (one_more x (Prim.cc some)))
+      (ap (λ (i : IpAddr). permissions.asking (record { ip = i; others = []; numbers = number ∷ [] }) x) same ∙ sym (one_more x (Prim.cc some)))
     where
-      one_more : (x : Allocation) → x ≡ a → permission_beside ip number x ≡ permissions.asking (record { ip = ip; numbers = number ∷ [] }) x
+      one_more : (x : Allocation) → x ≡ a → permission_beside ip number x ≡ permissions.asking (record { ip = ip; others = []; numbers = number ∷ [] }) x
       one_more x alike = rw (alike, is) refl
 
 -- ---- a channel, and then the permission

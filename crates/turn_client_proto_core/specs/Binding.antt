@@ -68,7 +68,7 @@ bind_refused_in (Some a) transport peer now p =
 -- requested already.
 unfoldable pub permission_beside : IpAddr → (transaction_id : ℕ) → Allocation → Allocation
 permission_beside ip transaction_id a =
-    if knows ip a then a else permissions.asking (record { ip = ip; numbers = transaction_id ∷ [] }) a
+    if knows ip a then a else permissions.asking (record { ip = ip; others = []; numbers = transaction_id ∷ [] }) a
 
 -- The allocation after a channel, and the permission that it needs, were requested by the request `transaction_id`.
 abbrev pub asking_channel : (channel : ℕ) → SocketAddr → (transaction_id : ℕ) → Allocation → Allocation

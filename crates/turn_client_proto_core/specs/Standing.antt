@@ -1,5 +1,5 @@
 -- Handling of messages after the server has allocated (RFC 8656, sections 8.3 and 7.4).
-use Rattle.std.specs.Prelude.{◌≡◌, ℕ, ◌==◌, Bool, true, ◌&&◌, ◌||◌, List, [], ◌++◌, map, Option, Some, None, Result, Ok, Err, if◌then◌else◌}
+use Rattle.std.specs.Prelude.{◌≡◌, ℕ, ◌==◌, Bool, true, ◌&&◌, ◌||◌, List, [], ◌∷◌, ◌++◌, map, Option, Some, None, Result, Ok, Err, if◌then◌else◌}
 use Rattle.std.specs.Bool.{MatchBool}
 use Rattle.std.specs.List.{list_any}
 use Rattle.stun_proto_client.specs.declared.error.LongTermClientAuthError.{LongTermClientAuthError}
@@ -13,7 +13,8 @@ use Rattle.stun_types_wire.specs.Registry.{allocation_mismatch_code}
 use Rattle.stun_types_wire.specs.Types.{class_of, method_of}
 use Rattle.turn_types_attributes.specs.TurnRegistry.{channel_bind_method, connect_method, create_permission_method, refresh_method}
 use Rattle.turn_client_proto_allocation.specs.Refreshing.{ends_by, least_of, renewed}
-use Rattle.turn_client_proto_allocation.specs.PendingRequests.{all_reissued_under, pending_request}
+use Rattle.turn_client_proto_allocation.specs.PendingRequests.{addresses_for, all_reissued_under, pending_request}
+use Rattle.turn_client_proto_allocation.specs.declared.allocation.Allocation.{Allocation}
 use Rattle.turn_client_proto_allocation.specs.declared.pending.PendingRequest.{PendingRequest}
 use Rattle.turn_client_proto_allocation.specs.declared.pending.PendingRequest.TheVariants.{ChannelRenewal, Lifetime, NewChannel, NewConnection, NewPermission, Renewal}
 use Rattle.turn_client_proto_messages.specs.ReportedRequests.{IsLawfulRequest}
@@ -34,20 +35,22 @@ use Rattle.turn_client_proto_core.specs.declared.protocol.Protocol.{Protocol}
 
 -- ---- a challenge
 
--- The request for something that is requested.
-abbrev pub request_for : PendingRequest → TurnRequest
-request_for (Lifetime lifetime) = Refresh lifetime
-request_for (NewChannel transport channel peer) = ChannelBind channel peer
-request_for (ChannelRenewal transport channel peer) = ChannelBind channel peer
-request_for (NewPermission transport ip) = CreatePermission ip
-request_for (Renewal transport ip) = CreatePermission ip
-request_for (NewConnection peer) = Connect peer
+-- The request for something that the request `old` asks for, as it is sent again. One for new permissions names
+-- each address that `old` asks for.
+abbrev pub request_again : PendingRequest → (old : ℕ) → List Allocation → TurnRequest
+request_again (Lifetime lifetime) old allocations = Refresh lifetime
+request_again (NewChannel transport channel peer) old allocations = ChannelBind channel peer
+request_again (ChannelRenewal transport channel peer) old allocations = ChannelBind channel peer
+request_again (NewPermission transport ip) old allocations = CreatePermission (addresses_for old allocations)
+request_again (Renewal transport ip) old allocations = CreatePermission (ip ∷ [])
+request_again (NewConnection peer) old allocations = Connect peer
 
 -- The client after it sent the request `old` again, with `transaction_id`.
 unfoldable pub asks_again : PendingRequest → (old transaction_id now : ℕ) → Protocol → Protocol
-asks_again what old transaction_id now p = record (requested (after_number p) (request_for what) transaction_id now) {
-  allocations = all_reissued_under what old transaction_id p.allocations;
-}
+asks_again what old transaction_id now p =
+    record (requested (after_number p) (request_again what old p.allocations) transaction_id now) {
+      allocations = all_reissued_under what old transaction_id p.allocations;
+    }
 
 -- A challenge is answered by the request, signed anew. The new transaction ID is stored along with the old
 -- one.
@@ -55,7 +58,7 @@ pub record IsSentAgain (what : PendingRequest) (p : Protocol) (bytes : List ℕ)
     : Type 0 where
   pub number : ℕ
   pub is_next : IsNextNumber p number
-  pub lawful : IsLawfulRequest (request_for what)
+  pub lawful : IsLawfulRequest (request_again what (number_at bytes) p.allocations)
   pub outcome : IsHandled (challenged bytes (asks_again what (number_at bytes) number now p)) handled new
 
 -- A challenge is answered if an allocation awaits what its request asks for.

@@ -23,11 +23,11 @@ impl Protocol {
     pub fn ask(
         &mut self,
         transaction_id: TransactionId,
-        request: TurnRequest,
+        request: TurnRequest<'_>,
         now: Instant,
     ) -> Result<(), NoMemory>
         requires unused { IsUnused self.old.agent transaction_id }
-        ensures ok { OnOk result (self.new ≡ requested self.old request transaction_id now) }
+        ensures ok { OnOk result (self.new ≡ requested self.old request.entry transaction_id now) }
         ensures err { OnErr result (self.new ≡ self.old) }
     {
         let here = self.agent.local_addr();
@@ -40,12 +40,12 @@ impl Protocol {
         &mut self,
         from: SocketAddr,
         transaction_id: TransactionId,
-        request: TurnRequest,
+        request: TurnRequest<'_>,
         now: Instant,
     ) -> Result<(), NoMemory>
         requires unused { IsUnused self.old.agent transaction_id }
-        ensures ok { OnOk result (self.new ≡ requested_from from self.old request transaction_id
-            now) }
+        ensures ok { OnOk result (self.new ≡ requested_from from self.old request.entry
+            transaction_id now) }
         ensures err { OnErr result (self.new ≡ self.old) }
     {
         let bytes = self

@@ -126,14 +126,14 @@ impl Protocol {
         &mut self,
         index: usize,
         peer: SocketAddr,
-        request: TurnRequest,
+        request: TurnRequest<'_>,
         transaction_id: TransactionId,
         now: Instant,
     ) -> Result<(), NoMemory>
         requires there { index < length self.old.allocations }
         requires unused { IsUnused self.old.agent transaction_id }
         ensures ok { OnOk result (IfSome (slice_get self.old.allocations index) (λ a. self.new
-            ≡ record (requested self.old request transaction_id now) {
+            ≡ record (requested self.old request.entry transaction_id now) {
               allocations = slice_set self.old.allocations index
                   (permission_beside (socket_ip peer) transaction_id a);
             })) }
@@ -142,7 +142,7 @@ impl Protocol {
         if one::knows(&self.allocations.as_slice()[index], peer.ip()) {
             return self.ask(transaction_id, request, now);
         }
-        self.ask_by(index, peer.ip(), request, transaction_id, now)
+        self.ask_by(index, peer.ip(), &[], request, transaction_id, now)
     }
 
     /// Handles an accepted response to a CHANNEL_BIND (RFC 8656, section 12.3).

@@ -15,6 +15,7 @@ pub mod number;
 pub mod permitting;
 pub mod protocol;
 pub mod receiving;
+mod reporting;
 pub mod speaking;
 pub mod standing;
 pub mod transactions;

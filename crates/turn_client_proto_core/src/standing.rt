@@ -3,11 +3,13 @@
 ghost use Rattle.std.specs.Prelude.{◌≡◌, ℕ, IfOk, OnOk, OnErr, Some, position, true};
 ghost use Rattle.stun_types_wire.specs.Grammar.{number_at};
 ghost use Rattle.turn_client_proto_core.specs.Ending.{IsUnderWay};
-ghost use Rattle.turn_client_proto_core.specs.Numbering.{IsNextNumber};
+ghost use Rattle.turn_client_proto_core.specs.Numbering.{IsNextNumber, IsUnused};
 ghost use Rattle.turn_client_proto_core.specs.Receiving.{GrowsBy, GrowsStanding, IsFollowed};
-ghost use Rattle.turn_client_proto_core.specs.Standing.{IsConnectResponded, IsJudgedStanding, IsRechallenged, IsTakenUp, after_refresh, asks_again, counts, deallocated, is_refreshed, refreshed, request_for};
-ghost use Rattle.turn_client_proto_allocation.specs.PendingRequests.{awaits_reply};
+ghost use Rattle.turn_client_proto_core.specs.Standing.{IsConnectResponded, IsJudgedStanding, IsRechallenged, IsTakenUp, after_refresh, asks_again, counts, deallocated, is_refreshed, refreshed, request_again};
+ghost use Rattle.turn_client_proto_allocation.specs.PendingRequests.{addresses_for, awaits_reply};
 ghost use Rattle.turn_client_proto_messages.specs.ReportedRequests.{IsLawfulRequest};
+ghost use Rattle.turn_client_proto_messages.specs.declared.request.TurnRequest.TheVariants.{CreatePermission};
+ghost use Rattle.turn_client_proto_core.specs.Asking.{requested};
 
 use crate::ending::end;
 use crate::protocol::{Phase, Protocol};
@@ -20,9 +22,12 @@ use stun_types_wire::class::MessageClass;
 use stun_types_wire::registry::ALLOCATION_MISMATCH;
 use stun_types_wire::transaction::TransactionId;
 use turn_client_proto_allocation::allocation::least_of;
-use turn_client_proto_allocation::pending::{PendingRequest, pending_request, reissue_under};
+use turn_client_proto_allocation::pending::{
+    PendingRequest, addresses_for, pending_request, reissue_under,
+};
 use turn_client_proto_connection::reported::answer;
 use turn_client_proto_messages::laws::proof_requests_are_lawful;
+use turn_client_proto_messages::peer_ips::PeerIps;
 use turn_client_proto_messages::reported::{connection_reported, first_code, lifetime_reported};
 use turn_client_proto_messages::request::TurnRequest;
 use turn_types_attributes::registry::{CHANNEL_BIND, CONNECT, CREATE_PERMISSION, REFRESH};
@@ -35,22 +40,6 @@ fn is_refreshed(message: &Message<'_>) -> bool
     match message.class() {
         MessageClass::Error => first_code(message) == Some(ALLOCATION_MISMATCH),
         MessageClass::Success | MessageClass::Request | MessageClass::Indication => true,
-    }
-}
-
-/// Returns the request for something that is requested.
-fn request_for(requested: &PendingRequest) -> TurnRequest
-    ensures { result ≡ request_for requested.now }
-{
-    match requested {
-        PendingRequest::Lifetime(lifetime) => TurnRequest::Refresh(*lifetime),
-        PendingRequest::NewChannel(_, channel, peer)
-        | PendingRequest::ChannelRenewal(_, channel, peer) => {
-            TurnRequest::ChannelBind(channel.number(), *peer)
-        }
-        PendingRequest::NewPermission(_, ip) | PendingRequest::Renewal(_, ip) =>
-            TurnRequest::CreatePermission(*ip),
-        PendingRequest::NewConnection(peer) => TurnRequest::Connect(*peer),
     }
 }
 
@@ -110,14 +99,12 @@ impl Protocol {
     ) -> Result<(), NoMemory>
         requires { position (awaits_reply old) self.old.allocations ≡ Some index }
         ensures ok { OnOk result ((number : ℕ) × IsNextNumber self.old number
-            × IsLawfulRequest (request_for requested)
+            × IsLawfulRequest (request_again requested old self.old.allocations)
             × (self.new ≡ asks_again requested old number now self.old)) }
         ensures err { OnErr result (IsUnderWay self.old self.new) }
     {
         let number = self.generate_id()?;
-        let request = request_for(&requested);
-        proof_requests_are_lawful(&request);
-        self.ask(number, request, now)?;
+        self.ask_same(&requested, old, number, now)?;
         reissue_under(
             self.allocations.as_mut_slice(),
             index,
@@ -126,6 +113,83 @@ impl Protocol {
             number,
         )?;
         Ok(())
+    }
+
+    /// Queues the request `old` for this again, with another transaction ID. With
+    /// `NoMemory`, nothing has changed.
+    fn ask_same(
+        &mut self,
+        what: &PendingRequest,
+        old: TransactionId,
+        transaction_id: TransactionId,
+        now: Instant,
+    ) -> Result<(), NoMemory>
+        requires unused { IsUnused self.old.agent transaction_id }
+        ensures ok { OnOk result (self.new ≡ requested self.old
+            (request_again what.now old self.old.allocations) transaction_id now) }
+        ensures lawful { OnOk result
+            (IsLawfulRequest (request_again what.now old self.old.allocations)) }
+        ensures err { OnErr result (self.new ≡ self.old) }
+    {
+        match what {
+            PendingRequest::Lifetime(lifetime) => {
+                self.ask_lawful(TurnRequest::Refresh(*lifetime), transaction_id, now)
+            }
+            PendingRequest::NewChannel(_, channel, peer)
+            | PendingRequest::ChannelRenewal(_, channel, peer) => {
+                let request = TurnRequest::ChannelBind(channel.number(), *peer);
+                self.ask_lawful(request, transaction_id, now)
+            }
+            PendingRequest::NewPermission(_, _) => self.ask_names(old, transaction_id, now),
+            PendingRequest::Renewal(_, ip) => {
+                let request = TurnRequest::CreatePermission(PeerIps::one(ip));
+                self.ask_lawful(request, transaction_id, now)
+            }
+            PendingRequest::NewConnection(peer) => {
+                self.ask_lawful(TurnRequest::Connect(*peer), transaction_id, now)
+            }
+        }
+    }
+
+    /// Queues a CREATE_PERMISSION for the addresses that the request `old` asks for, with another
+    /// transaction ID. With `NoMemory`, nothing has changed.
+    fn ask_names(
+        &mut self,
+        old: TransactionId,
+        transaction_id: TransactionId,
+        now: Instant,
+    ) -> Result<(), NoMemory>
+        requires unused { IsUnused self.old.agent transaction_id }
+        ensures ok { OnOk result (self.new ≡ requested self.old
+            (CreatePermission (addresses_for old self.old.allocations)) transaction_id now) }
+        ensures lawful { OnOk result
+            (IsLawfulRequest (CreatePermission (addresses_for old self.old.allocations))) }
+        ensures err { OnErr result (self.new ≡ self.old) }
+    {
+        let names = addresses_for(self.alloc, self.allocations.as_slice(), old)?;
+        // It is always `Some`: the request `old` named these addresses already.
+        let Some(ips) = PeerIps::new(names.as_slice()) else {
+            return Err(NoMemory);
+        };
+        self.ask_lawful(TurnRequest::CreatePermission(ips), transaction_id, now)
+    }
+
+    /// Queues a request with this transaction ID, as `ask` does. With `NoMemory`, nothing has
+    /// changed.
+    fn ask_lawful(
+        &mut self,
+        request: TurnRequest<'_>,
+        transaction_id: TransactionId,
+        now: Instant,
+    ) -> Result<(), NoMemory>
+        requires unused { IsUnused self.old.agent transaction_id }
+        ensures ok { OnOk result
+            (self.new ≡ requested self.old request.entry transaction_id now) }
+        ensures lawful { IsLawfulRequest request.entry }
+        ensures err { OnErr result (self.new ≡ self.old) }
+    {
+        proof_requests_are_lawful(&request);
+        self.ask(transaction_id, request, now)
     }
 
     /// Handles a validated request or response.

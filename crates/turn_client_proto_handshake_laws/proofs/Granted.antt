@@ -43,7 +43,7 @@ use Rattle.turn_client_proto_core.specs.declared.protocol.Phase.{Phase}
 use Rattle.turn_client_proto_core.specs.declared.protocol.Phase.TheVariants.{Authenticating}
 use Rattle.turn_client_proto_core.specs.declared.protocol.Protocol.{Protocol}
 use Rattle.turn_client_proto_messages.specs.Judging.{IsJudged}
-use Rattle.turn_client_proto_messages.specs.Granting.{allocations_of, families_without, first_of_each}
+use Rattle.turn_client_proto_messages.specs.Granting.{allocations_of, families_without}
 use Rattle.turn_client_proto_messages.specs.Reporting.{created}
 use Rattle.turn_client_proto_messages.specs.Reported.{relayed_reported}
 use Rattle.turn_client_proto_handshake_laws.specs.Choosing.{Choice, signed_requested, signer_by, standing_by}
@@ -66,7 +66,6 @@ no_challenge bytes is = ap (λ (c : MessageClass). if is_error c && is_challenge
 
 -- The address gives exactly one allocation.
 one_brought : (address : SocketAddr) (transport : TransportType) (lifetime now : ℕ) → allocations_of (family_of_socket address ∷ []) transport lifetime now (address ∷ []) ≡ granted transport address lifetime now ∷ []
-unfolding first_of_each
 one_brought (socket.V4 a) transport lifetime now = refl
 one_brought (socket.V6 a) transport lifetime now = refl
 

@@ -3,6 +3,7 @@
 use Rattle.std.specs.Prelude.{◌==◌, IfSome}
 use Rattle.std.proofs.Common.{◌≡◌, ℕ, ◌<◌, ◌≤◌, ◌^◌, Bool, true, false, if◌then◌else◌, List, [], ◌∷◌, ◌++◌, length, map, Option, Some, None, refl, sym, ap, ◌∙◌, subst, append_assoc, arith}
 use Rattle.std.specs.List.{flat_map}
+use Rattle.std.specs.declared.net.ip_addr.IpAddr.{IpAddr}
 use Rattle.std.proofs.lemmas.List.{append-nil}
 use Rattle.std.specs.Option.{option_map, option_or}
 use Rattle.sha2.proofs.Facts256.{length-sha256}
@@ -37,7 +38,7 @@ use Rattle.turn_client_proto_api.specs.declared.options.RelayedPort.{RelayedPort
 use Rattle.turn_client_proto_api.specs.declared.options.RelayedPort.TheVariants.{Any, Even, EvenAndNextReserved, Reserved}
 use Rattle.turn_client_proto_messages.specs.OwnClaims.{own_claim, returned_list}
 use Rattle.turn_client_proto_messages.specs.ReadTexts.{HasKnownList, HasReadTexts, IsReadChallenge}
-use Rattle.turn_client_proto_messages.specs.Requests.{additional_family, channel_attribute, connection_attribute, described, dont_fragment_attribute, even_port_attribute, families_attributes, families_beside, fingerprint_calls, is_signed, lifetime_attribute, peer_attribute, peer_of, port_attributes, relayed_attributes, request_attributes, request_calls, request_text, request_type, reservation_attribute, software_parts, transport_attribute}
+use Rattle.turn_client_proto_messages.specs.Requests.{additional_family, channel_attribute, connection_attribute, described, dont_fragment_attribute, even_port_attribute, families_attributes, families_beside, fingerprint_calls, is_signed, lifetime_attribute, peer_attribute, peer_of, peers_attributes, port_attributes, relayed_attributes, request_attributes, request_calls, request_text, request_type, reservation_attribute, software_parts, transport_attribute}
 use Rattle.turn_client_proto_messages.specs.ShortTexts.{HasShortTexts, IsShortChallenge}
 use Rattle.turn_client_proto_messages.specs.ReportedRequests.{IsLawfulRequest}
 use Rattle.turn_client_proto_messages.specs.declared.request.TurnRequest.{TurnRequest}
@@ -90,6 +91,11 @@ none_relayed kind families Even free = none_more kind (even_port_attribute false
 none_relayed kind families EvenAndNextReserved free = none_more kind (even_port_attribute true) (families_attributes families) free.even_port (none_requested kind families free)
 none_relayed kind families (Reserved token) free = none_more kind (reservation_attribute token) [] free.reservation (none_here kind)
 
+none_in_peers : (kind number : ℕ) (ips : List IpAddr) → IsFree kind → last_of_kind kind (peers_attributes number ips) ≡ None
+none_in_peers kind number [] free = none_here kind
+none_in_peers kind number (ip ∷ ips) free =
+    none_more kind (peer_attribute number (peer_of ip)) (peers_attributes number ips) free.peer (none_in_peers kind number ips free)
+
 none_own : (kind : ℕ) (request : TurnRequest) (number : ℕ) → IsFree kind → last_of_kind kind (request_attributes request number) ≡ None
 none_own kind (FirstAllocate transport families options) number free =
     none_more kind (lifetime_attribute options.lifetime) (transport_attribute transport ∷ dont_fragment_attribute ∷ relayed_attributes families options) free.lifetime
@@ -99,7 +105,7 @@ none_own kind (Allocate transport families options) number free =
     none_more kind (transport_attribute transport) (lifetime_attribute options.lifetime ∷ relayed_attributes families options) free.transport
     (none_more kind (lifetime_attribute options.lifetime) (relayed_attributes families options) free.lifetime (none_relayed kind families options.port free))
 none_own kind (Refresh lifetime) number free = none_more kind (lifetime_attribute lifetime) [] free.lifetime (none_here kind)
-none_own kind (CreatePermission ip) number free = none_more kind (peer_attribute number (peer_of ip)) [] free.peer (none_here kind)
+none_own kind (CreatePermission ips) number free = none_in_peers kind number ips free
 none_own kind (ChannelBind channel peer) number free =
     none_more kind (channel_attribute channel) (peer_attribute number peer ∷ []) free.channel (none_more kind (peer_attribute number peer) [] free.peer (none_here kind))
 none_own kind (Connect peer) number free = none_more kind (peer_attribute number peer) [] free.peer (none_here kind)

@@ -88,7 +88,6 @@ fails_for_likes p like x alike fails y =
 
 first_passing : {X : Type 0} (p : X → Bool) (like : X → X → Bool) → ((x y : X) → like x y ≡ true → p y ≡ p x) → (all : List X)
     → filter p (first_of_each like all) ≡ first_of_each like (filter p all)
-unfolding first_of_each
 first_passing {X = X} p like alike [] = refl
 first_passing {X = X} p like alike (x ∷ rest) =
     let others = first_passing p like alike rest in
@@ -144,7 +143,7 @@ granted_after families transport lifetime now before addresses =
 
 one_by_one : (families : List AddressFamily) (transport : TransportType) (lifetime now : ℕ) (before : List Allocation) (addresses : List SocketAddr)
     → fold (with_address families transport lifetime now) before addresses ≡ granted_after families transport lifetime now before addresses
-unfolding first_of_each with_address
+unfolding with_address
 one_by_one families transport lifetime now before [] = sym (append-nil before)
 one_by_one families transport lifetime now before (x ∷ rest) =
     let grant : SocketAddr → Allocation = λ a. granted transport a lifetime now in

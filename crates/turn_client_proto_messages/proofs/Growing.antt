@@ -1,5 +1,6 @@
 -- A message to which attributes are added one after another.
-use Rattle.std.proofs.Common.{◌≡◌, ℕ, ◌+◌, ◌≤◌, List, [], ◌∷◌, ◌++◌, length, None, refl, sym, ap, ◌∙◌, subst, arith}
+use Rattle.std.proofs.Common.{◌≡◌, ℕ, ◌+◌, ◌≤◌, List, [], ◌∷◌, ◌++◌, length, None, refl, sym, ap, ◌∙◌, subst, append_assoc, arith}
+use Rattle.std.specs.Prelude.{OnOk, Result, Ok, Err}
 use Rattle.std.specs.List.{AllByRecursion}
 use Rattle.std.proofs.lemmas.Bool.{le-ltb}
 use Rattle.std.proofs.lemmas.List.{append-nil}
@@ -64,6 +65,25 @@ grown_none draft o = record {
   grown = omega arith;
   following = λ mtype number attributes before. subst (λ (all : List Attr). IsUnsigned mtype number all draft) (sym (append-nil attributes)) before;
 }
+
+-- Others were added after one.
+pub grown_more : (a : Attr) (rest : List Attr) (old middle new : Draft) → IsGrown (a ∷ []) old middle → IsGrown rest middle new → IsGrown (a ∷ rest) old new
+grown_more a rest old middle new one more =
+    let first = one.grown in
+    let second = more.grown in
+    record {
+      is_open = more.is_open;
+      grown = omega (arith, first, second);
+      following = λ mtype number attributes before.
+          subst (λ (all : List Attr). IsUnsigned mtype number all new) (append_assoc attributes (a ∷ []) rest)
+          (more.following mtype number (attributes ++ a ∷ []) (one.following mtype number attributes before));
+    }
+
+-- A call added others after one.
+pub grown_by : {X E : Type 0} (result : Result X E) (a : Attr) (rest all : List Attr) (old middle new : Draft) → all ≡ a ∷ rest → IsGrown (a ∷ []) old middle
+    → OnOk result (IsGrown rest middle new) → OnOk result (IsGrown all old new)
+grown_by (Ok x) a rest all old middle new whole one more = rw whole (grown_more a rest old middle new one more)
+grown_by (Err e) a rest all old middle new whole one more = tt
 
 -- Attributes with equal values may be exchanged.
 pub grown_as : (kind : ℕ) (value other : List ℕ) (old new : Draft) → value ≡ other → IsGrown (attr_of kind value ∷ []) old new → IsGrown (attr_of kind other ∷ []) old new

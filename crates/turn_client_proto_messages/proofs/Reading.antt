@@ -1,6 +1,7 @@
 -- The bytes of a request are decoded as the request.
 use Rattle.std.proofs.Common.{◌≡◌, ℕ, ◌+◌, ◌*◌, ◌<◌, ◌≤◌, ◌^◌, Bool, true, false, if◌then◌else◌, List, [], ◌∷◌, ◌++◌, length, map, Option, Some, None, refl, sym, ap, ◌∙◌, subst, append_assoc, arith}
 use Rattle.std.specs.List.{AllByRecursion, flat_map}
+use Rattle.std.specs.declared.net.ip_addr.IpAddr.{IpAddr}
 use Rattle.std.proofs.lemmas.List.{append-nil}
 use Rattle.stun_types_write.specs.Adding.{add_refusal}
 use Rattle.stun_types_wire.specs.Attributes.{Attr, attr_size}
@@ -25,7 +26,7 @@ use Rattle.stun_proto_client.specs.Client.{Client}
 use Rattle.stun_proto_client.specs.ClientSigning.{addition_for}
 use Rattle.turn_runs.specs.StunWire.{decoded_by}
 use Rattle.turn_client_proto_messages.specs.Composing.{IsOpen, IsSmall}
-use Rattle.turn_client_proto_messages.specs.Requests.{additional_family, addition_of, authentication_of, families_attributes, families_beside, fingerprint_calls, is_signed, port_attributes, request_attributes, request_calls, request_text, request_type}
+use Rattle.turn_client_proto_messages.specs.Requests.{additional_family, addition_of, authentication_of, families_attributes, families_beside, fingerprint_calls, is_signed, peers_attributes, port_attributes, request_attributes, request_calls, request_text, request_type}
 use Rattle.turn_client_proto_api.specs.declared.options.RelayedPort.{RelayedPort}
 use Rattle.turn_client_proto_api.specs.declared.options.RelayedPort.TheVariants.{Any, Even, EvenAndNextReserved, Reserved}
 use Rattle.turn_client_proto_messages.specs.ShortTexts.{HasShortTexts}
@@ -58,11 +59,15 @@ relayed_small families Even = (even_port_small false, requested_is_small familie
 relayed_small families EvenAndNextReserved = (even_port_small true, requested_is_small families)
 relayed_small families (Reserved token) = (reservation_small token, tt)
 
+peers_small : (number : ℕ) (ips : List IpAddr) → AllByRecursion IsSmall (peers_attributes number ips)
+peers_small number [] = tt
+peers_small number (ip ∷ ips) = (peer_small number _, peers_small number ips)
+
 pub attributes_small : (request : TurnRequest) (number : ℕ) → AllByRecursion IsSmall (request_attributes request number)
 attributes_small (FirstAllocate transport families options) number = (lifetime_small options.lifetime, (transport_small _, (dont_fragment_small, relayed_small families options.port)))
 attributes_small (Allocate transport families options) number = (transport_small _, (lifetime_small options.lifetime, relayed_small families options.port))
 attributes_small (Refresh lifetime) number = (lifetime_small lifetime, tt)
-attributes_small (CreatePermission ip) number = (peer_small number _, tt)
+attributes_small (CreatePermission ips) number = peers_small number ips
 attributes_small (ChannelBind channel peer) number = (channel_small channel, (peer_small number _, tt))
 attributes_small (Connect peer) number = (peer_small number _, tt)
 attributes_small (ConnectionBind connection) number = (connection_small connection, tt)
@@ -84,11 +89,15 @@ relayed_few families Even = let few = requested_few families in omega (arith, fe
 relayed_few families EvenAndNextReserved = let few = requested_few families in omega (arith, few)
 relayed_few families (Reserved token) = omega arith
 
-pub attributes_few : (request : TurnRequest) (number : ℕ) → IsLawfulRequest request → length (request_attributes request number) ≤ 6
+peers_few : (number : ℕ) (ips : List IpAddr) → length (peers_attributes number ips) ≤ length ips
+peers_few number [] = omega arith
+peers_few number (ip ∷ ips) = let rest = peers_few number ips in omega (arith, rest)
+
+pub attributes_few : (request : TurnRequest) (number : ℕ) → IsLawfulRequest request → length (request_attributes request number) ≤ 32
 attributes_few (FirstAllocate transport families options) number lawful = let few = relayed_few families options.port in let two = lawful.few in omega (arith, few, two)
 attributes_few (Allocate transport families options) number lawful = let few = relayed_few families options.port in let two = lawful.few in omega (arith, few, two)
 attributes_few (Refresh lifetime) number lawful = omega arith
-attributes_few (CreatePermission ip) number lawful = omega arith
+attributes_few (CreatePermission ips) number lawful = let few = peers_few number ips in let most = lawful.few in omega (arith, few, most)
 attributes_few (ChannelBind channel peer) number lawful = omega arith
 attributes_few (Connect peer) number lawful = omega arith
 attributes_few (ConnectionBind connection) number lawful = omega arith
@@ -135,7 +144,7 @@ header_open : (kind number : ℕ) → kind < 2 ^ 14 → IsOpen (header_alone kin
 header_open kind number k = record { started = text_started kind number k; ended = refl; limit = refl }
 
 -- A message that was started and took short attributes, a short addition and maybe FINGERPRINT.
-pub all_written : (kind number : ℕ) (attributes : List Attr) (made : Addition) (marks : Bool) → kind < 2 ^ 14 → AllByRecursion IsSmall attributes → length attributes ≤ 6 → IsShortAddition made
+pub all_written : (kind number : ℕ) (attributes : List Attr) (made : Addition) (marks : Bool) → kind < 2 ^ 14 → AllByRecursion IsSmall attributes → length attributes ≤ 32 → IsShortAddition made
     → IsWritten kind number (map Ordinary attributes ++ (calls_of made ++ fingerprint_calls marks)) (after_calls (map Ordinary attributes ++ (calls_of made ++ fingerprint_calls marks)) (header_alone kind number))
 all_written kind number attributes made marks k small few short =
     let header = header_alone kind number in
@@ -243,7 +252,7 @@ pub type_small : (request : TurnRequest) → request_type request < 2 ^ 14
 type_small (FirstAllocate transport families options) = omega arith
 type_small (Allocate transport families options) = omega arith
 type_small (Refresh lifetime) = omega arith
-type_small (CreatePermission ip) = omega arith
+type_small (CreatePermission ips) = omega arith
 type_small (ChannelBind channel peer) = omega arith
 type_small (Connect peer) = omega arith
 type_small (ConnectionBind connection) = omega arith
@@ -251,7 +260,7 @@ type_small (ConnectionBind connection) = omega arith
 -- ---- what is read
 
 -- A message of short attributes, a short addition and maybe FINGERPRINT is decoded as it was written.
-marked_read : (kind number : ℕ) (attributes : List Attr) (made : Addition) (marks : Bool) → kind < 2 ^ 14 → number < 2 ^ 96 → AllByRecursion IsSmall attributes → length attributes ≤ 6 → IsShortAddition made
+marked_read : (kind number : ℕ) (attributes : List Attr) (made : Addition) (marks : Bool) → kind < 2 ^ 14 → number < 2 ^ 96 → AllByRecursion IsSmall attributes → length attributes ≤ 32 → IsShortAddition made
     → IsReadAs kind number (attributes_of kind number (map Ordinary attributes ++ (calls_of made ++ fingerprint_calls marks)))
     (message_text kind number (attributes_of kind number (map Ordinary attributes ++ (calls_of made ++ fingerprint_calls marks))))
 marked_read kind number attributes made marks k n small few short =
@@ -263,7 +272,7 @@ marked_read kind number attributes made marks k n small few short =
     subst (λ (b : List ℕ). IsReadAs kind number (attributes_of kind number calls) b) (written_text kind number calls draft written) (calls_read kind number calls draft k n each written)
 
 -- So is one without FINGERPRINT.
-pub whole_read : (kind number : ℕ) (attributes : List Attr) (made : Addition) → kind < 2 ^ 14 → number < 2 ^ 96 → AllByRecursion IsSmall attributes → length attributes ≤ 6 → IsShortAddition made
+pub whole_read : (kind number : ℕ) (attributes : List Attr) (made : Addition) → kind < 2 ^ 14 → number < 2 ^ 96 → AllByRecursion IsSmall attributes → length attributes ≤ 32 → IsShortAddition made
     → IsReadAs kind number (attributes_of kind number (map Ordinary attributes ++ calls_of made)) (message_text kind number (attributes_of kind number (map Ordinary attributes ++ calls_of made)))
 whole_read kind number attributes made k n small few short =
     subst (λ (calls : List Add). IsReadAs kind number (attributes_of kind number (map Ordinary attributes ++ calls)) (message_text kind number (attributes_of kind number (map Ordinary attributes ++ calls))))

@@ -1,7 +1,8 @@
 -- What is decoded from the attributes of a request.
-use Rattle.std.proofs.Common.{◌≡◌, ℕ, ◌<◌, ◌^◌, ◌/◌, ◌%◌, List, [], ◌∷◌, ◌++◌, Option, Some, None, refl, ap, ◌∙◌, arith}
+use Rattle.std.proofs.Common.{◌≡◌, ℕ, ◌<◌, ◌^◌, ◌/◌, ◌%◌, List, [], ◌∷◌, ◌++◌, map, Option, Some, None, refl, ap, ◌∙◌, arith}
 use Rattle.std.proofs.lemmas.Grind.{common_steps}
-use Rattle.std.specs.List.{filter, filter_map, find}
+use Rattle.std.specs.List.{AllByRecursion, filter, filter_map, find}
+use Rattle.std.specs.declared.net.ip_addr.IpAddr.{IpAddr}
 use Rattle.std.specs.Option.{option_and_then}
 use Rattle.std.specs.declared.net.socket_addr.SocketAddr.{SocketAddr}
 use Rattle.byteorder.specs.Endian.{big_bytes, big_number}
@@ -18,8 +19,8 @@ use Rattle.turn_types_attributes.specs.TurnRegistry.{channel_number_kind, connec
 use Rattle.turn_types_peer.specs.TurnShows.{address_in, number_in, unless_refused}
 use Rattle.turn_runs.specs.Messages.{Message}
 use Rattle.turn_runs.specs.StunWire.{protocol_transport, decoded_by}
-use Rattle.turn_client_proto_messages.specs.Requests.{channel_attribute, connection_attribute, dont_fragment_attribute, lifetime_attribute, peer_attribute, peer_of, relayed_attributes, request_attributes, request_type, transport_attribute}
-use Rattle.turn_client_proto_messages.specs.ReportedRequests.{CanBeRead, IsLawfulRequest, IsReadBack, reported_request}
+use Rattle.turn_client_proto_messages.specs.Requests.{channel_attribute, connection_attribute, dont_fragment_attribute, lifetime_attribute, peer_attribute, peer_of, peers_attributes, relayed_attributes, request_attributes, request_type, transport_attribute}
+use Rattle.turn_client_proto_messages.specs.ReportedRequests.{CanBeRead, IsLawfulIp, IsLawfulRequest, IsReadBack, reported_request}
 use Rattle.turn_client_proto_messages.specs.declared.request.TurnRequest.{TurnRequest}
 use Rattle.turn_client_proto_messages.specs.declared.request.TurnRequest.TheVariants.{FirstAllocate, Allocate, Refresh, CreatePermission, ChannelBind, Connect, ConnectionBind}
 use Rattle.turn_client_proto_messages.proofs.Beside.{AreOther, is_of, no_channel, no_connection, no_lifetime, no_peer, no_relayed, no_transport, other_both, relayed_other}
@@ -111,6 +112,26 @@ report_peer number peer rest read other = record {
   connection_is = ap (number_in 4) (no_connection rest other).found;
 }
 
+report_peers : (number : ℕ) (ips : List IpAddr) (rest : List Attr) → AllByRecursion IsLawfulIp ips → AreOther rest → Report number (peers_attributes number ips ++ rest) None None (map peer_of ips) None None
+report_peers number [] rest each other = record {
+  transport_is = ap (λ a. option_and_then protocol_transport (number_in 1 a)) (no_transport rest other).found;
+  relayed_is = ap (filter_map (address_in number)) (no_relayed rest other).stored;
+  lifetime_is = ap (number_in 4) (no_lifetime rest other).found;
+  peers_is = ap (filter_map (address_in number)) (no_peer rest other).stored;
+  channel_is = ap (number_in 2) (no_channel rest other).found;
+  connection_is = ap (number_in 4) (no_connection rest other).found;
+}
+report_peers number (ip ∷ ips) rest each other =
+    let more = report_peers number ips rest each.1 other in
+    record {
+      transport_is = more.transport_is;
+      relayed_is = more.relayed_is;
+      lifetime_is = more.lifetime_is;
+      peers_is = rw (ip_read ip number each.0) (ap (λ (l : List SocketAddr). peer_of ip ∷ l) more.peers_is);
+      channel_is = more.channel_is;
+      connection_is = more.connection_is;
+    }
+
 report_channel : (number channel : ℕ) (peer : SocketAddr) (rest : List Attr) → channel < 2 ^ 16 → IsReadBack number peer → AreOther rest
     → Report number (channel_attribute channel ∷ peer_attribute number peer ∷ rest) None None (peer ∷ []) (Some channel) None
 report_channel number channel peer rest small read other = record {
@@ -175,8 +196,8 @@ request_reported (Allocate transport families options) number rest lawful read o
     (report_allocate number options.lifetime transport (relayed_attributes families options ++ rest) lawful.fits (other_both (relayed_attributes families options) rest (relayed_other families options.port) other))
 request_reported (Refresh lifetime) number rest lawful read other =
     reported_made (request_type (Refresh lifetime)) number (lifetime_attribute lifetime ∷ rest) None (Some lifetime) [] None None (report_lifetime number lifetime rest lawful other)
-request_reported (CreatePermission ip) number rest lawful read other =
-    reported_made (request_type (CreatePermission ip)) number (peer_attribute number (peer_of ip) ∷ rest) None None (peer_of ip ∷ []) None None (report_peer number (peer_of ip) rest (ip_read ip number lawful) other)
+request_reported (CreatePermission ips) number rest lawful read other =
+    reported_made (request_type (CreatePermission ips)) number (peers_attributes number ips ++ rest) None None (map peer_of ips) None None (report_peers number ips rest lawful.each other)
 request_reported (ChannelBind channel peer) number rest lawful read other =
     reported_made (request_type (ChannelBind channel peer)) number (channel_attribute channel ∷ peer_attribute number peer ∷ rest) None None (peer ∷ []) (Some channel) None (report_channel number channel peer rest lawful read other)
 request_reported (Connect peer) number rest lawful read other =

@@ -41,7 +41,7 @@ marks_no_integrity true = (tt, tt)
 marks_no_integrity false = tt
 
 -- A message of short attributes and short parts, maybe with FINGERPRINT, is valid under the key that signs it.
-whole_right : (kind number : ℕ) (attributes : List Attr) (parts : List PartOf) (key : Key) (marks : Bool) → kind < 2 ^ 14 → number < 2 ^ 96 → AllByRecursion IsSmall attributes → length attributes ≤ 6
+whole_right : (kind number : ℕ) (attributes : List Attr) (parts : List PartOf) (key : Key) (marks : Bool) → kind < 2 ^ 14 → number < 2 ^ 96 → AllByRecursion IsSmall attributes → length attributes ≤ 32
     → IsShortAddition (record { parts = parts; signer = Some key })
     → IsRight (message_text kind number (attributes_of kind number (map Ordinary attributes ++ (calls_of (record { parts = parts; signer = Some key }) ++ fingerprint_calls marks)))) key
 whole_right kind number attributes parts key marks k n small few short =

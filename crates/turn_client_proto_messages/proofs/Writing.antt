@@ -36,7 +36,7 @@ unfolding message_text header_text
 text_class (FirstAllocate transport families options) number attributes = refl
 text_class (Allocate transport families options) number attributes = refl
 text_class (Refresh lifetime) number attributes = refl
-text_class (CreatePermission ip) number attributes = refl
+text_class (CreatePermission ips) number attributes = refl
 text_class (ChannelBind channel peer) number attributes = refl
 text_class (Connect peer) number attributes = refl
 text_class (ConnectionBind connection) number attributes = refl

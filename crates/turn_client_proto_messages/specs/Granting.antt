@@ -5,6 +5,7 @@ use Rattle.std.specs.declared.net.socket_addr.SocketAddr.{SocketAddr}
 use Rattle.stun_types_base.specs.Family.{family_of_socket}
 use Rattle.stun_types_base.specs.declared.family.AddressFamily.{AddressFamily}
 use Rattle.stun_types_base.specs.declared.transport.TransportType.{TransportType}
+pub use Rattle.turn_client_proto_allocation.specs.Firsts.{first_of_each}
 use Rattle.turn_client_proto_allocation.specs.Refreshing.{granted}
 use Rattle.turn_client_proto_allocation.specs.declared.allocation.Allocation.{Allocation}
 use Rattle.turn_client_proto_api.specs.Families.{is_same_family}
@@ -16,11 +17,6 @@ are_of_one_family one other = is_same_family (family_of_socket one) (family_of_s
 -- The family of the address is requested.
 abbrev pub is_wanted : List AddressFamily → SocketAddr → Bool
 is_wanted families address = list_any (is_same_family (family_of_socket address)) families
-
--- The elements that are not like an earlier one.
-unfoldable pub first_of_each : {X : Type 0} → (X → X → Bool) → List X → List X
-first_of_each like [] = []
-first_of_each like (x ∷ rest) = x ∷ filter (λ y. not (like x y)) (first_of_each like rest)
 
 -- The allocations for these addresses: one for the first address of each requested family.
 abbrev pub allocations_of : List AddressFamily → TransportType → ℕ → ℕ → List SocketAddr → List Allocation

@@ -2,6 +2,7 @@ pub mod Answers
 pub mod Composing
 pub mod Judging
 pub mod OwnClaims
+pub mod Peers
 pub mod ReadTexts
 pub mod Requests
 pub mod ShortTexts

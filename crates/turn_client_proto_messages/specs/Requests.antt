@@ -41,7 +41,7 @@ abbrev pub request_method : TurnRequest → ℕ
 request_method (FirstAllocate transport families options) = allocate_method
 request_method (Allocate transport families options) = allocate_method
 request_method (Refresh lifetime) = refresh_method
-request_method (CreatePermission ip) = create_permission_method
+request_method (CreatePermission ips) = create_permission_method
 request_method (ChannelBind channel peer) = channel_bind_method
 request_method (Connect peer) = connect_method
 request_method (ConnectionBind connection) = connection_bind_method
@@ -121,6 +121,10 @@ abbrev pub peer_of : IpAddr → SocketAddr
 peer_of (Ip.V4 address) = Socket.V4 (record { ip = address; port = 0 })
 peer_of (Ip.V6 address) = Socket.V6 (record { ip = address; port = 0; flowinfo = 0; scope_id = 0 })
 
+-- XOR-PEER-ADDRESS for each of the IP addresses, in order.
+abbrev pub peers_attributes : ℕ → List IpAddr → List Attr
+peers_attributes transaction_id ips = map (λ ip. peer_attribute transaction_id (peer_of ip)) ips
+
 -- CHANNEL-NUMBER.
 abbrev pub channel_attribute : ℕ → Attr
 channel_attribute channel = record { kind = channel_number_kind; value = channel_value channel }
@@ -139,7 +143,7 @@ request_attributes (FirstAllocate transport families options) transaction_id =
 request_attributes (Allocate transport families options) transaction_id =
     transport_attribute transport ∷ lifetime_attribute options.lifetime ∷ relayed_attributes families options
 request_attributes (Refresh lifetime) transaction_id = lifetime_attribute lifetime ∷ []
-request_attributes (CreatePermission ip) transaction_id = peer_attribute transaction_id (peer_of ip) ∷ []
+request_attributes (CreatePermission ips) transaction_id = peers_attributes transaction_id ips
 request_attributes (ChannelBind channel peer) transaction_id = channel_attribute channel ∷ peer_attribute transaction_id peer ∷ []
 request_attributes (Connect peer) transaction_id = peer_attribute transaction_id peer ∷ []
 request_attributes (ConnectionBind connection) transaction_id = connection_attribute connection ∷ []

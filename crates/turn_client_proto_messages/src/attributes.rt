@@ -1,14 +1,14 @@
 //! Starting a message and adding attributes to it.
 
-ghost use Rattle.std.specs.Prelude.{◌≡◌, ◌+◌, ◌≤◌, ◌<◌, ◌^◌, [], ◌∷◌, length, IfOk, OnOk};
+ghost use Rattle.std.specs.Prelude.{◌≡◌, ◌+◌, ◌*◌, ◌≤◌, ◌<◌, ◌^◌, [], ◌∷◌, length, IfOk, OnOk};
 ghost use Rattle.stun_types_write.specs.Adding.{attr_of};
 ghost use Rattle.stun_types_write.specs.Lent.{own_draft};
 ghost use Rattle.stun_types_wire.specs.Types.{type_of};
 ghost use Rattle.turn_client_proto_messages.specs.Composing.{IsGrown, IsOpen, IsSmall, IsUnsigned, most_before, most_per_attribute};
-ghost use Rattle.turn_client_proto_messages.specs.Requests.{channel_attribute, connection_attribute, dont_fragment_attribute, even_port_attribute, families_attributes, families_beside, lifetime_attribute, peer_attribute, port_attributes, protocol_of, reservation_attribute, transport_attribute};
+ghost use Rattle.turn_client_proto_messages.specs.Requests.{channel_attribute, connection_attribute, dont_fragment_attribute, even_port_attribute, families_attributes, families_beside, lifetime_attribute, peer_attribute, peer_of, peers_attributes, port_attributes, protocol_of, reservation_attribute, transport_attribute};
 
 use std::alloc::Global;
-use std::net::SocketAddr;
+use std::net::{IpAddr, SocketAddr};
 use stun_types_add::ext::add_as;
 use stun_types_base::family::AddressFamily;
 use stun_types_base::memory::NoMemory;
@@ -227,6 +227,34 @@ pub(crate) fn add_peer(
 {
     let peer = XorPeerAddress::new(peer, transaction_id);
     add(draft, &peer, &peer)
+}
+
+/// Adds an XOR-PEER-ADDRESS for each of the IP addresses, in order (RFC 8656, section 18.3). Fails
+/// with `NoMemory` if memory runs out.
+pub(crate) fn add_peers(
+    draft: &mut MessageWriteVec,
+    transaction_id: TransactionId,
+    ips: &[IpAddr],
+) -> Result<(), NoMemory>
+    requires is_open { IsOpen (own_draft draft.old) }
+    requires room { length (own_draft draft.old).bytes + most_per_attribute * length ips.now
+        ≤ most_before }
+    ensures { OnOk result (IsGrown (peers_attributes transaction_id ips.now)
+        (own_draft draft.old) (own_draft draft.new)) }
+{
+    let Some((first, others)) = ips.split_first() else {
+        return Ok(());
+    };
+    add_peer(draft, transaction_id, peer_of(*first))?;
+    add_peers(draft, transaction_id, others)
+}
+
+/// Returns the peer with this IP address and a port that the server ignores (RFC 8656, section
+/// 10.1).
+fn peer_of(ip: IpAddr) -> SocketAddr
+    ensures { result ≡ peer_of ip }
+{
+    SocketAddr::new(ip, 0)
 }
 
 /// Adds CHANNEL-NUMBER (RFC 8656, section 18.1). Fails with `NoMemory` if memory runs out.

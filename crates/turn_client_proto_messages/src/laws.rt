@@ -2,6 +2,7 @@
 //! do nothing; each contract is a theorem.
 
 ghost use Rattle.std.specs.Prelude.{◌≡◌, ◌≤◌, ◌<◌, ◌^◌, ℕ, List, false, true, Some, None, length, IfSome, Result, MatchResult};
+ghost use Rattle.std.specs.List.{AllByRecursion};
 ghost use Rattle.std.specs.Net.Socket.{IsSocketAddr, socket_flowinfo, socket_scope_id};
 ghost use Rattle.std.specs.declared.net.socket_addr.SocketAddr.{SocketAddr};
 ghost use Rattle.stun_types_add.specs.Calls.{attributes_of};
@@ -21,7 +22,7 @@ ghost use Rattle.turn_client_proto_messages.specs.OwnClaims.{own_claim, returned
 ghost use Rattle.turn_client_proto_messages.specs.ReadTexts.{HasReadTexts};
 ghost use Rattle.turn_client_proto_messages.specs.Requests.{is_signed, request_calls, request_text, request_type};
 ghost use Rattle.turn_client_proto_messages.specs.ShortTexts.{HasShortTexts};
-ghost use Rattle.turn_client_proto_messages.specs.ReportedRequests.{CanBeRead, IsLawfulRequest, IsReadBack, reported_request};
+ghost use Rattle.turn_client_proto_messages.specs.ReportedRequests.{CanBeRead, IsLawfulIp, IsLawfulRequest, IsReadBack, reported_request};
 ghost use Rattle.turn_client_proto_messages.specs.declared.request.TurnRequest.{TurnRequest as Request};
 
 use crate::request::TurnRequest;
@@ -31,9 +32,10 @@ use turn_client_proto_api::config::TurnConfig;
 use turn_client_proto_api::options::AllocateOptions;
 
 /// Each request meets `IsLawfulRequest`, which the other theorems presume: it has at most two
-/// families, its numbers fit their bits, and an IP has its octets or segments.
+/// families and at most `MOST_PEER_IPS` addresses, its numbers fit their bits, and an IP has its
+/// octets or segments.
 #[tactic(auto, using(crate::proofs::Families::two_families))]
-pub fn proof_requests_are_lawful(request: &TurnRequest)
+pub fn proof_requests_are_lawful(request: &TurnRequest<'_>)
     ensures { IsLawfulRequest request.now }
 {
     match request {
@@ -48,18 +50,37 @@ pub fn proof_requests_are_lawful(request: &TurnRequest)
         TurnRequest::Refresh(lifetime) => {
             let _lifetime = *lifetime;
         }
-        TurnRequest::CreatePermission(IpAddr::V4(ip)) => {
-            let _octets = ip.octets();
-        }
-        TurnRequest::CreatePermission(IpAddr::V6(ip)) => {
-            let _segments = ip.segments();
-        }
+        TurnRequest::CreatePermission(peers) => proof_ips_are_lawful(peers.as_slice()),
         TurnRequest::ChannelBind(channel, _) => {
             let _channel = *channel;
         }
         TurnRequest::Connect(_) => {}
         TurnRequest::ConnectionBind(connection) => {
             let _connection = *connection;
+        }
+    }
+}
+
+/// Each of the IPs has its octets or segments.
+fn proof_ips_are_lawful(ips: &[IpAddr])
+    ensures { AllByRecursion IsLawfulIp ips.now }
+{
+    if let Some((first, others)) = ips.split_first() {
+        proof_ip_is_lawful(*first);
+        proof_ips_are_lawful(others);
+    }
+}
+
+/// An IP has its octets or segments.
+fn proof_ip_is_lawful(ip: IpAddr)
+    ensures { IsLawfulIp ip }
+{
+    match ip {
+        IpAddr::V4(v4) => {
+            let _octets = v4.octets();
+        }
+        IpAddr::V6(v6) => {
+            let _segments = v6.segments();
         }
     }
 }

@@ -7,6 +7,7 @@ mod attributes;
 pub mod granting;
 pub mod laws;
 pub mod noted;
+pub mod peer_ips;
 pub mod queued;
 pub mod reported;
 pub mod reporting;

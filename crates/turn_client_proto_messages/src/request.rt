@@ -10,9 +10,10 @@ ghost use Rattle.turn_client_proto_messages.specs.Composing.{IsDescribed, IsOpen
 ghost use Rattle.turn_client_proto_messages.specs.Requests.{fingerprint_calls, is_signed, request_text};
 ghost use Rattle.turn_client_proto_messages.specs.ShortTexts.{HasShortTexts};
 
+use crate::peer_ips::PeerIps;
 use crate::unsigned::write_unsigned;
 use std::alloc::Global;
-use std::net::{IpAddr, SocketAddr};
+use std::net::SocketAddr;
 use stun_proto_client::long_term::LongTermClientAuth;
 use stun_types_add::ext::{MessageWriteExt, add_as};
 use stun_types_auth_attributes::software::Software;
@@ -26,8 +27,8 @@ use turn_client_proto_api::families::RequestedFamilies;
 use turn_client_proto_api::options::AllocateOptions;
 
 /// A request of a client.
-#[derive(Clone, Copy, Debug, PartialEq, Eq)]
-pub enum TurnRequest {
+#[derive(Debug, Drop)]
+pub enum TurnRequest<'a> {
     /// ALLOCATE with this transport, these address families and options, before any challenge (RFC
     /// 8656, section 7.1). It is not signed.
     FirstAllocate(TransportType, RequestedFamilies, AllocateOptions),
@@ -36,8 +37,8 @@ pub enum TurnRequest {
     Allocate(TransportType, RequestedFamilies, AllocateOptions),
     /// REFRESH with this lifetime in seconds (RFC 8656, section 8.1).
     Refresh(u32),
-    /// CREATE_PERMISSION for this IP address (RFC 8656, section 10.1).
-    CreatePermission(IpAddr),
+    /// CREATE_PERMISSION for these IP addresses (RFC 8656, section 10.1).
+    CreatePermission(PeerIps<'a>),
     /// CHANNEL_BIND of this channel number to this peer (RFC 8656, section 12.1).
     ChannelBind(u16, SocketAddr),
     /// CONNECT to this peer (RFC 6062, section 4.3).
@@ -55,10 +56,11 @@ pub fn write_request(
     alloc: Global,
     auth: &LongTermClientAuth,
     transaction_id: TransactionId,
-    request: TurnRequest,
+    request: TurnRequest<'_>,
 ) -> Result<Vec<u8>, NoMemory>
     requires { HasShortTexts auth.now }
-    ensures { IfOk result (λ bytes. bytes.items ≡ request_text auth.now request transaction_id) }
+    ensures { IfOk result (λ bytes.
+        bytes.items ≡ request_text auth.now request.entry transaction_id) }
 {
     let draft = write_unmarked(alloc, auth, transaction_id, request)?;
     let bytes = finish(draft, auth.has_fingerprint())?;
@@ -71,11 +73,11 @@ fn write_unmarked(
     alloc: Global,
     auth: &LongTermClientAuth,
     transaction_id: TransactionId,
-    request: TurnRequest,
+    request: TurnRequest<'_>,
 ) -> Result<MessageWriteVec, NoMemory>
     requires { HasShortTexts auth.now }
     ensures { IfOk result (λ draft.
-        IsUnmarked auth.now request transaction_id (own_draft draft)) }
+        IsUnmarked auth.now request.entry transaction_id (own_draft draft)) }
 {
     let is_signed = is_signed(&request);
     let draft = write_described(alloc, auth, transaction_id, request)?;
@@ -93,11 +95,11 @@ fn write_described(
     alloc: Global,
     auth: &LongTermClientAuth,
     transaction_id: TransactionId,
-    request: TurnRequest,
+    request: TurnRequest<'_>,
 ) -> Result<MessageWriteVec, NoMemory>
     requires { HasShortTexts auth.now }
     ensures { IfOk result (λ draft.
-        IsDescribed auth.now.style.software request transaction_id (own_draft draft)) }
+        IsDescribed auth.now.style.software request.entry transaction_id (own_draft draft)) }
 {
     let mut draft = write_unsigned(alloc, transaction_id, request)?;
     match auth.software() {
@@ -147,7 +149,7 @@ fn finish(mut draft: MessageWriteVec, has_fingerprint: bool) -> Result<Vec<u8>, 
 }
 
 /// Returns whether the request is signed: all but the first ALLOCATE are.
-fn is_signed(request: &TurnRequest) -> bool
+fn is_signed(request: &TurnRequest<'_>) -> bool
     ensures { result ≡ is_signed request.now }
 {
     match request {

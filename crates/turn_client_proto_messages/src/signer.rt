@@ -132,10 +132,10 @@ impl Signer {
         &self,
         alloc: Global,
         transaction_id: TransactionId,
-        request: TurnRequest,
+        request: TurnRequest<'_>,
     ) -> Result<Vec<u8>, NoMemory>
         ensures bytes { IfOk result (λ bytes.
-            bytes.items ≡ request_text self.now request transaction_id) }
+            bytes.items ≡ request_text self.now request.entry transaction_id) }
         ensures message { IfOk result (λ bytes. (refusal bytes.items ≡ None)
             × (is_request bytes.items ≡ true) × (number_at bytes.items ≡ transaction_id)) }
     {

@@ -4,12 +4,13 @@ ghost use Rattle.std.specs.Prelude.{◌≡◌, ◌≤◌, ◌<◌, ◌^◌, [], 
 ghost use Rattle.stun_types_write.specs.Lent.{own_draft};
 ghost use Rattle.stun_types_wire.specs.declared.class.MessageClass.TheVariants.{Request};
 ghost use Rattle.stun_types_wire.specs.Types.{type_of};
+ghost use Rattle.turn_client_proto_api.specs.Limits.{most_peer_ips};
 ghost use Rattle.turn_client_proto_messages.specs.Composing.{IsRequest, IsUnsigned, most_before};
 ghost use Rattle.turn_client_proto_messages.specs.Requests.{peer_attribute};
 
 use crate::attributes::{
     add_channel, add_connection, add_dont_fragment, add_families_beside, add_lifetime, add_peer,
-    add_port, add_transport, begin,
+    add_peers, add_port, add_transport, begin,
 };
 use crate::request::TurnRequest;
 use std::alloc::Global;
@@ -30,9 +31,10 @@ use turn_types_attributes::registry::{
 pub(crate) fn write_unsigned(
     alloc: Global,
     transaction_id: TransactionId,
-    request: TurnRequest,
+    request: TurnRequest<'_>,
 ) -> Result<MessageWriteVec, NoMemory>
-    ensures request { IfOk result (λ draft. IsRequest request transaction_id (own_draft draft)) }
+    ensures request { IfOk result (λ draft.
+        IsRequest request.entry transaction_id (own_draft draft)) }
     ensures short { IfOk result (λ draft. length (own_draft draft).bytes ≤ most_before) }
 {
     match request {
@@ -43,7 +45,9 @@ pub(crate) fn write_unsigned(
             write_allocate(alloc, transaction_id, transport, families, options)
         }
         TurnRequest::Refresh(lifetime) => write_refresh(alloc, transaction_id, lifetime),
-        TurnRequest::CreatePermission(ip) => write_create_permission(alloc, transaction_id, ip),
+        TurnRequest::CreatePermission(peers) => {
+            write_create_permission(alloc, transaction_id, peers.as_slice())
+        }
         TurnRequest::ChannelBind(channel, peer) => {
             write_channel_bind(alloc, transaction_id, channel, peer)
         }
@@ -115,24 +119,27 @@ fn write_refresh(
     Ok(draft)
 }
 
-/// Returns the CREATE_PERMISSION, with the IP address in an XOR-PEER-ADDRESS. Its port is 0, which
-/// the server ignores (RFC 8656, section 10.1). Fails with `NoMemory` if memory runs out.
+/// Returns the CREATE_PERMISSION, with an XOR-PEER-ADDRESS for each of the IP addresses, in order
+/// (RFC 8656, section 10.1). Fails with `NoMemory` if memory runs out.
 fn write_create_permission(
     alloc: Global,
     transaction_id: TransactionId,
-    ip: IpAddr,
+    ips: &[IpAddr],
 ) -> Result<MessageWriteVec, NoMemory>
-    ensures request { IfOk result (λ draft. IsRequest (TurnRequest.CreatePermission ip)
+    requires { length ips.now ≤ most_peer_ips }
+    ensures request { IfOk result (λ draft. IsRequest (TurnRequest.CreatePermission ips.now)
         transaction_id
         (own_draft draft)) }
     ensures short { IfOk result (λ draft. length (own_draft draft).bytes ≤ most_before) }
 {
-    write_to_peer(
+    let mut draft = begin(
         alloc,
+        MessageClass::Request,
         CREATE_PERMISSION,
         transaction_id,
-        SocketAddr::new(ip, 0),
-    )
+    )?;
+    add_peers(&mut draft, transaction_id, ips)?;
+    Ok(draft)
 }
 
 /// Returns a request whose only attribute is XOR-PEER-ADDRESS. Fails with `NoMemory` if memory runs

@@ -3,5 +3,6 @@ pub mod Distinct
 pub mod EarliestChannel
 pub mod Granting
 pub mod Marks
+pub mod Several
 pub mod Indexes
 pub mod Walks

@@ -1,3 +1,4 @@
+pub mod Addresses
 pub mod Asks
 pub mod Between
 pub mod Binds

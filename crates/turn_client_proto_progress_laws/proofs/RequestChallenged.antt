@@ -57,13 +57,15 @@ use Rattle.turn_client_proto_handshake_laws.specs.Core.Outcomes.{IsHandled, IsIg
 use Rattle.turn_client_proto_handshake_laws.specs.Core.Attempting.{IsIndicationTaken}
 use Rattle.turn_client_proto_handshake_laws.specs.Core.Receiving.{IsFollowed, IsProcessed, IsProcessedIn}
 use Rattle.turn_client_proto_handshake_laws.specs.Core.Responding.{challenged, is_tired, judged, most_resends}
-use Rattle.turn_client_proto_handshake_laws.specs.Core.Standing.{IsJudgedStanding, IsRechallenged, IsRequestedAgain, IsSentAgain, asks_again, request_for as request_again}
+use Rattle.turn_client_proto_messages.specs.declared.request.TurnRequest.TheVariants.{CreatePermission}
+use Rattle.turn_client_proto_handshake_laws.specs.Core.Standing.{IsJudgedStanding, IsRechallenged, IsRequestedAgain, IsSentAgain, asks_again, request_again}
 use Rattle.turn_client_proto_handshake_laws.specs.Core.declared.protocol.Phase.{Phase}
 use Rattle.turn_client_proto_handshake_laws.specs.Core.declared.protocol.Phase.TheVariants.{Authenticated}
 use Rattle.turn_client_proto_handshake_laws.specs.Core.declared.protocol.Protocol.{Protocol}
 use Rattle.turn_client_proto_handshake_laws.specs.Sent.{Beginning}
 use Rattle.turn_client_proto_progress_laws.specs.Asking.{APermission, AChannel, Awaits, AwaitsChannel, HasMadeRequest, IsMade, NonePasses, Wanted, request_for}
 use Rattle.turn_client_proto_progress_laws.specs.Speaking.{ReportsRealm, Signs, Speaks}
+use Rattle.turn_client_proto_progress_laws.proofs.Asking.Addresses.{one_address}
 use Rattle.turn_client_proto_progress_laws.proofs.Asking.Lists.{first_not, second_not, none_found, none_of_any, not_both, one_changed, one_found}
 use Rattle.turn_client_proto_progress_laws.proofs.Asking.Moving.{beside_put}
 use Rattle.turn_client_proto_progress_laws.proofs.Asking.Own.{DoClaim, claims_own}
@@ -145,9 +147,9 @@ abbrev what_of : Wanted → TransportType → PendingRequest
 what_of (APermission ip) transport = NewPermission transport ip
 what_of (AChannel channel peer) transport = NewChannel transport channel peer
 
-same_request : (wanted : Wanted) (transport : TransportType) → request_again (what_of wanted transport) ≡ request_for wanted
-same_request (APermission ip) transport = refl
-same_request (AChannel channel peer) transport = refl
+same_request : (wanted : Wanted) (numbers : List ℕ) (number : ℕ) (a : Allocation) → awaits_reply number a ≡ true → Awaits numbers number wanted a → request_again (what_of wanted a.transport) number (a ∷ []) ≡ request_for wanted
+same_request (APermission ip) numbers number a awaits is = ap CreatePermission (one_address number ip numbers a awaits is.requested)
+same_request (AChannel channel peer) numbers number a awaits is = refl
 
 asks_of : (wanted : Wanted) (numbers : List ℕ) (number : ℕ) (a : Allocation) → Awaits numbers number wanted a → requested_of number a ≡ Some (what_of wanted a.transport)
 unfolding requested_of
@@ -208,7 +210,7 @@ module _ (old number : ℕ) (a : Allocation) (unawaited : awaits_number number a
           no_refresh = f.no_refresh;
           no_channel = f.no_channel;
           no_renewal = f.no_renewal;
-          requested = found_changed (asks_for_permission number) (asks_for_permission old) (permissions.with_number number) a.pending_permissions (record { ip = ip; numbers = numbers }) is.requested f.no_permission (has_last number numbers);
+          requested = found_changed (asks_for_permission number) (asks_for_permission old) (permissions.with_number number) a.pending_permissions (record { ip = ip; others = []; numbers = numbers }) is.requested f.no_permission (has_last number numbers);
         };
       }
   reissued (AChannel channel peer) numbers is =
@@ -255,23 +257,26 @@ module _ (b : Beginning) (realm : List ℕ) (address : SocketAddr) (wanted : Wan
       ap (λ (l : List Allocation). pending_request (number_at message) l) h.only
       ∙ (ap (λ (o : Option Allocation). option_and_then (requested_of (number_at message)) o) (one_found (awaits_reply (number_at message)) a awaits_it) ∙ asks_it)
 
+  request_is : request_again what (number_at message) p.allocations ≡ request_for wanted
+  request_is = ap (λ (l : List Allocation). request_again what (number_at message) l) h.only ∙ same_request wanted h.numbers (number_at message) a awaits_it own_awaits
+
   -- ---- the client then
 
-  module _ (client : auth.Client) (signs : Signs b realm client) (nonce_so : (x : auth.Challenge) → client.challenge ≡ Some x → x.nonce ≡ reported.nonce) (number : ℕ) (next : IsNextNumber (judged client p) number) (lawful : IsLawfulRequest (request_again what)) where
+  module _ (client : auth.Client) (signs : Signs b realm client) (nonce_so : (x : auth.Challenge) → client.challenge ≡ Some x → x.nonce ≡ reported.nonce) (number : ℕ) (next : IsNextNumber (judged client p) number) (lawful : IsLawfulRequest (request_again what (number_at message) p.allocations)) where
     abbrev k : Protocol
     k = judged client p
 
     own_lawful : IsLawfulRequest (request_for wanted)
-    own_lawful = subst (λ (r : TurnRequest). IsLawfulRequest r) (same_request wanted a.transport) lawful
+    own_lawful = subst (λ (r : TurnRequest). IsLawfulRequest r) request_is lawful
 
     fits : number < 2 ^ 96
     fits = number_small k number next
 
     abbrev text : List ℕ
-    text = request_text client (request_again what) number
+    text = request_text client (request_again what (number_at message) p.allocations) number
 
     own_text : text ≡ request_text client (request_for wanted) number
-    own_text = ap (λ (r : TurnRequest). request_text client r number) (same_request wanted a.transport)
+    own_text = ap (λ (r : TurnRequest). request_text client r number) request_is
 
     shows : number_at text ≡ number
     shows = ap number_at own_text ∙ number_law client (request_for wanted) number signs.short own_lawful fits

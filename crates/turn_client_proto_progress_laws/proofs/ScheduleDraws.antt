@@ -295,7 +295,7 @@ module _ (numbered : AreNumbered) (r : Request) (many now : ℕ) (p : Protocol) 
     unfolding first_permitted sent_at_once
     permits ip None sent_is is = absurd is
     permits ip (Some s) sent_is is =
-        makes s sent_is (CreatePermission ip) is.number is.lawful is.made
+        makes s sent_is (CreatePermission (ip ∷ [])) is.number is.lawful is.made
         (ap (λ (x : Protocol). x.agent) is.after) (ap (λ (x : Protocol). x.auth) is.after) (ap (λ (x : Protocol). x.families) is.after) (ap (λ (x : Protocol). x.queue) is.after)
 
     renews : (o : Option Want) → IsRenewed o p now sent q → IsDrawTo r many now p sent q

@@ -5,6 +5,7 @@ use Rattle.std.specs.Bool.{MatchBool}
 use Rattle.std.specs.FinMap as map
 use Rattle.std.specs.List.{flat_map, list_any}
 use Rattle.std.specs.Ordering.{is_eq, nat_cmp}
+use Rattle.std.specs.declared.net.ip_addr.IpAddr.{IpAddr}
 use Rattle.std.specs.declared.net.socket_addr.SocketAddr.{SocketAddr}
 use Rattle.std.proofs.lemmas.Bool.{cases_Bool, eq-eqb, le-leb, lt-ltb}
 use Rattle.turn_client_proto_messages.specs.StunTypesBase.Times.{time_after}
@@ -28,9 +29,11 @@ use Rattle.turn_client_proto_messages.specs.Allocation.Channels as channels
 use Rattle.turn_client_proto_messages.specs.Allocation.Permissions as permissions
 use Rattle.turn_client_proto_messages.specs.Allocation.Polling.{has_ended, polled, stays, stored}
 use Rattle.turn_client_proto_messages.specs.Allocation.Refreshing.{is_settled, renewal, wants_refresh}
+use Rattle.turn_client_proto_messages.specs.Allocation.Same.{is_same_ip}
 use Rattle.turn_client_proto_messages.specs.TurnRuns.Members.{IsIn}
 use Rattle.turn_client_proto_messages.specs.Waiting.{Queued, is_answer}
 use Rattle.turn_client_proto_step_laws.proofs.Lists.{any_passes}
+use Rattle.turn_client_proto_step_laws.proofs.Visible.{same_ip}
 use Rattle.turn_client_proto_step_laws.specs.Held.{Allocation, Binding, Connecting, Connection, PendingChannel, PendingPermission, PendingRefresh}
 use Rattle.turn_client_proto_messages.specs.Allocation.declared.connection.Waiting.{Waiting}
 use Rattle.turn_client_proto_step_laws.specs.Connection.Attempts as attempts
@@ -80,6 +83,15 @@ pub into_flat : {X Y : Type 0} (f : X → List Y) (x : X) (y : Y) (xs : List X) 
 into_flat f x y [] is in_it = absurd is
 into_flat {X = X} f x y (z ∷ xs) (inl here) in_it = into_left y (f z) (flat_map f xs) (subst (λ (w : X). IsIn y (f w)) (sym here) in_it)
 into_flat f x y (z ∷ xs) (inr later) in_it = into_right y (f z) (flat_map f xs) (into_flat f x y xs later in_it)
+
+-- An address of the list is still in it after those that are like an earlier one were left out.
+each_listed : (ip : IpAddr) (xs : List IpAddr) → IsIn ip xs → IsIn ip (permissions.each_once xs)
+each_listed ip [] is = absurd is
+each_listed ip (x ∷ xs) (inl here) = inl here
+each_listed ip (x ∷ xs) (inr later) = elim (cases_Bool (is_same_ip x ip)) [
+  | inl same ↦ inl (same_ip x ip same)
+  | inr differs ↦ inr (into_filter (λ (y : IpAddr). not (is_same_ip x y)) ip (permissions.each_once xs) (each_listed ip xs later) (ap not differs))
+]
 
 -- ---- the poll that gives it up
 
@@ -238,13 +250,13 @@ module _ (r : Request) (many now : ℕ) (p : Protocol) (ret : TurnPollRet) (q : 
       unfolding reporting.relay_failures
       in_channels event is = relay_so event (into_right event permission_events (channel_events ++ expired_events) (into_left event channel_events expired_events is))
 
-      pub permission_ends : (x : PendingPermission) → IsIn x a.pending_permissions → IsIn r.number x.numbers → IsIn (PermissionCreateFailed a.transport x.ip) q.events
-      permission_ends x pending in_it =
+      pub permission_ends : (x : PendingPermission) (ip : IpAddr) → IsIn x a.pending_permissions → IsIn r.number x.numbers → IsIn ip (permissions.names_of x) → IsIn (PermissionCreateFailed a.transport ip) q.events
+      permission_ends x ip pending in_it named =
           let s = same_so in
           let is_pending : IsIn x b.pending_permissions = subst (λ (l : List PendingPermission). IsIn x l) (sym s.1) pending in
-          let one = into_map (λ (y : PendingPermission). y.ip) x (filter (permissions.is_over over) b.pending_permissions) (into_filter (permissions.is_over over) x b.pending_permissions is_pending (among x.numbers in_it)) in
-          subst (λ (t : TransportType). IsIn (PermissionCreateFailed t x.ip) q.events) s.0
-          (in_permissions (PermissionCreateFailed b.transport x.ip) (into_map (PermissionCreateFailed b.transport) x.ip (grants.addresses_over over b.pending_permissions) one))
+          let one = into_flat permissions.addresses_of x ip (filter (permissions.is_over over) b.pending_permissions) (into_filter (permissions.is_over over) x b.pending_permissions is_pending (among x.numbers in_it)) (each_listed ip (permissions.names_of x) named) in
+          subst (λ (t : TransportType). IsIn (PermissionCreateFailed t ip) q.events) s.0
+          (in_permissions (PermissionCreateFailed b.transport ip) (into_map (PermissionCreateFailed b.transport) ip (grants.addresses_over over b.pending_permissions) one))
 
       pub channel_ends : (x : PendingChannel) → IsIn x a.pending_channels → IsIn r.number x.numbers → IsIn (ChannelCreateFailed a.transport x.peer) q.events
       channel_ends x pending in_it =

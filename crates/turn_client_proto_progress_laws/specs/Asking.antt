@@ -32,7 +32,7 @@ pub data Wanted : Type 0 where
 
 -- The request for it.
 abbrev pub request_for : Wanted → TurnRequest
-request_for (APermission ip) = CreatePermission ip
+request_for (APermission ip) = CreatePermission (ip ∷ [])
 request_for (AChannel channel peer) = ChannelBind channel peer
 
 -- ---- when a call is returned Ok
@@ -83,7 +83,8 @@ pub record AwaitsPermission (numbers : List ℕ) (number : ℕ) (ip : IpAddr) (a
   pub no_refresh : NonePasses (is_refresh number) a.pending_refreshes
   pub no_channel : NonePasses (asks_for_channel number) a.pending_channels
   pub no_renewal : NonePasses (renews_channel number) a.channels
-  pub requested : find (asks_for_permission number) a.pending_permissions ≡ Some (record { ip = ip; numbers = numbers })
+  pub requested : find (asks_for_permission number) a.pending_permissions
+      ≡ Some (record { ip = ip; others = []; numbers = numbers })
 
 -- The request with this transaction ID asks the allocation for a channel to this peer, with a number that no
 -- other channel has.

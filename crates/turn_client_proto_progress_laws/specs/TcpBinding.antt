@@ -77,11 +77,11 @@ IsHolding h last events p = IsTcpBinding h None [] (allocation_with h [] [] [] [
 
 -- A CREATE_PERMISSION for this IP.
 abbrev pub permission_request : Holder → IpAddr → (transaction_id made : ℕ) → Requested
-permission_request h ip transaction_id made = signed_by h (CreatePermission ip) transaction_id made
+permission_request h ip transaction_id made = signed_by h (CreatePermission (ip ∷ [])) transaction_id made
 
 -- An allocation with a pending permission for this IP, requested with this transaction ID.
 abbrev pub permitting : Holder → IpAddr → (transaction_id : ℕ) → Allocation
-permitting h ip transaction_id = allocation_with h [] (record { ip = ip; numbers = transaction_id ∷ [] } ∷ []) [] [] []
+permitting h ip transaction_id = allocation_with h [] (record { ip = ip; others = []; numbers = transaction_id ∷ [] } ∷ []) [] [] []
 
 -- The permission was requested, and the request is queued.
 abbrev pub HasRequestedPermission : Holder → IpAddr → (transaction_id made last : ℕ) → List TurnEvent → Protocol → Type 0

@@ -214,7 +214,7 @@ pub fn permissions_are_requested_for()
         (ip : IpAddr) (now : ℕ)
         → IsHolding h last events old
         → IsPermissionAnswered old Tcp ip now (Ok tt) new
-        → (number : ℕ) × (number < 2 ^ 96) × IsLawfulRequest (CreatePermission ip)
+        → (number : ℕ) × (number < 2 ^ 96) × IsLawfulRequest (CreatePermission (ip ∷ []))
         × HasRequestedPermission h ip number now last events new }
     ensures granted { (h : Holder) (ip : IpAddr) (number made last : ℕ) (events : List TurnEvent)
         (old new : Protocol) (bytes : List ℕ) (now : ℕ) (handled : Bool)

@@ -3,6 +3,8 @@
 //! alone. The functions do nothing; each contract is a theorem.
 
 ghost use Rattle.std.specs.Prelude.{◌≡◌, ◌≢◌, ◌⊎◌, ◌≤◌, ◌<◌, ◌++◌, ℕ, List, [], Option, None, Some};
+ghost use Rattle.std.specs.declared.net.ip_addr.IpAddr.{IpAddr};
+ghost use Rattle.turn_client_proto_messages.specs.Allocation.Permissions.{names_of};
 ghost use Rattle.turn_client_proto_messages.specs.Api.Sent.{Sent};
 ghost use Rattle.turn_client_proto_messages.specs.Api.declared.answer.TurnPollRet.{TurnPollRet};
 ghost use Rattle.turn_client_proto_messages.specs.Api.declared.answer.TurnPollRet.TheVariants.{NoMemory};
@@ -85,8 +87,9 @@ pub fn requests_go_by_their_schedule()
 ///
 /// - `allocate`: an ALLOCATE ends the client. `poll` returns `Closed`, and for each family in order
 ///   an `AllocationCreateFailed` is queued (RFC 8656, section 7.4).
-/// - `permission`, `channel`: the new permission or channel that the request asked for is reported
-///   by `PermissionCreateFailed` or `ChannelCreateFailed`.
+/// - `permission`: each new permission that the request asked for is reported by
+///   `PermissionCreateFailed`; a request may name several addresses (RFC 8656, section 10.1).
+/// - `channel`: the new channel that it asked for is reported by `ChannelCreateFailed`.
 /// - `connect`, `binding`: the connection that a CONNECT asked for, or that a CONNECTION_BIND was
 ///   to bind, is reported by `TcpConnectFailed` (RFC 6062, section 4.3).
 /// - `refresh`: the allocation is kept, and another REFRESH is to be sent (`IsRefreshedAnew`).
@@ -102,14 +105,15 @@ pub fn requests_that_end_are_reported()
         → IsIn r.number numbers
         → HasClosed old ret new }
     ensures permission { (r : Request) (many now : ℕ) (old new : Protocol) (ret : TurnPollRet)
-        (a : Allocation) (p : PendingPermission)
+        (a : Allocation) (p : PendingPermission) (ip : IpAddr)
         → EndsAt r many now old ret new
         → IsAttended old
         → IsIn a old.allocations
         → now < a.expiry
         → IsIn p a.pending_permissions
         → IsIn r.number p.numbers
-        → IsIn (PermissionCreateFailed a.transport p.ip) new.events }
+        → IsIn ip (names_of p)
+        → IsIn (PermissionCreateFailed a.transport ip) new.events }
     ensures channel { (r : Request) (many now : ℕ) (old new : Protocol) (ret : TurnPollRet)
         (a : Allocation) (p : PendingChannel)
         → EndsAt r many now old ret new

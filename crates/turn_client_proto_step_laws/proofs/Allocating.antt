@@ -38,7 +38,8 @@ use Rattle.turn_client_proto_step_laws.specs.Sound.{AreAllocates, IsOrderly}
 use Rattle.turn_client_proto_step_laws.proofs.Agents.{has_other, message_listed, outstanding_before}
 use Rattle.turn_client_proto_step_laws.proofs.Asking.{IsUnderWay}
 use Rattle.turn_client_proto_step_laws.proofs.Lists.{in_filter, in_map}
-use Rattle.turn_client_proto_step_laws.proofs.Gaining.{anything, fresh, fresh_distinct, in_firsts, stored_gained, none_requested, none_attempted, none_bound, none_connects, none_peers, none_pending, none_sent, none_short, none_twice, none_waits, relayed_listed, reported_created, reported_of}
+use Rattle.turn_client_proto_step_laws.proofs.Firsts.{in_firsts}
+use Rattle.turn_client_proto_step_laws.proofs.Gaining.{anything, fresh, fresh_distinct, stored_gained, none_requested, none_attempted, none_bound, none_connects, none_peers, none_pending, none_sent, none_short, none_twice, none_waits, relayed_listed, reported_created, reported_of}
 use Rattle.turn_client_proto_step_laws.proofs.Orderly.{until_all}
 use Rattle.turn_client_proto_step_laws.proofs.Plain.{counts_none, failures_report_nothing, held_is_stored, joined, none_decoded, notices}
 use Rattle.turn_client_proto_step_laws.proofs.Realms.{IsGoing, TakesRealm, realm_going, realm_stored}
@@ -112,7 +113,7 @@ module _ (c : Client) (signer : signers.Client) (bytes : List ℕ) (lifetime now
     waited = inl (record { number = number; transaction = sent.transaction; there = sent.there; shows = message_listed sent.transaction.bytes (orderly.messages number sent.transaction sent.there) });
     request_is = orderly.numbers number sent.transaction sent.there;
     asks = (sent.method, sent.transport);
-    brings = (success, relayed_listed bytes x (in_filter (is_wanted c.core.families) x (relayed_reported bytes) (in_firsts x (filter (is_wanted c.core.families) (relayed_reported bytes)) listed)).0);
+    brings = (success, relayed_listed bytes x (in_filter (is_wanted c.core.families) x (relayed_reported bytes) (in_firsts are_of_one_family x (filter (is_wanted c.core.families) (relayed_reported bytes)) listed)).0);
   })
 
   -- One event for each gained item is queued.

@@ -3,6 +3,7 @@
 use Rattle.std.proofs.Common.{◌≡◌, ℕ, Some, sym, ap, ◌∙◌, subst}
 use Rattle.std.specs.FinMap as map
 use Rattle.std.specs.List.{find}
+use Rattle.std.specs.declared.net.ip_addr.IpAddr.{IpAddr}
 use Rattle.std.specs.declared.net.socket_addr.SocketAddr.{SocketAddr}
 use Rattle.turn_client_proto_timers.specs.StunTypesBase.declared.transport.TransportType.{TransportType}
 use Rattle.turn_client_proto_timers.specs.StunProtoTransaction.Agents.{Transaction}
@@ -12,6 +13,7 @@ use Rattle.turn_client_proto_timers.specs.TurnRuns.Names.{socket_ip}
 use Rattle.turn_client_proto_timers.specs.TurnRuns.StunWire.{decoded_by}
 use Rattle.turn_client_proto_timers.specs.Allocation.Awaited.{asks_for_channel, asks_for_permission, renews_channel}
 use Rattle.turn_client_proto_timers.specs.Allocation.PendingRequests.{awaits_reply}
+use Rattle.turn_client_proto_timers.specs.Allocation.Permissions.{addresses_of}
 use Rattle.turn_client_proto_timers.specs.Allocation.declared.pending.PendingRequest.TheVariants.{ChannelRenewal, NewChannel}
 use Rattle.turn_client_proto_step_laws.specs.Held.{Allocation, Channel, PendingChannel, PendingPermission}
 use Rattle.turn_client_proto_step_laws.specs.RunClient.{Parts}
@@ -92,11 +94,12 @@ module _ (p : Parts) (number : ℕ) (transport : TransportType) (channel : ℕ) 
 
   -- A permission that the request also asks for is that of the channel's peer.
   pub permission_of : (is : IsChannelOf p number transport channel peer) (t : Transaction) → map.get p.agent.outstanding number ≡ Some t
-      → (a : Allocation) → IsIn a p.allocations → (q : PendingPermission) → find (asks_for_permission number) a.pending_permissions ≡ Some q → socket_ip peer ≡ q.ip
-  permission_of is t outstanding a listed q at =
+      → (a : Allocation) → IsIn a p.allocations → (q : PendingPermission) → find (asks_for_permission number) a.pending_permissions ≡ Some q
+      → (ip : IpAddr) → IsIn ip (addresses_of q) → socket_ip peer ≡ ip
+  permission_of is t outstanding a listed q at ip named =
       let has = among number q.numbers (found_passes (asks_for_permission number) a.pending_permissions q at) in
       let member = found_in (asks_for_permission number) a.pending_permissions q at in
-      same_peer (decoded_by t.bytes) channel peer a.transport q.ip (is.asks t outstanding) (orderly.permissions a listed q member number has t outstanding)
+      same_peer (decoded_by t.bytes) channel peer a.transport ip (is.asks t outstanding) (orderly.permissions a listed q member number has ip named t outstanding)
 
 -- ---- the channel that was found
 

@@ -4,12 +4,15 @@ use Rattle.std.proofs.Common.{◌≡◌, ℕ, true, false, not, List, [], ◌∷
 use Rattle.std.specs.List.{filter, find, list_any}
 use Rattle.std.specs.Option.{option_map}
 use Rattle.std.specs.Prelude.{option_to_list}
+use Rattle.std.specs.declared.net.ip_addr.IpAddr.{IpAddr}
 use Rattle.std.specs.declared.net.socket_addr.SocketAddr.{SocketAddr}
 use Rattle.turn_client_proto_timers.specs.StunTypesBase.declared.transport.TransportType.{TransportType}
+use Rattle.turn_client_proto_timers.specs.TurnRuns.Members.{IsIn}
 use Rattle.turn_client_proto_timers.specs.TurnRuns.Messages as run
 use Rattle.turn_client_proto_timers.specs.TurnRuns.Names.{socket_ip}
 use Rattle.turn_client_proto_timers.specs.Allocation.Awaited.{asks_for_channel, asks_for_permission, renews_channel, renews_permission}
 use Rattle.turn_client_proto_timers.specs.Allocation.Permissions as permissions
+use Rattle.turn_client_proto_timers.specs.Allocation.Permissions.{addresses_of}
 use Rattle.turn_client_proto_timers.specs.Allocation.PendingRequests.{reissued_under, permission_too}
 use Rattle.turn_client_proto_timers.specs.Peers.Channel.Binding.{asking}
 use Rattle.turn_client_proto_timers.specs.Allocation.Channels.{requested_again, has_expired, is_over, expired_of, not_pending_request, not_forgotten, not_over, not_renewed_by, polled_channel, renewed_again, renewed_channel, renewed_first, wants_renewal}
@@ -23,7 +26,8 @@ use Rattle.turn_client_proto_timers.specs.Messages.declared.request.TurnRequest.
 use Rattle.turn_client_proto_step_laws.specs.Held.{Allocation, Channel, ExpiredChannel, PendingChannel, PendingPermission}
 use Rattle.turn_client_proto_step_laws.proofs.Chaining.{both_permitting, expired_permitting}
 use Rattle.turn_client_proto_step_laws.proofs.Channels.{all_polled, all_renewed, fewer, fewer_wanted, once_more as channel_once_more, one_awaiting as channel_awaiting, one_more as one_channel_more}
-use Rattle.turn_client_proto_step_laws.proofs.Permissions.{once_more, one_awaiting, one_more}
+use Rattle.turn_client_proto_step_laws.proofs.Named.{alone}
+use Rattle.turn_client_proto_step_laws.proofs.Permissions.{once_more, one_awaiting, one_more, pending_for}
 use Rattle.turn_client_proto_step_laws.proofs.Permits.{asks_by, binds_channel, permits_peer}
 use Rattle.turn_client_proto_step_laws.proofs.Permitting.{Asking, Gaining, IsNow, IsPermitting, bound_itself, itself, kin_itself, known_itself, none_asks, none_gained, wanted_itself, with_channel, with_channels, with_lists}
 
@@ -83,11 +87,12 @@ module _ (channel : ℕ) (peer : SocketAddr) (number : ℕ) where
   beside_permitting : (a : Allocation) → IsPermitting none_gained Now a (permission_beside (socket_ip peer) number a)
   unfolding permission_beside
   beside_permitting a =
-      elim (knows (socket_ip peer) a) as (λ b. IsPermitting none_gained Now a (if b then a else record a { pending_permissions = a.pending_permissions ++ record { ip = socket_ip peer; numbers = number ∷ [] } ∷ [] })) [
+      elim (knows (socket_ip peer) a) as (λ b. IsPermitting none_gained Now a (if b then a else record a { pending_permissions = a.pending_permissions ++ pending_for (socket_ip peer) [] number ∷ [] })) [
         | true ↦ itself none_gained Now a
         | false ↦
-            with_lists none_gained Now a a.permissions (a.pending_permissions ++ record { ip = socket_ip peer; numbers = number ∷ [] } ∷ []) (kin_itself Now a.permissions)
-            (one_more Now a.transport (socket_ip peer) number a.pending_permissions (permits_peer channel peer (socket_ip peer) number a.transport refl))
+            with_lists none_gained Now a a.permissions (a.pending_permissions ++ pending_for (socket_ip peer) [] number ∷ []) (kin_itself Now a.permissions)
+            (one_more Now a.transport (pending_for (socket_ip peer) [] number) number a.pending_permissions refl
+            (λ ip named. permits_peer channel peer ip number a.transport (alone (socket_ip peer) ip named)))
       ]
 
   -- A call makes the request.
@@ -107,21 +112,25 @@ module _ (channel : ℕ) (peer : SocketAddr) (number : ℕ) where
 
   -- The request replaces another one.
   module _ (before : ℕ) (transport : TransportType) where
-    too_permitting : (a : Allocation) → ((p : PendingPermission) → find (asks_for_permission before) a.pending_permissions ≡ Some p → socket_ip peer ≡ p.ip) → IsPermitting none_gained Now a (permission_too before number a)
+    -- The addresses that the other one names are the peer's.
+    abbrev AreOfPeer : Allocation → Type 0
+    AreOfPeer a = (p : PendingPermission) → find (asks_for_permission before) a.pending_permissions ≡ Some p → (ip : IpAddr) → IsIn ip (addresses_of p) → socket_ip peer ≡ ip
+
+    too_permitting : (a : Allocation) → AreOfPeer a → IsPermitting none_gained Now a (permission_too before number a)
     unfolding permission_too
     too_permitting a same =
         elim (list_any (asks_for_permission before) a.pending_permissions) as (λ b. IsPermitting none_gained Now a
         (if b then record a { pending_permissions = permissions.requested_again before number a.pending_permissions } else record a { permissions = permissions.renewed_again before number a.permissions })) [
           | true ↦
               with_lists none_gained Now a a.permissions (permissions.requested_again before number a.pending_permissions) (kin_itself Now a.permissions)
-              (once_more Now a.transport before number a.pending_permissions (λ p found. permits_peer channel peer p.ip number a.transport (same p found)))
+              (once_more Now a.transport before number a.pending_permissions (λ p found ip named. permits_peer channel peer ip number a.transport (same p found ip named)))
           | false ↦
               with_lists none_gained Now a (permissions.renewed_again before number a.permissions) a.pending_permissions
               (one_awaiting Now number is_now a.permissions (renews_permission before)) (known_itself Now a.transport a.pending_permissions)
         ]
 
     pub reissued_under_permitting : (a : Allocation) → ((c : PendingChannel) → find (asks_for_channel before) a.pending_channels ≡ Some c → (c.channel ≡ channel) × (c.peer ≡ peer))
-        → ((p : PendingPermission) → find (asks_for_permission before) a.pending_permissions ≡ Some p → socket_ip peer ≡ p.ip)
+        → AreOfPeer a
         → IsPermitting none_gained Now a (reissued_under (NewChannel transport channel peer) before number a)
     reissued_under_permitting a is same =
         let mid : Allocation = record a { pending_channels = requested_again before number a.pending_channels } in
@@ -131,7 +140,7 @@ module _ (channel : ℕ) (peer : SocketAddr) (number : ℕ) where
         both_permitting none_gained Now a mid (permission_too before number mid) first (too_permitting mid same)
 
     pub renewed_too_permitting : (a : Allocation) → ((c : Channel) → find (renews_channel before) a.channels ≡ Some c → (c.number ≡ channel) × (c.peer ≡ peer))
-        → ((p : PendingPermission) → find (asks_for_permission before) a.pending_permissions ≡ Some p → socket_ip peer ≡ p.ip)
+        → AreOfPeer a
         → IsPermitting none_gained Now a (reissued_under (ChannelRenewal transport channel peer) before number a)
     renewed_too_permitting a is same =
         let mid : Allocation = record a { channels = renewed_again before number a.channels } in

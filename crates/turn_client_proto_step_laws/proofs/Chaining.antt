@@ -5,6 +5,7 @@ use Rattle.std.specs.declared.net.socket_addr.SocketAddr.{SocketAddr}
 use Rattle.turn_client_proto_timers.specs.StunTypesBase.declared.transport.TransportType.{TransportType}
 use Rattle.turn_client_proto_timers.specs.TurnRuns.Members.{IsIn}
 use Rattle.turn_client_proto_timers.specs.TurnRuns.Messages as run
+use Rattle.turn_client_proto_timers.specs.Allocation.Permissions.{addresses_of}
 use Rattle.turn_client_proto_step_laws.specs.Held.{Allocation, Channel, ExpiredChannel, PendingChannel, PendingPermission, Permission}
 use Rattle.turn_client_proto_step_laws.proofs.Permitting.{ArePermitting, Asking, Gaining, IsNow, IsPermitting, Stood, StoodBound, WasAsking, WasBinding, WasRenewing, WasWanted, WasWanting}
 
@@ -29,14 +30,13 @@ module _ (New : Gaining) (Now : Asking) where
       | inl was ↦ first.renewals was.before n was.listed was.has
     ]
 
-    numbers : (p : PendingPermission) (n : ℕ) → IsIn p new.pending_permissions → IsIn n p.numbers → WasAsking old.pending_permissions p.ip n ⊎ Now (run.Permission new.transport p.ip) n
-    numbers p n listed has = elim (second.numbers p n listed has) [
+    numbers : (p : PendingPermission) (n : ℕ) → IsIn p new.pending_permissions → IsIn n p.numbers → (ip : IpAddr) → IsIn ip (addresses_of p)
+        → WasAsking old.pending_permissions ip n ⊎ Now (run.Permission new.transport ip) n
+    numbers p n listed has ip named = elim (second.numbers p n listed has ip named) [
       | inr now ↦ inr now
-      | inl was ↦ elim (first.numbers was.before n was.listed was.has) [
-        | inl before ↦ inl (record { before = before.before; listed = before.listed; ip = was.ip ∙ before.ip; has = before.has })
-        | inr now ↦
-            inr (subst (λ (t : TransportType). Now (run.Permission t p.ip) n) (sym second.transport)
-            (subst (λ (ip : IpAddr). Now (run.Permission mid.transport ip) n) (sym was.ip) now))
+      | inl was ↦ elim (first.numbers was.before n was.listed was.has ip was.named) [
+        | inl before ↦ inl before
+        | inr now ↦ inr (subst (λ (t : TransportType). Now (run.Permission t ip) n) (sym second.transport) now)
       ]
     ]
 

@@ -212,11 +212,11 @@ unfolding first_permitted
 renewal_sent c ip now sent new sound at is =
     let under_way = at_first c [] sound.orderly (subst (λ (f : Phase). UntilEnded f (CanAsk c)) at sound.can_ask) in
     let number = is.number in
-    let made_it = made c c.core (CreatePermission ip) number under_way is.lawful tt is.made.is_next in
-    let are : ArePermitting none_gained (asks_by (CreatePermission ip) number) c.core.allocations (renewal_first now number c.core.allocations) =
-    first_permitting none_gained (asks_by (CreatePermission ip) number) (wants now) (renewing now number) c.core.allocations (λ a found. renewing_permitting ip now number a) in
+    let made_it = made c c.core (CreatePermission (ip ∷ [])) number under_way is.lawful tt is.made.is_next in
+    let are : ArePermitting none_gained (asks_by (CreatePermission (ip ∷ [])) number) c.core.allocations (renewal_first now number c.core.allocations) =
+    first_permitting none_gained (asks_by (CreatePermission (ip ∷ [])) number) (wants now) (renewing now number) c.core.allocations (λ a found. renewing_permitting ip now number a) in
     subst (λ (p : Protocol). IsRunStep c [] (Some sent.bytes) [] p) (sym is.after)
-    (renews c (CreatePermission ip) number now (renewal_first now number c.core.allocations) sound at under_way made_it are (permission_fit c.core ip number now made_it)
+    (renews c (CreatePermission (ip ∷ [])) number now (renewal_first now number c.core.allocations) sound at under_way made_it are (permission_fit c.core (ip ∷ []) number now made_it)
     (same_first_distinct (wants now) (renewing now number) (λ a. (refl, refl)) c.core.allocations sound.orderly.distinct) sent.bytes (ap (λ (s : Sent). s.bytes) is.made.is_sent))
 
 channel_sent : (c : Client) (channel : ℕ) (peer : SocketAddr) (now : ℕ) (sent : Sent) (new : Protocol) → IsSound c → c.core.phase ≡ Authenticated → wanted now c.core.allocations ≡ Some (want.Channel channel peer)

@@ -1,6 +1,5 @@
 -- The invariant of a client when permissions and channels are gained, requested or removed.
 use Rattle.std.proofs.Common.{◌≡◌, ℕ, List, sym, subst, inl, inr}
-use Rattle.std.specs.declared.net.ip_addr.IpAddr.{IpAddr}
 use Rattle.std.specs.declared.net.socket_addr.SocketAddr.{SocketAddr}
 use Rattle.turn_client_proto_timers.specs.StunTypesBase.declared.transport.TransportType.{TransportType}
 use Rattle.turn_client_proto_timers.specs.StunProtoAgent.State.{Agent}
@@ -25,14 +24,13 @@ none_fit agent = record { asks = λ held n h. absurd h; requested = λ channel p
 
 module _ (New : Gaining) (Now : Asking) (p : Parts) (new : List Allocation) (are : ArePermitting New Now p.allocations new) (fit : AreFit New Now p.agent) (is : IsOrderly p) where
   permissions : (a : Allocation) → IsIn a new → AreRequested p.agent a
-  permissions a listed pending there n has =
+  permissions a listed pending there n has ip named =
       let was = are a listed in
-      elim (was.is.numbers pending n there has) [
+      elim (was.is.numbers pending n there has ip named) [
         | inl old ↦
-            subst (λ (transport : TransportType). AsksFor p.agent (run.Permission transport pending.ip) n) (sym was.is.transport)
-            (subst (λ (ip : IpAddr). AsksFor p.agent (run.Permission was.before.transport ip) n) (sym old.ip)
-            (is.permissions was.before was.listed old.before old.listed n old.has))
-        | inr now ↦ fit.asks (run.Permission a.transport pending.ip) n now
+            subst (λ (transport : TransportType). AsksFor p.agent (run.Permission transport ip) n) (sym was.is.transport)
+            (is.permissions was.before was.listed old.before old.listed n old.has ip old.named)
+        | inr now ↦ fit.asks (run.Permission a.transport ip) n now
       ]
 
   like : (n channel other : ℕ) (peer to : SocketAddr) → channel ≡ other → peer ≡ to → AsksFor p.agent (run.Channel other to) n → AsksFor p.agent (run.Channel channel peer) n

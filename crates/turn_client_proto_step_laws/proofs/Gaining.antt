@@ -1,8 +1,8 @@
 -- The addresses that a success response to an ALLOCATE brings, and their allocations.
-use Rattle.std.proofs.Common.{◌≡◌, ℕ, Bool, true, not, cond, List, [], ◌∷◌, map, Option, Some, None, refl, sym, ap, ◌∙◌, subst, arith, inl, inr}
+use Rattle.std.proofs.Common.{◌≡◌, ℕ, Bool, true, cond, List, [], ◌∷◌, map, Option, Some, None, refl, sym, ap, ◌∙◌, subst, arith, inl, inr}
 use Rattle.std.proofs.lemmas.Bool.{cases_Bool}
 use Rattle.std.proofs.lemmas.List.Sums.{take_while-cons}
-use Rattle.std.specs.List.{filter, filter_map, take_while}
+use Rattle.std.specs.List.{filter_map, take_while}
 use Rattle.std.specs.Prelude.{is_some}
 use Rattle.std.specs.declared.net.socket_addr.SocketAddr.{SocketAddr}
 use Rattle.turn_client_proto_timers.specs.StunTypesWire.Attributes.{Attr}
@@ -29,7 +29,9 @@ use Rattle.turn_client_proto_step_laws.specs.ClientWords.{Has, HasItself, HasPer
 use Rattle.turn_client_proto_step_laws.specs.Held.{Allocation}
 use Rattle.turn_client_proto_step_laws.specs.Sound.{AreRequested, AreBinding, AreConnecting, AreShort, AreWhole, BeforeAllocated}
 use Rattle.turn_client_proto_timers.specs.Peers.Channel.Numbers.{AreDistinct, uses}
-use Rattle.turn_client_proto_step_laws.proofs.Lists.{in_filter, in_map}
+use Rattle.turn_client_proto_step_laws.proofs.Firsts as firsts
+use Rattle.turn_client_proto_step_laws.proofs.Firsts.{image_in}
+use Rattle.turn_client_proto_step_laws.proofs.Lists.{in_map}
 use Rattle.turn_client_proto_step_laws.proofs.Plain.{notices}
 
 -- ---- the addresses
@@ -51,63 +53,9 @@ same_address transport number one other same =
     let notice : run.AllocationCreated transport one ≡ run.AllocationCreated transport other = ap (λ (p : run.Notice × ℕ). p.0) same in
     Prim.cc notice
 
--- An address of another family.
-abbrev unlike : SocketAddr → SocketAddr → Bool
-unlike x = λ y. not (are_of_one_family x y)
-
-alike : (x y : SocketAddr) → y ≡ x → unlike x y ≡ true → ⊥
-alike x y same differs =
-    let is : are_of_one_family x x ≡ true = same_family (family_of_socket x) in
-    let isnt : not (are_of_one_family x x) ≡ true = ap (unlike x) (sym same) ∙ differs in
-    Prim.cc (sym (ap not is) ∙ isnt)
-
-module _ (transport : TransportType) (number : ℕ) where
-  abbrev reported_each : List SocketAddr → List Reported
-  reported_each all = map (reported_of transport number) all
-
-  -- No notice of these addresses equals that of this one.
-  abbrev AreApart : SocketAddr → List SocketAddr → Type 0
-  AreApart x all = (t : Reported) → IsIn t (reported_each all) → reported_for t ≡ reported_for (reported_of transport number x) → ⊥
-
-  reported_in : (x : SocketAddr) (all : List SocketAddr) → IsIn x all → IsIn (reported_of transport number x) (reported_each all)
-  reported_in x [] h = absurd h
-  reported_in x (y ∷ all) (inl is) = inl (ap (reported_of transport number) is)
-  reported_in x (y ∷ all) (inr h) = inr (reported_in x all h)
-
-  apart : (x : SocketAddr) (all : List SocketAddr) → AreApart x (filter (unlike x) all)
-  apart x all t listed same =
-      let image = in_map (reported_of transport number) t (filter (unlike x) all) listed in
-      let equal : image.source ≡ x = same_address transport number image.source x (ap reported_for (sym image.is) ∙ same) in
-      alike x image.source equal (in_filter (unlike x) image.source all image.listed).1
-
-  fewer : (p : SocketAddr → Bool) (y : SocketAddr) (all : List SocketAddr) → AreApart y all → AreApart y (filter p all)
-  fewer p y all none t listed same =
-      let image = in_map (reported_of transport number) t (filter p all) listed in
-      none (reported_of transport number image.source) (reported_in image.source all (in_filter p image.source all image.listed).0) (ap reported_for (sym image.is) ∙ same)
-
-  none_left : (p : SocketAddr → Bool) (all : List SocketAddr) → NoneTwice reported_for (reported_each all) → NoneTwice reported_for (reported_each (filter p all))
-  none_left p [] h = tt
-  none_left p (y ∷ all) h = elim (cases_Bool (p y)) [
-    | inl is ↦
-        let here : filter p (y ∷ all) ≡ y ∷ filter p all = rw is refl in
-        subst (λ (l : List SocketAddr). NoneTwice reported_for (reported_each l)) (sym here) (fewer p y all h.0, none_left p all h.1)
-    | inr differs ↦
-        let here : filter p (y ∷ all) ≡ filter p all = rw differs refl in
-        subst (λ (l : List SocketAddr). NoneTwice reported_for (reported_each l)) (sym here) (none_left p all h.1)
-  ]
-
-  -- The first addresses of each family differ.
-  pub none_twice : (all : List SocketAddr) → NoneTwice reported_for (reported_each (first_of_each are_of_one_family all))
-  unfolding first_of_each
-  none_twice [] = tt
-  none_twice (x ∷ rest) = (apart x (first_of_each are_of_one_family rest), none_left (unlike x) (first_of_each are_of_one_family rest) (none_twice rest))
-
--- The first of each family are addresses of the list.
-pub in_firsts : (x : SocketAddr) (all : List SocketAddr) → IsIn x (first_of_each are_of_one_family all) → IsIn x all
-unfolding first_of_each
-in_firsts x [] h = absurd h
-in_firsts x (y ∷ rest) (inl is) = inl is
-in_firsts x (y ∷ rest) (inr h) = inr (in_firsts x rest (in_filter (λ z. not (are_of_one_family y z)) x (first_of_each are_of_one_family rest) h).0)
+-- The first addresses of each family differ.
+pub none_twice : (transport : TransportType) (number : ℕ) (all : List SocketAddr) → NoneTwice reported_for (map (reported_of transport number) (first_of_each are_of_one_family all))
+none_twice transport number all = firsts.none_twice are_of_one_family (λ x. same_family (family_of_socket x)) (reported_of transport number) (same_address transport number) all
 
 -- Addresses up to the first malformed one are visible.
 in_mapped : (f : Attr → Option SocketAddr) (a : Attr) (x : SocketAddr) (all more : List Attr) (o : Option SocketAddr) → f a ≡ o → IsIn x (filter_map f (a ∷ all)) → (IsIn x (filter_map f all) → IsIn x (filter_map f more)) → IsIn x (filter_map f (a ∷ more))
@@ -178,7 +126,7 @@ module _ (transport : TransportType) (number lifetime now : ℕ) where
     pub stored_gained : (h : run.Held) → IsStored (map fresh all) h → (t : Reported) × IsIn t (map (reported_of transport number) all) × (t.held ≡ h)
     stored_gained h k =
         let image = in_map fresh k.allocation all k.listed in
-        (reported_of transport number image.source, reported_in transport number image.source all image.listed, fresh_has h image.source (subst (λ (a : Allocation). Has a h) image.is k.has))
+        (reported_of transport number image.source, image_in (reported_of transport number) image.source all image.listed, fresh_has h image.source (subst (λ (a : Allocation). Has a h) image.is k.has))
 
     pub none_pending : {A : Type 0} (n : ℕ) (a : Allocation) → IsIn a (map fresh all) → IsPending n a → A
     none_pending n a listed is =

@@ -1,4 +1,4 @@
--- The success response to a CREATE_PERMISSION is a step of a run: the requested permission is gained.
+-- The success response to a CREATE_PERMISSION is a step of a run: the requested permissions are gained.
 use Rattle.std.proofs.Common.{◌≡◌, ℕ, true, List, [], ◌∷◌, ◌++◌, map, Some, None, refl, sym, ap, ◌∙◌, subst, arith, inl, inr}
 use Rattle.std.specs.FinMap as finite
 use Rattle.std.specs.List.{find}
@@ -20,9 +20,10 @@ use Rattle.turn_client_proto_timers.specs.TurnRuns.Messages as run
 use Rattle.turn_client_proto_timers.specs.TurnRuns.Steps.{ClientStep, IsAnswered, Reported, WasKnown, reported_for}
 use Rattle.turn_client_proto_timers.specs.TurnRuns.StunWire.{decoded_by}
 use Rattle.turn_client_proto_timers.specs.Allocation.Awaited.{asks_for_permission}
-use Rattle.turn_client_proto_timers.specs.Allocation.PendingRequests.{pending_request, awaits_reply}
-use Rattle.turn_client_proto_timers.specs.Peers.Permission.Permitted.{all_permitted}
-use Rattle.turn_client_proto_timers.specs.Peers.Permission.Granted.{permitted}
+use Rattle.turn_client_proto_timers.specs.Allocation.PendingRequests.{addresses_for, pending_request, awaits_reply}
+use Rattle.turn_client_proto_timers.specs.Allocation.Permissions.{addresses_of, names_of}
+use Rattle.turn_client_proto_timers.specs.Peers.Permission.Permitted.{all_permitted_each}
+use Rattle.turn_client_proto_timers.specs.Peers.Permission.Granted.{permitted_all}
 use Rattle.turn_client_proto_timers.specs.Allocation.declared.pending.PendingRequest.TheVariants.{NewPermission}
 use Rattle.turn_client_proto_timers.specs.Api.declared.event.TurnEvent.TheVariants.{PermissionCreated}
 use Rattle.turn_client_proto_timers.specs.Core.Permitting.{granted}
@@ -43,7 +44,9 @@ use Rattle.turn_client_proto_step_laws.proofs.Permitting.{ArePermitting, Gaining
 use Rattle.turn_client_proto_step_laws.proofs.Agents.{has_other, message_listed, outstanding_before}
 use Rattle.turn_client_proto_step_laws.proofs.Asking.{IsUnderWay}
 use Rattle.turn_client_proto_step_laws.proofs.Awaited.{IsRequestedOf, IsFoundBy, OfRequestedChannel, OfConnection, OfLifetime, OfNew, OfRenewal, OfRenewedChannel, found_by}
-use Rattle.turn_client_proto_step_laws.proofs.Lists.{found_in, found_passes, inside}
+use Rattle.turn_client_proto_step_laws.proofs.Firsts.{image_in}
+use Rattle.turn_client_proto_step_laws.proofs.Lists.{found_in, found_passes, in_map, inside}
+use Rattle.turn_client_proto_step_laws.proofs.Named.{addresses_found, named_once, permission_reported}
 use Rattle.turn_client_proto_step_laws.proofs.Orderly.{until_all}
 use Rattle.turn_client_proto_step_laws.proofs.Plain.{counts_none, held_is_stored, joined, notices}
 use Rattle.turn_client_proto_step_laws.proofs.Signed.{signed_arrives}
@@ -51,14 +54,14 @@ use Rattle.turn_client_proto_step_laws.proofs.Taken.{among}
 
 -- ---- the one that was found
 
--- The first allocation that awaits the response to a request, and the permission which that requested.
+-- The first allocation that awaits the response to a request, and the pending permission which that requested.
 pub record IsRequestedIn (number : ℕ) (transport : TransportType) (ip : IpAddr) (all : List Allocation) : Type 0 where
   pub allocation : Allocation
   pub found : find (awaits_reply number) all ≡ Some allocation
   pub is_transport : allocation.transport ≡ transport
   pub permission : PendingPermission
+  pub asked : find (asks_for_permission number) allocation.pending_permissions ≡ Some permission
   pub listed : IsIn permission allocation.pending_permissions
-  pub is_ip : permission.ip ≡ ip
   pub has : IsIn number permission.numbers
 
 pub requested_in : (number : ℕ) (transport : TransportType) (ip : IpAddr) (all : List Allocation) → pending_request number all ≡ Some (NewPermission transport ip) → IsRequestedIn number transport ip all
@@ -75,8 +78,8 @@ requested_in number transport ip all h = by (found_by number all (NewPermission 
       found = there;
       is_transport = Prim.cc same;
       permission = p;
+      asked = at;
       listed = found_in (asks_for_permission number) a.pending_permissions p at;
-      is_ip = Prim.cc same;
       has = among number p.numbers (found_passes (asks_for_permission number) a.pending_permissions p at);
     }
 
@@ -192,52 +195,68 @@ module _ (c : Client) (signer : signers.Client) (bytes : List ℕ) (message : re
       };
     }
 
--- ---- a permission
+-- ---- permissions
+
+-- Each permission is reported as created.
+permissions_decoded : (transport : TransportType) (number : ℕ) (ips : List IpAddr) → notices (map (PermissionCreated transport) ips) ≡ map (λ (x : Reported). x.notice) (map (permission_reported transport number) ips)
+permissions_decoded transport number [] = refl
+permissions_decoded transport number (ip ∷ ips) = ap (λ (l : List run.Notice). run.PermissionCreated transport ip ∷ l) (permissions_decoded transport number ips)
 
 module _ (c : Client) (signer : signers.Client) (bytes : List ℕ) (now : ℕ) (message : refusal bytes ≡ None) (success : class_of (kind_at bytes) ≡ Success) (ends : ends_one c.core.agent bytes ≡ true)
     (own : IsSignedFor c bytes) (transport : TransportType) (ip : IpAddr) (is : IsRequestedIn (number_at bytes) transport ip c.core.allocations) (t : Transaction) (there : finite.get c.core.agent.outstanding (number_at bytes) ≡ Some t)
     (orderly : IsOrderly (parts_of c.core)) (under_way : IsUnderWay c (bytes ∷ []) (accepted bytes (judged signer c.core))) where
-  abbrev reported : Reported
-  reported = record { notice = run.PermissionCreated transport ip; held = run.Permission transport ip; number = number_at bytes }
+  -- The addresses that the request names.
+  abbrev ips : List IpAddr
+  ips = addresses_for (number_at bytes) c.core.allocations
+
+  abbrev reported : IpAddr → Reported
+  reported = permission_reported transport (number_at bytes)
+
+  abbrev gained : List Reported
+  gained = map reported ips
+
+  were_named : ips ≡ addresses_of is.permission
+  were_named = addresses_found (number_at bytes) c.core.allocations is.allocation is.permission is.found is.asked
 
   was_listed : IsIn is.allocation c.core.allocations
   was_listed = found_in (awaits_reply (number_at bytes)) c.core.allocations is.allocation is.found
 
-  asks : run.Asks (decoded_by t.bytes) (run.Holds reported.held)
-  asks =
-      subst (λ (x : TransportType). run.Asks (decoded_by t.bytes) (run.Holds (run.Permission x ip))) is.is_transport
-      (subst (λ (x : IpAddr). run.Asks (decoded_by t.bytes) (run.Holds (run.Permission is.allocation.transport x))) is.is_ip
-      (orderly.permissions is.allocation was_listed is.permission is.listed (number_at bytes) is.has t there))
+  asks : (x : IpAddr) → IsIn x ips → run.Asks (decoded_by t.bytes) (run.Holds (run.Permission transport x))
+  asks x named =
+      subst (λ (y : TransportType). run.Asks (decoded_by t.bytes) (run.Holds (run.Permission y x))) is.is_transport
+      (orderly.permissions is.allocation was_listed is.permission is.listed (number_at bytes) is.has x (subst (λ (l : List IpAddr). IsIn x l) were_named named) t there)
 
-  -- The one gained item is this one.
-  only : (P : Reported → Type 0) → P reported → (x : Reported) → IsIn x (reported ∷ []) → P x
-  only P h x (inl same) = subst P same h
-  only P h x (inr none) = absurd none
+  -- Each gained item is the permission for one of these addresses.
+  only : (P : Reported → Type 0) → ((x : IpAddr) → IsIn x ips → P (reported x)) → (x : Reported) → IsIn x gained → P x
+  only P h x listed = let image = in_map reported x ips listed in subst P (sym image.is) (h image.source image.listed)
 
-  are_granted : AreGranted c bytes t.bytes (reported ∷ [])
+  are_granted : AreGranted c bytes t.bytes gained
   are_granted = record {
-    numbers = only (λ (x : Reported). x.number ≡ number_at bytes) refl;
+    numbers = only (λ (x : Reported). x.number ≡ number_at bytes) (λ x named. refl);
     asks = only (λ (x : Reported). run.Asks (decoded_by t.bytes) (run.Holds x.held)) asks;
-    brings = only (λ (x : Reported). run.Brings (decoded_by bytes) (run.Holds x.held)) success;
-    known = only (λ (x : Reported). WasKnown client_words c x.held) tt;
-    is_of = only (λ (x : Reported). run.IsOf x.notice x.held) refl;
-    once = ((λ x h. absurd h), tt);
+    brings = only (λ (x : Reported). run.Brings (decoded_by bytes) (run.Holds x.held)) (λ x named. success);
+    known = only (λ (x : Reported). WasKnown client_words c x.held) (λ x named. tt);
+    is_of = only (λ (x : Reported). run.IsOf x.notice x.held) (λ x named. refl);
+    once = subst (λ (l : List IpAddr). NoneTwice reported_for (map reported l)) (sym were_named) (named_once transport (number_at bytes) (names_of is.permission));
   }
 
   transport_of : (a : Allocation) → find (awaits_reply (number_at bytes)) c.core.allocations ≡ Some a → transport ≡ a.transport
   transport_of a found = sym is.is_transport ∙ ap (λ (x : Allocation). x.transport) (inside (sym is.found ∙ found))
 
-  are : ArePermitting (is_gained (reported ∷ [])) none_asks c.core.allocations (all_permitted ip (number_at bytes) now c.core.allocations)
-  are = first_permitting (is_gained (reported ∷ [])) none_asks (awaits_reply (number_at bytes)) (permitted ip (number_at bytes) now) c.core.allocations
-      (λ a found. permitted_permitting (is_gained (reported ∷ [])) none_asks ip (number_at bytes) now a
-      (reported, inl refl, ap (λ (x : TransportType). run.Permission x ip) (transport_of a found)))
+  are : ArePermitting (is_gained gained) none_asks c.core.allocations (all_permitted_each ips (number_at bytes) now c.core.allocations)
+  are = first_permitting (is_gained gained) none_asks (awaits_reply (number_at bytes)) (permitted_all ips (number_at bytes) now) c.core.allocations
+      (λ a found. permitted_permitting (is_gained gained) none_asks ips (number_at bytes) now a
+      (λ x named. (reported x, image_in reported x ips named, ap (λ (y : TransportType). run.Permission y x) (transport_of a found))))
 
-  no_channel : (channel : ℕ) (peer : SocketAddr) → is_gained (reported ∷ []) (run.Channel channel peer) → IsWhole peer
-  no_channel channel peer g = absurd (only (λ (x : Reported). x.held ≡ run.Channel channel peer → ⊥) (λ e. Prim.cc e) g.0 g.1 g.2)
+  no_channel : (channel : ℕ) (peer : SocketAddr) → is_gained gained (run.Channel channel peer) → IsWhole peer
+  no_channel channel peer g = absurd (only (λ (x : Reported). x.held ≡ run.Channel channel peer → ⊥) (λ x named e. Prim.cc e) g.0 g.1 g.2)
 
-  pub granted_step : IsRunStep c (bytes ∷ []) None [] (granted transport ip (number_at bytes) now (accepted bytes (judged signer c.core)))
+  decodes : notices (c.core.events ++ map (PermissionCreated transport) ips) ≡ notices c.core.events ++ map (λ (x : Reported). x.notice) gained
+  decodes = joined c.core.events (map (PermissionCreated transport) ips) ∙ ap (λ (l : List run.Notice). notices c.core.events ++ l) (permissions_decoded transport (number_at bytes) ips)
+
+  pub granted_step : IsRunStep c (bytes ∷ []) None [] (granted transport ips (number_at bytes) now (accepted bytes (judged signer c.core)))
   unfolding granted accepted
   granted_step =
-      gained_step c signer bytes message ends own t there orderly under_way (reported ∷ []) (all_permitted ip (number_at bytes) now c.core.allocations) (c.core.events ++ PermissionCreated transport ip ∷ [])
-      are_granted are (joined c.core.events (PermissionCreated transport ip ∷ [])) no_channel
-      (same_first_distinct (awaits_reply (number_at bytes)) (permitted ip (number_at bytes) now) (λ a. (refl, refl)) c.core.allocations orderly.distinct)
+      gained_step c signer bytes message ends own t there orderly under_way gained (all_permitted_each ips (number_at bytes) now c.core.allocations) (c.core.events ++ map (PermissionCreated transport) ips)
+      are_granted are decodes no_channel
+      (same_first_distinct (awaits_reply (number_at bytes)) (permitted_all ips (number_at bytes) now) (λ a. (refl, refl)) c.core.allocations orderly.distinct)

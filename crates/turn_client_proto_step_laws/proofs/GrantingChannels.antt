@@ -27,6 +27,7 @@ use Rattle.turn_client_proto_timers.specs.Allocation.Refreshing.{lifetime_reques
 use Rattle.turn_client_proto_timers.specs.Api.declared.event.TurnEvent.{TurnEvent}
 use Rattle.turn_client_proto_timers.specs.Api.declared.event.TurnEvent.TheVariants.{ChannelCreated, PermissionCreated}
 use Rattle.turn_client_proto_timers.specs.Allocation.PendingRequests.{pending_request, requested_of, awaits_reply}
+use Rattle.turn_client_proto_timers.specs.Allocation.Permissions.{addresses_of}
 use Rattle.turn_client_proto_timers.specs.Peers.Channel.Granted as channels
 use Rattle.turn_client_proto_timers.specs.Peers.Channel.Granted.{all_bound}
 use Rattle.turn_client_proto_timers.specs.Peers.Permission.Permitted.{permission_requested}
@@ -51,6 +52,7 @@ use Rattle.turn_client_proto_step_laws.proofs.Chaining.{chained}
 use Rattle.turn_client_proto_step_laws.proofs.Granting.{AreGranted, gained_step, is_gained}
 use Rattle.turn_client_proto_step_laws.proofs.Lessening.{same_first_distinct}
 use Rattle.turn_client_proto_step_laws.proofs.Lists.{found_in, found_passes, inside}
+use Rattle.turn_client_proto_step_laws.proofs.Named.{first_named}
 use Rattle.turn_client_proto_step_laws.proofs.Permissions.{first_permitting, permitted_permitting}
 use Rattle.turn_client_proto_step_laws.proofs.Permitting.{ArePermitting, all_themselves, none_asks}
 use Rattle.turn_client_proto_step_laws.proofs.Plain.{joined, notices}
@@ -166,10 +168,10 @@ module _ (c : Client) (signer : signers.Client) (bytes : List ℕ) (now : ℕ) (
   permission_reissued_under ip at =
       let one = beside number all is.allocation ip is.found at in
       let listed = found_in (asks_for_permission number) is.allocation.pending_permissions one.permission one.found in
+      let named : IsIn ip (addresses_of one.permission) = subst (λ (x : IpAddr). IsIn x (addresses_of one.permission)) one.is_ip (first_named one.permission) in
       let has = among number one.permission.numbers (found_passes (asks_for_permission number) is.allocation.pending_permissions one.permission one.found) in
       subst (λ (x : TransportType). run.Asks (decoded_by t.bytes) (run.Holds (run.Permission x ip))) is.is_transport
-      (subst (λ (x : IpAddr). run.Asks (decoded_by t.bytes) (run.Holds (run.Permission is.allocation.transport x))) one.is_ip
-      (orderly.permissions is.allocation is.listed one.permission listed number has t there))
+      (orderly.permissions is.allocation is.listed one.permission listed number has ip named t there)
 
   once : (o : Option IpAddr) → NoneTwice reported_for (gained o)
   once None = ((λ x h. absurd h), tt)
@@ -201,8 +203,11 @@ module _ (c : Client) (signer : signers.Client) (bytes : List ℕ) (now : ℕ) (
   permits_first : (o : Option IpAddr) → ArePermitting (is_gained (gained o)) none_asks all (between o)
   permits_first None = all_themselves (is_gained (gained None)) none_asks all
   permits_first (Some ip) = first_permitting (is_gained (gained (Some ip))) none_asks (awaits_reply number) (permitted ip number now) all
-      (λ a found. permitted_permitting (is_gained (gained (Some ip))) none_asks ip number now a
-      (of_permission ip, inl refl, ap (λ (x : TransportType). run.Permission x ip) (transport_of a found)))
+      (λ a found. permitted_permitting (is_gained (gained (Some ip))) none_asks (ip ∷ []) number now a (only a found))
+    where
+      only : (a : Allocation) → find (awaits_reply number) all ≡ Some a → (x : IpAddr) → IsIn x (ip ∷ []) → is_gained (gained (Some ip)) (run.Permission a.transport x)
+      only a found x (inl same) = (of_permission ip, inl refl, ap (λ (y : TransportType). run.Permission y ip) (transport_of a found) ∙ ap (λ (y : IpAddr). run.Permission a.transport y) same)
+      only a found x (inr none) = absurd none
 
   are : (o : Option IpAddr) → ArePermitting (is_gained (gained o)) none_asks all (all_bound channel peer number now (between o))
   are o = chained (is_gained (gained o)) none_asks all (between o) (all_bound channel peer number now (between o)) (permits_first o)

@@ -22,6 +22,7 @@ pub mod Drawing
 pub mod Ending
 pub mod Finding
 pub mod FirstNumber
+pub mod Firsts
 pub mod Fitting
 pub mod Frames
 pub mod Gaining
@@ -35,6 +36,7 @@ pub mod Leaving
 pub mod Lessening
 pub mod Limits
 pub mod Lists
+pub mod Named
 pub mod Numbers
 pub mod Offering
 pub mod Once

@@ -75,7 +75,7 @@ agent_orderly p agent none is = record {
   allocates = before_map p.phase (λ h. still_allocates p.agent agent none p.allocates h) is.allocates;
   queued = is.queued;
   lifetimes = is.lifetimes;
-  permissions = λ a listed p there n has. asks_still (Permission a.transport p.ip) n (is.permissions a listed p there n has);
+  permissions = λ a listed p there n has ip named. asks_still (Permission a.transport ip) n (is.permissions a listed p there n has ip named);
   channels = λ a listed. let requested = is.channels a listed in record {
     requested = λ c there n has. asks_still (Channel c.channel c.peer) n (requested.requested c there n has);
     renewed = λ c there n has. asks_still (Channel c.number c.peer) n (requested.renewed c there n has);
@@ -108,7 +108,8 @@ request_orderly p bytes to now message free allocate is = record {
   allocates = before_both p.phase (λ (own : IsAllocate p bytes) h. allocates_sent p.agent bytes to now p.allocates own.0 own.1 h) allocate is.allocates;
   queued = is.queued;
   lifetimes = is.lifetimes;
-  permissions = λ a listed pending there n has. asks_yet a listed (Holds (Permission a.transport pending.ip)) n (OfNewPermission pending there has) (is.permissions a listed pending there n has);
+  permissions = λ a listed pending there n has ip named.
+      asks_yet a listed (Holds (Permission a.transport ip)) n (OfNewPermission pending there has) (is.permissions a listed pending there n has ip named);
   channels = λ a listed. let requested = is.channels a listed in record {
     requested = λ c there n has. asks_yet a listed (Holds (Channel c.channel c.peer)) n (OfNewChannel c there has) (requested.requested c there n has);
     renewed = λ c there n has. asks_yet a listed (Holds (Channel c.number c.peer)) n (OfChannel c there has) (requested.renewed c there n has);
@@ -181,10 +182,10 @@ allocations_orderly more p new less short distinct is = record {
   allocates = is.allocates;
   queued = is.queued;
   lifetimes = still_short more p.allocations new less short is.lifetimes;
-  permissions = λ a listed pending there n has.
+  permissions = λ a listed pending there n has ip named.
       let was = less a listed in
-      subst (λ (transport : TransportType). AsksFor p.agent (Permission transport pending.ip) n) (sym was.less.transport)
-      (is.permissions was.before was.listed pending (was.less.new_permissions pending there) n has);
+      subst (λ (transport : TransportType). AsksFor p.agent (Permission transport ip) n) (sym was.less.transport)
+      (is.permissions was.before was.listed pending (was.less.new_permissions pending there) n has ip named);
   channels = λ a listed. let was = less a listed in let requested = is.channels was.before was.listed in record {
     requested = λ c there n has. requested.requested c (was.less.new_channels c there) n has;
     renewed = λ c there n has. requested.renewed c (was.less.channels c there) n has;

@@ -6,16 +6,16 @@ use Rattle.turn_client_proto_timers.specs.StunTypesBase.declared.transport.Trans
 use Rattle.turn_client_proto_timers.specs.TurnRuns.Members.{IsIn}
 use Rattle.turn_client_proto_timers.specs.Allocation.Awaited.{asks_for_permission, is_among, renews_permission}
 use Rattle.turn_client_proto_timers.specs.Allocation.Changes.{change_first}
-use Rattle.turn_client_proto_timers.specs.Allocation.Permissions.{requested_again, awaiting, has_expired, is_over, not_pending_request, not_over, not_renewed_by, polled_permission, polled_permissions, renewed_again, renewed_first, renewed_permission, standing, wants_renewal, with_number}
+use Rattle.turn_client_proto_timers.specs.Allocation.Permissions.{addresses_of, each_once, requested_again, awaiting, has_expired, is_over, not_pending_request, not_over, not_renewed_by, polled_permission, polled_permissions, renewed_again, renewed_first, renewed_permission, standing, wants_renewal, with_number}
 use Rattle.turn_client_proto_timers.specs.Peers.Permission.Asking.{asking}
 use Rattle.turn_client_proto_timers.specs.Allocation.PendingRequests.{reissued_under}
 use Rattle.turn_client_proto_timers.specs.Allocation.declared.pending.PendingRequest.TheVariants.{NewPermission, Renewal}
-use Rattle.turn_client_proto_timers.specs.Peers.Permission.Granted.{granted_for, permission_end, permitted, renewed, rejected}
+use Rattle.turn_client_proto_timers.specs.Peers.Permission.Granted.{granted_for, permission_end, permitted_all, renewed, rejected}
 use Rattle.turn_client_proto_timers.specs.Peers.Permission.Reporting.{polled}
 use Rattle.turn_client_proto_timers.specs.Peers.Permission.Wanting.{renewing}
 use Rattle.turn_client_proto_step_laws.specs.Held.{Allocation, PendingPermission, Permission}
 use Rattle.turn_client_proto_step_laws.proofs.Lists.{found_in, in_changed, in_either, in_filter, in_first, in_map, inside}
-use Rattle.turn_client_proto_step_laws.proofs.Permitting.{ArePermitting, AreKin, AreKnown, Asking, Gaining, IsKin, IsNow, IsPermitting, itself, kin_itself, known_itself, none_asks, none_gained, with_lists, with_permission}
+use Rattle.turn_client_proto_step_laws.proofs.Permitting.{ArePermitting, AreKin, AreKnown, Asking, Gaining, IsKin, IsNow, IsPermitting, itself, kin_itself, known_itself, none_asks, none_gained, with_lists, with_permissions}
 use Rattle.turn_client_proto_step_laws.proofs.Permits.{asks_by, permits_ip}
 use Rattle.turn_client_proto_timers.specs.TurnRuns.Messages as run
 use Rattle.turn_client_proto_timers.specs.Messages.declared.request.TurnRequest.TheVariants.{CreatePermission}
@@ -79,38 +79,39 @@ module _ (Now : Asking) (number : ℕ) (now : IsNow Now number) (old : List Perm
 -- ---- those that were requested
 
 pub fewer_requested : (Now : Asking) (transport : TransportType) (old : List PendingPermission) (keeps : PendingPermission → Bool) → AreKnown Now transport old (filter keeps old)
-fewer_requested Now transport old keeps p listed n has = known_itself Now transport old p (in_filter keeps p old listed).0 n has
+fewer_requested Now transport old keeps p listed n has ip named = known_itself Now transport old p (in_filter keeps p old listed).0 n has ip named
 
 -- The first permission that a request asks for is requested once more.
 module _ (Now : Asking) (transport : TransportType) (before number : ℕ) (old : List PendingPermission)
-    (now : (p : PendingPermission) → find (asks_for_permission before) old ≡ Some p → Now (run.Permission transport p.ip) number) where
+    (now : (p : PendingPermission) → find (asks_for_permission before) old ≡ Some p → (ip : IpAddr) → IsIn ip (addresses_of p) → Now (run.Permission transport ip) number) where
   pub once_more : AreKnown Now transport old (requested_again before number old)
-  once_more p listed n has =
+  once_more p listed n has ip named =
       elim (in_first (asks_for_permission before) (with_number number) p old listed) [
-        | inl was ↦ known_itself Now transport old p was n has
+        | inl was ↦ known_itself Now transport old p was n has ip named
         | inr changed ↦
             let q : PendingPermission = changed.0 in
             let there : IsIn q old = found_in (asks_for_permission before) old q changed.1 in
-            let same : p.ip ≡ q.ip = ap (λ (x : PendingPermission). x.ip) changed.2 in
+            let same : IsIn ip (addresses_of q) = subst (λ (x : PendingPermission). IsIn ip (addresses_of x)) changed.2 named in
             elim (in_either n q.numbers (number ∷ []) (subst (λ (x : PendingPermission). IsIn n x.numbers) changed.2 has)) [
-              | inl was ↦ inl (record { before = q; listed = there; ip = same; has = was })
+              | inl was ↦ inl (record { before = q; listed = there; named = same; has = was })
               | inr new ↦ elim new [
-                | inl is ↦ inr (subst (λ (k : ℕ). Now (run.Permission transport p.ip) k) is (subst (λ (x : IpAddr). Now (run.Permission transport x) number) (sym same) (now q changed.1)))
+                | inl is ↦ inr (subst (λ (k : ℕ). Now (run.Permission transport ip) k) is (now q changed.1 ip same))
                 | inr none ↦ absurd none
               ]
             ]
       ]
 
-pub one_more : (Now : Asking) (transport : TransportType) (ip : IpAddr) (number : ℕ) (old : List PendingPermission) → Now (run.Permission transport ip) number
-    → AreKnown Now transport old (old ++ record { ip = ip; numbers = number ∷ [] } ∷ [])
-one_more Now transport ip number old now p listed n has =
-    elim (in_either p old (record { ip = ip; numbers = number ∷ [] } ∷ []) listed) [
-      | inl was ↦ known_itself Now transport old p was n has
-      | inr own ↦ elim own [
+-- One permission more is requested, for these addresses.
+pub one_more : (Now : Asking) (transport : TransportType) (own : PendingPermission) (number : ℕ) (old : List PendingPermission) → own.numbers ≡ number ∷ []
+    → ((ip : IpAddr) → IsIn ip (addresses_of own) → Now (run.Permission transport ip) number) → AreKnown Now transport old (old ++ own ∷ [])
+one_more Now transport own number old numbered now p listed n has ip named =
+    elim (in_either p old (own ∷ []) listed) [
+      | inl was ↦ known_itself Now transport old p was n has ip named
+      | inr last ↦ elim last [
         | inl same ↦
-            let address : ip ≡ p.ip = ap (λ (x : PendingPermission). x.ip) same in
-            elim (subst (λ (x : PendingPermission). IsIn n x.numbers) (sym same) has) [
-              | inl is ↦ inr (subst (λ (k : ℕ). Now (run.Permission transport p.ip) k) is (subst (λ (x : IpAddr). Now (run.Permission transport x) number) address now))
+            let asked : Now (run.Permission transport ip) number = now ip (subst (λ (x : PendingPermission). IsIn ip (addresses_of x)) (sym same) named) in
+            elim (subst (λ (l : List ℕ). IsIn n l) (ap (λ (x : PendingPermission). x.numbers) (sym same) ∙ numbered) has) [
+              | inl is ↦ inr (subst (λ (k : ℕ). Now (run.Permission transport ip) k) is asked)
               | inr none ↦ absurd none
             ]
         | inr none ↦ absurd none
@@ -146,36 +147,53 @@ renewed_permitting number now a =
     (all_renewed none_asks a.permissions number (permission_end now)) (known_itself none_asks a.transport a.pending_permissions)
 
 -- A CREATE_PERMISSION that renews a permission.
-abbrev renews_now : (ip : IpAddr) (number : ℕ) (a : Allocation) → IsNow (asks_by (CreatePermission ip) number) number
-renews_now ip number a = (run.Permission a.transport ip, permits_ip ip number a.transport)
+abbrev renews_now : (ip : IpAddr) (number : ℕ) (a : Allocation) → IsNow (asks_by (CreatePermission (ip ∷ [])) number) number
+renews_now ip number a = (run.Permission a.transport ip, permits_ip (ip ∷ []) ip (inl refl) number a.transport)
 
-pub renewing_again_permitting : (transport : TransportType) (ip : IpAddr) (before number : ℕ) (a : Allocation) → IsPermitting none_gained (asks_by (CreatePermission ip) number) a (reissued_under (Renewal transport ip) before number a)
+pub renewing_again_permitting : (transport : TransportType) (ip : IpAddr) (before number : ℕ) (a : Allocation) → IsPermitting none_gained (asks_by (CreatePermission (ip ∷ [])) number) a (reissued_under (Renewal transport ip) before number a)
 renewing_again_permitting transport ip before number a =
-    with_lists none_gained (asks_by (CreatePermission ip) number) a (renewed_again before number a.permissions) a.pending_permissions
-    (one_awaiting (asks_by (CreatePermission ip) number) number (renews_now ip number a) a.permissions (renews_permission before)) (known_itself (asks_by (CreatePermission ip) number) a.transport a.pending_permissions)
+    with_lists none_gained (asks_by (CreatePermission (ip ∷ [])) number) a (renewed_again before number a.permissions) a.pending_permissions
+    (one_awaiting (asks_by (CreatePermission (ip ∷ [])) number) number (renews_now ip number a) a.permissions (renews_permission before)) (known_itself (asks_by (CreatePermission (ip ∷ [])) number) a.transport a.pending_permissions)
 
-pub renewing_permitting : (ip : IpAddr) (now number : ℕ) (a : Allocation) → IsPermitting none_gained (asks_by (CreatePermission ip) number) a (renewing now number a)
+pub renewing_permitting : (ip : IpAddr) (now number : ℕ) (a : Allocation) → IsPermitting none_gained (asks_by (CreatePermission (ip ∷ [])) number) a (renewing now number a)
 renewing_permitting ip now number a =
-    with_lists none_gained (asks_by (CreatePermission ip) number) a (renewed_first now number a.permissions) a.pending_permissions
-    (one_awaiting (asks_by (CreatePermission ip) number) number (renews_now ip number a) a.permissions (wants_renewal now)) (known_itself (asks_by (CreatePermission ip) number) a.transport a.pending_permissions)
+    with_lists none_gained (asks_by (CreatePermission (ip ∷ [])) number) a (renewed_first now number a.permissions) a.pending_permissions
+    (one_awaiting (asks_by (CreatePermission (ip ∷ [])) number) number (renews_now ip number a) a.permissions (wants_renewal now)) (known_itself (asks_by (CreatePermission (ip ∷ [])) number) a.transport a.pending_permissions)
 
-pub asking_again_permitting : (transport : TransportType) (before number : ℕ) (a : Allocation) (p : PendingPermission) → find (asks_for_permission before) a.pending_permissions ≡ Some p
-    → IsPermitting none_gained (asks_by (CreatePermission p.ip) number) a (reissued_under (NewPermission transport p.ip) before number a)
-asking_again_permitting transport before number a p at =
-    with_lists none_gained (asks_by (CreatePermission p.ip) number) a a.permissions (requested_again before number a.pending_permissions)
-    (kin_itself (asks_by (CreatePermission p.ip) number) a.permissions)
-    (once_more (asks_by (CreatePermission p.ip) number) a.transport before number a.pending_permissions
-    (λ q found. subst (λ (x : PendingPermission). asks_by (CreatePermission p.ip) number (run.Permission a.transport x.ip) number) (inside (sym at ∙ found)) (permits_ip p.ip number a.transport)))
+-- What the first pending permission names is requested once more.
+pub asking_again_permitting : (transport : TransportType) (ip : IpAddr) (before number : ℕ) (a : Allocation) (p : PendingPermission) → find (asks_for_permission before) a.pending_permissions ≡ Some p
+    → IsPermitting none_gained (asks_by (CreatePermission (addresses_of p)) number) a (reissued_under (NewPermission transport ip) before number a)
+asking_again_permitting transport ip before number a p at =
+    with_lists none_gained (asks_by (CreatePermission (addresses_of p)) number) a a.permissions (requested_again before number a.pending_permissions)
+    (kin_itself (asks_by (CreatePermission (addresses_of p)) number) a.permissions)
+    (once_more (asks_by (CreatePermission (addresses_of p)) number) a.transport before number a.pending_permissions
+    (λ q found x named. permits_ip (addresses_of p) x (subst (λ (y : PendingPermission). IsIn x (addresses_of y)) (inside (sym found ∙ at)) named) number a.transport))
 
-pub asking_permitting : (ip : IpAddr) (number : ℕ) (a : Allocation) → IsPermitting none_gained (asks_by (CreatePermission ip) number) a (asking (record { ip = ip; numbers = number ∷ [] }) a)
-asking_permitting ip number a =
-    with_lists none_gained (asks_by (CreatePermission ip) number) a a.permissions (a.pending_permissions ++ record { ip = ip; numbers = number ∷ [] } ∷ [])
-    (kin_itself (asks_by (CreatePermission ip) number) a.permissions)
-    (one_more (asks_by (CreatePermission ip) number) a.transport ip number a.pending_permissions (permits_ip ip number a.transport))
+-- A permission that a request with this transaction ID asks for.
+abbrev pub pending_for : (ip : IpAddr) (others : List IpAddr) → ℕ → PendingPermission
+pending_for ip others number = record { ip = ip; others = others; numbers = number ∷ [] }
 
-pub permitted_permitting : (New : Gaining) (Now : Asking) (ip : IpAddr) (number now : ℕ) (a : Allocation) → New (run.Permission a.transport ip) → IsPermitting New Now a (permitted ip number now a)
-permitted_permitting New Now ip number now a new =
-    with_permission New Now a (granted_for ip now) (not_pending_request number a.pending_permissions) refl new (fewer_requested Now a.transport a.pending_permissions (λ p. not (asks_for_permission number p)))
+pub asking_permitting : (ip : IpAddr) (others : List IpAddr) (number : ℕ) (a : Allocation)
+    → IsPermitting none_gained (asks_by (CreatePermission (each_once (ip ∷ others))) number) a (asking (pending_for ip others number) a)
+asking_permitting ip others number a =
+    let Now : Asking = asks_by (CreatePermission (each_once (ip ∷ others))) number in
+    with_lists none_gained Now a a.permissions (a.pending_permissions ++ pending_for ip others number ∷ [])
+    (kin_itself Now a.permissions)
+    (one_more Now a.transport (pending_for ip others number) number a.pending_permissions refl (λ x named. permits_ip (each_once (ip ∷ others)) x named number a.transport))
+
+-- Each of these addresses gets a permission.
+pub permitted_permitting : (New : Gaining) (Now : Asking) (ips : List IpAddr) (number now : ℕ) (a : Allocation) → ((ip : IpAddr) → IsIn ip ips → New (run.Permission a.transport ip))
+    → IsPermitting New Now a (permitted_all ips number now a)
+permitted_permitting New Now ips number now a new =
+    with_permissions New Now a (map (λ ip. granted_for ip now) ips) (not_pending_request number a.pending_permissions) granted_each
+    (fewer_requested Now a.transport a.pending_permissions (λ p. not (asks_for_permission number p)))
+  where
+    granted_each : (p : Permission) → IsIn p (map (λ ip. granted_for ip now) ips) → (p.renewals ≡ []) × New (run.Permission a.transport p.ip)
+    granted_each p listed =
+        let image = in_map (λ ip. granted_for ip now) p ips listed in (
+          ap (λ (x : Permission). x.renewals) image.is,
+          subst (λ (x : Permission). New (run.Permission a.transport x.ip)) (sym image.is) (new image.source image.listed),
+        )
 
 -- ---- all of them
 

@@ -10,6 +10,7 @@ use Rattle.turn_client_proto_timers.specs.StunProtoAgent.Sending.{with_request}
 use Rattle.turn_client_proto_timers.specs.StunProtoAgent.State.{Agent}
 use Rattle.turn_client_proto_timers.proofs.StunProtoAgent.Numbers.{sent}
 use Rattle.turn_client_proto_recv.specs.TurnTypesAttributes.TurnRegistry.{channel_bind_method, create_permission_method}
+use Rattle.turn_client_proto_timers.specs.TurnRuns.Members.{IsIn}
 use Rattle.turn_client_proto_timers.specs.TurnRuns.Messages as run
 use Rattle.turn_client_proto_timers.specs.TurnRuns.Names.{socket_ip}
 use Rattle.turn_client_proto_timers.specs.TurnRuns.StunWire.{decoded_by}
@@ -21,6 +22,7 @@ use Rattle.turn_client_proto_timers.specs.Core.declared.protocol.Protocol.{Proto
 use Rattle.turn_client_proto_step_laws.specs.Sound.{AsksFor, IsWhole}
 use Rattle.turn_client_proto_step_laws.proofs.Adding.{HasNumber}
 use Rattle.turn_client_proto_step_laws.proofs.Asking.{IsMade}
+use Rattle.turn_client_proto_step_laws.proofs.Firsts.{image_in}
 use Rattle.turn_client_proto_step_laws.proofs.Fitting.{AreFit}
 use Rattle.turn_client_proto_step_laws.proofs.Permitting.{Asking, none_gained, one_asks}
 use Rattle.turn_client_proto_step_laws.proofs.Taken.{none_outstanding}
@@ -33,9 +35,9 @@ ip_of (V6 a) = refl
 abbrev pub asks_by : TurnRequest → ℕ → Asking
 asks_by request number = one_asks (reported_request request number)
 
--- A CREATE_PERMISSION asks for a permission for its address, over any transport.
-pub permits_ip : (ip : IpAddr) (number : ℕ) (transport : TransportType) → asks_by (CreatePermission ip) number (run.Permission transport ip) number
-permits_ip ip number transport = (inl (refl, record { peer = peer_of ip; listed = inl refl; ip_is = ip_of ip }), refl)
+-- A CREATE_PERMISSION asks for a permission for each of its addresses, over any transport.
+pub permits_ip : (ips : List IpAddr) (ip : IpAddr) → IsIn ip ips → (number : ℕ) (transport : TransportType) → asks_by (CreatePermission ips) number (run.Permission transport ip) number
+permits_ip ips ip named number transport = (inl (refl, record { peer = peer_of ip; listed = image_in peer_of ip ips named; ip_is = ip_of ip }), refl)
 
 -- A CHANNEL_BIND asks for that channel.
 pub binds_channel : (channel : ℕ) (peer : SocketAddr) (number : ℕ) → asks_by (ChannelBind channel peer) number (run.Channel channel peer) number
@@ -76,10 +78,10 @@ module _ (mid : Protocol) (request : TurnRequest) (number now : ℕ) (is : IsMad
   pub made_number : (held : run.Held) (n : ℕ) → asks_by request number held n → HasNumber n (decoded_by text ∷ [])
   made_number held n asks = record { one = decoded_by text; listed = inl refl; is = is.number_is ∙ sym (asks.1 ∙ reported_number request number) }
 
-pub permission_fit : (mid : Protocol) (ip : IpAddr) (number now : ℕ) → IsMade mid (CreatePermission ip) number
-    → AreFit none_gained (asks_by (CreatePermission ip) number) (with_request mid.agent (request_text mid.auth (CreatePermission ip) number) mid.server now)
-permission_fit mid ip number now is = record {
-  asks = own_asks mid (CreatePermission ip) number now is;
+pub permission_fit : (mid : Protocol) (ips : List IpAddr) (number now : ℕ) → IsMade mid (CreatePermission ips) number
+    → AreFit none_gained (asks_by (CreatePermission ips) number) (with_request mid.agent (request_text mid.auth (CreatePermission ips) number) mid.server now)
+permission_fit mid ips number now is = record {
+  asks = own_asks mid (CreatePermission ips) number now is;
   requested = λ channel peer n h. let method : create_permission_method ≡ channel_bind_method = h.0.0 in absurd (omega (arith, method));
   gained = λ channel peer h. absurd h;
 }

@@ -5,11 +5,13 @@ use Rattle.std.specs.declared.net.socket_addr.SocketAddr.{SocketAddr}
 use Rattle.turn_client_proto_timers.specs.StunTypesBase.declared.transport.TransportType.{TransportType}
 use Rattle.turn_client_proto_timers.specs.TurnRuns.Members.{IsIn}
 use Rattle.turn_client_proto_timers.specs.TurnRuns.Messages as run
+use Rattle.turn_client_proto_timers.specs.Allocation.Permissions.{addresses_of}
 use Rattle.turn_client_proto_step_laws.specs.ClientWords.{Has, HasItself, HasPermission, HasChannel, HasConnection, IsAttempted, IsWaiting, IsAnswered, IsStored, IsPending, OfPermission, OfChannel, OfNewPermission, OfNewChannel, OfRefresh, OfConnect, OfAttempt, OfBinding, IsTaken, Outstanding, Allocating, Pending, Knows, ByWaiting, ByConnection, Waits}
 use Rattle.turn_client_proto_step_laws.specs.Held.{Allocation, Channel, Connecting, Connection, PendingChannel, PendingPermission, PendingRefresh, Permission, Waiting}
 use Rattle.turn_client_proto_step_laws.specs.RunClient.{Parts}
 use Rattle.turn_client_proto_step_laws.proofs.Adding.{Adds, HasNumber}
 use Rattle.turn_client_proto_step_laws.proofs.Lists.{IsImage, in_either, in_map}
+use Rattle.turn_client_proto_step_laws.proofs.Named.{first_named}
 
 -- ---- what is gained, and what is requested
 
@@ -51,11 +53,11 @@ pub record WasRenewing (old : List Permission) (number : ℕ) : Type 0 where
   pub listed : IsIn before old
   pub has : IsIn number before.renewals
 
--- A request with this transaction ID asked for a permission for this address before.
+-- A request with this transaction ID asked for a permission for this address before, perhaps among others.
 pub record WasAsking (old : List PendingPermission) (address : IpAddr) (number : ℕ) : Type 0 where
   pub before : PendingPermission
   pub listed : IsIn before old
-  pub ip : address ≡ before.ip
+  pub named : IsIn address (addresses_of before)
   pub has : IsIn number before.numbers
 
 -- A channel with the same number and peer was active before.
@@ -95,8 +97,8 @@ pub record IsPermitting (New : Gaining) (Now : Asking) (before after : Allocatio
   pub address : after.address ≡ before.address
   pub permissions : (p : Permission) → IsIn p after.permissions → Stood before.permissions p ⊎ New (run.Permission after.transport p.ip)
   pub renewals : (p : Permission) (n : ℕ) → IsIn p after.permissions → IsIn n p.renewals → WasRenewing before.permissions n ⊎ IsNow Now n
-  pub numbers : (p : PendingPermission) (n : ℕ) → IsIn p after.pending_permissions → IsIn n p.numbers
-      → WasAsking before.pending_permissions p.ip n ⊎ Now (run.Permission after.transport p.ip) n
+  pub numbers : (p : PendingPermission) (n : ℕ) → IsIn p after.pending_permissions → IsIn n p.numbers → (ip : IpAddr) → IsIn ip (addresses_of p)
+      → WasAsking before.pending_permissions ip n ⊎ Now (run.Permission after.transport ip) n
   pub channels : (c : Channel) → IsIn c after.channels → StoodBound before.channels c ⊎ New (run.Channel c.number c.peer)
   pub channel_renewals : (c : Channel) (n : ℕ) → IsIn c after.channels → IsIn n c.renewals
       → WasBinding before.channels c.number c.peer n ⊎ Now (run.Channel c.number c.peer) n
@@ -131,10 +133,10 @@ abbrev pub AreKin : Asking → List Permission → List Permission → Type 0
 AreKin Now old new = (p : Permission) → IsIn p new → IsKin Now old p
 
 -- The transaction IDs of permissions that are requested over a transport are those of before, or are made
--- now.
+-- now, for each address of a request.
 abbrev pub AreKnown : Asking → TransportType → List PendingPermission → List PendingPermission → Type 0
-AreKnown Now transport old new = (p : PendingPermission) → IsIn p new → (n : ℕ) → IsIn n p.numbers
-    → WasAsking old p.ip n ⊎ Now (run.Permission transport p.ip) n
+AreKnown Now transport old new = (p : PendingPermission) → IsIn p new → (n : ℕ) → IsIn n p.numbers → (ip : IpAddr) → IsIn ip (addresses_of p)
+    → WasAsking old ip n ⊎ Now (run.Permission transport ip) n
 
 -- A channel with the same number and peer was active before, and its requests are those of before, or are
 -- made now.
@@ -161,7 +163,7 @@ pub kin_itself : (Now : Asking) (old : List Permission) → AreKin Now old old
 kin_itself Now old p listed = record { before = p; listed = listed; ip = refl; renewals = λ n has. inl has }
 
 pub known_itself : (Now : Asking) (transport : TransportType) (old : List PendingPermission) → AreKnown Now transport old old
-known_itself Now transport old p listed n has = inl (record { before = p; listed = listed; ip = refl; has = has })
+known_itself Now transport old p listed n has ip named = inl (record { before = p; listed = listed; named = named; has = has })
 
 pub bound_itself : (Now : Asking) (old : List Channel) → AreBoundKin Now old old
 bound_itself Now old c listed = record { before = c; listed = listed; number = refl; peer = refl; renewals = λ n has. inl has }
@@ -214,22 +216,20 @@ module _ (New : Gaining) (Now : Asking) (a : Allocation) where
   pub itself : IsPermitting New Now a a
   itself = with_lists a.permissions a.pending_permissions (kin_itself Now a.permissions) (known_itself Now a.transport a.pending_permissions)
 
-  -- An allocation with a permission that was gained.
-  pub with_permission : (own : Permission) (pending : List PendingPermission) → own.renewals ≡ [] → New (run.Permission a.transport own.ip) → AreKnown Now a.transport a.pending_permissions pending
-      → IsPermitting New Now a (record a { permissions = a.permissions ++ own ∷ []; pending_permissions = pending })
-  with_permission own pending none new known = record {
+  -- An allocation with permissions that were gained.
+  pub with_permissions : (own : List Permission) (pending : List PendingPermission) → ((p : Permission) → IsIn p own → (p.renewals ≡ []) × New (run.Permission a.transport p.ip))
+      → AreKnown Now a.transport a.pending_permissions pending
+      → IsPermitting New Now a (record a { permissions = a.permissions ++ own; pending_permissions = pending })
+  with_permissions own pending new known = record {
     transport = refl;
     address = refl;
-    permissions = λ p listed. elim (in_either p a.permissions (own ∷ []) listed) [
+    permissions = λ p listed. elim (in_either p a.permissions own listed) [
       | inl was ↦ inl (record { before = p; listed = was; ip = refl })
-      | inr last ↦ elim last [ inl same ↦ inr (subst (λ (x : Permission). New (run.Permission a.transport x.ip)) same new) | inr never ↦ absurd never ]
+      | inr last ↦ inr (new p last).1
     ];
-    renewals = λ p n listed has. elim (in_either p a.permissions (own ∷ []) listed) [
+    renewals = λ p n listed has. elim (in_either p a.permissions own listed) [
       | inl was ↦ inl (record { before = p; listed = was; has = has })
-      | inr last ↦ elim last [
-        | inl same ↦ absurd (subst (λ (l : List ℕ). IsIn n l) (ap (λ (x : Permission). x.renewals) (sym same) ∙ none) has)
-        | inr never ↦ absurd never
-      ]
+      | inr last ↦ absurd (subst (λ (l : List ℕ). IsIn n l) (new p last).0 has)
     ];
     numbers = λ p n listed has. known p listed n has;
     channels = itself.channels;
@@ -300,7 +300,7 @@ module _ (New : Gaining) (Now : Asking) (before after : Allocation) (is : IsPerm
     | inl was ↦ inl (OfPermission was.before was.listed was.has)
     | inr now ↦ inr now
   ]
-  pending_before n (OfNewPermission p listed has) = elim (is.numbers p n listed has) [
+  pending_before n (OfNewPermission p listed has) = elim (is.numbers p n listed has p.ip (first_named p)) [
     | inl was ↦ inl (OfNewPermission was.before was.listed was.has)
     | inr now ↦ inr (run.Permission after.transport p.ip, now)
   ]

@@ -54,7 +54,7 @@ by_test false f g h = g refl h
 
 -- ---- what is reported of permissions and channels that go
 
-none_created : (transport : TransportType) (all : List IpAddr) → notices (map (PermissionCreateFailed transport) all) ≡ []
+pub none_created : (transport : TransportType) (all : List IpAddr) → notices (map (PermissionCreateFailed transport) all) ≡ []
 none_created transport [] = refl
 none_created transport (ip ∷ all) = none_created transport all
 

@@ -18,7 +18,7 @@ use Rattle.turn_client_proto_timers.specs.TurnRuns.Members.{IsIn}
 use Rattle.turn_client_proto_timers.specs.TurnRuns.Messages as run
 use Rattle.turn_client_proto_timers.specs.TurnRuns.StunWire.{decoded_by}
 use Rattle.turn_client_proto_timers.specs.Allocation.Awaited.{is_refresh}
-use Rattle.turn_client_proto_timers.specs.Allocation.PendingRequests.{all_reissued_under, pending_request, reissued_under, awaits_reply}
+use Rattle.turn_client_proto_timers.specs.Allocation.PendingRequests.{addresses_for, all_reissued_under, pending_request, reissued_under, awaits_reply}
 use Rattle.turn_client_proto_timers.specs.Peers.Channel.Numbers.{AreDistinct}
 use Rattle.turn_client_proto_timers.specs.Allocation.declared.pending.PendingRequest.{PendingRequest}
 use Rattle.turn_client_proto_timers.specs.Allocation.declared.pending.PendingRequest.TheVariants.{ChannelRenewal, Lifetime, NewChannel, NewConnection, NewPermission, Renewal}
@@ -29,7 +29,7 @@ use Rattle.turn_client_proto_timers.specs.Core.Asking.{requested}
 use Rattle.turn_client_proto_timers.specs.Core.Ending.{ended}
 use Rattle.turn_client_proto_timers.specs.Core.Numbering.{after_number}
 use Rattle.turn_client_proto_timers.specs.Core.Responding.{challenged, is_tired}
-use Rattle.turn_client_proto_timers.specs.Core.Standing.{IsRequestedAgain, IsRechallenged, IsSentAgain, asks_again, request_for}
+use Rattle.turn_client_proto_timers.specs.Core.Standing.{IsRequestedAgain, IsRechallenged, IsSentAgain, asks_again, request_again}
 use Rattle.turn_client_proto_timers.specs.Core.declared.protocol.Phase.TheVariants.{Authenticated}
 use Rattle.turn_client_proto_timers.specs.Core.declared.protocol.Protocol.{Protocol}
 use Rattle.turn_client_proto_timers.proofs.Peers.Distinct.{reissued_under_uses_less, first_stay_distinct}
@@ -50,6 +50,7 @@ use Rattle.turn_client_proto_step_laws.proofs.Joining.{AreJoining, IsJoining, al
 use Rattle.turn_client_proto_step_laws.proofs.Lessening.{first_less, one_awaited, same_first_distinct}
 use Rattle.turn_client_proto_step_laws.proofs.Lists.{found_in, inside}
 use Rattle.turn_client_proto_step_laws.proofs.Orderly.{agent_orderly, allocations_orderly}
+use Rattle.turn_client_proto_step_laws.proofs.Named.{addresses_found}
 use Rattle.turn_client_proto_step_laws.proofs.Permissions.{asking_again_permitting, first_permitting, renewing_again_permitting}
 use Rattle.turn_client_proto_step_laws.proofs.Permits.{asks_by, channel_fit, made_number, permission_fit}
 use Rattle.turn_client_proto_step_laws.proofs.Fitting.{AreFit, permitting_orderly}
@@ -94,13 +95,21 @@ module _ (c : Client) (mid : Protocol) (bytes : List ℕ) (now : ℕ) (under_way
       (requested_orderly mid (Refresh lifetime) number now is (allocated _ mid.phase occurs) under_way.orderly)) in
       asks c mid (Refresh lifetime) number under_way is None core adds orderly refl (λ realm h. h) under_way.can_ask.settings refl refl (nothing_transmitted started c)
 
+  -- The addresses that the old request names.
+  abbrev ips : List IpAddr
+  ips = addresses_for (number_at bytes) mid.allocations
+
+  -- The request for something once more.
+  abbrev request_of : PendingRequest → TurnRequest
+  request_of what = request_again what (number_at bytes) mid.allocations
+
   -- Another request once more, which is no REFRESH.
-  anew : (what : PendingRequest) (number : ℕ) → IsMade mid (request_for what) number
-      → AreFit none_gained (asks_by (request_for what) number) (with_request mid.agent (request_text mid.auth (request_for what) number) mid.server now)
-      → ArePermitting none_gained (asks_by (request_for what) number) mid.allocations (all_reissued_under what (number_at bytes) number mid.allocations) → IsRunStep c (bytes ∷ []) None [] (again what number)
+  anew : (what : PendingRequest) (number : ℕ) → IsMade mid (request_of what) number
+      → AreFit none_gained (asks_by (request_of what) number) (with_request mid.agent (request_text mid.auth (request_of what) number) mid.server now)
+      → ArePermitting none_gained (asks_by (request_of what) number) mid.allocations (all_reissued_under what (number_at bytes) number mid.allocations) → IsRunStep c (bytes ∷ []) None [] (again what number)
   unfolding challenged asks_again requested
   anew what number is fit are =
-      let request : TurnRequest = request_for what in
+      let request : TurnRequest = request_of what in
       let started : List run.Message = decoded_by (request_text mid.auth request number) ∷ [] in
       let made_it : Parts = parts_of (requested (after_number mid) request number now) in
       let left : List Allocation = all_reissued_under what (number_at bytes) number mid.allocations in
@@ -183,26 +192,28 @@ module _ (c : Client) (mid : Protocol) (bytes : List ℕ) (now : ℕ) (under_way
       renewed_too_permitting channel peer number (number_at bytes) transport a (first_renewed (number_at bytes) a transport channel peer (of_first (ChannelRenewal transport channel peer) first a found))
       (permission_of (parts_of mid) (number_at bytes) transport channel peer under_way.orderly is t there a (found_in (awaits_reply (number_at bytes)) mid.allocations a found)))))
   sent_again (NewPermission transport ip) handled new t there first h =
-      let made_it = made c mid (CreatePermission ip) h.number under_way h.lawful tt h.is_next in
+      let made_it = made c mid (CreatePermission ips) h.number under_way h.lawful tt h.is_next in
       subst (λ (p : Protocol). IsRunStep c (bytes ∷ []) None [] p) (sym h.outcome.1)
-      (anew (NewPermission transport ip) h.number made_it (permission_fit mid ip h.number now made_it)
-      (first_permitting none_gained (asks_by (CreatePermission ip) h.number) (awaits_reply (number_at bytes)) (reissued_under (NewPermission transport ip) (number_at bytes) h.number) mid.allocations
-      (λ a found. one a (of_first (NewPermission transport ip) first a found))))
+      (anew (NewPermission transport ip) h.number made_it (permission_fit mid ips h.number now made_it)
+      (first_permitting none_gained (asks_by (CreatePermission ips) h.number) (awaits_reply (number_at bytes)) (reissued_under (NewPermission transport ip) (number_at bytes) h.number) mid.allocations
+      (λ a found. one a found (of_first (NewPermission transport ip) first a found))))
     where
-      one : (a : Allocation) → IsRequestedOf (number_at bytes) a (NewPermission transport ip) → IsPermitting none_gained (asks_by (CreatePermission ip) h.number) a (reissued_under (NewPermission transport ip) (number_at bytes) h.number a)
-      one a (OfLifetime l at same) = absurd (Prim.cc same)
-      one a (OfRequestedChannel b at same) = absurd (Prim.cc same)
-      one a (OfRenewedChannel b at same) = absurd (Prim.cc same)
-      one a (OfRenewal p at same) = absurd (Prim.cc same)
-      one a (OfConnection k at same) = absurd (Prim.cc same)
-      one a (OfNew p at same) =
-          subst (λ (x : IpAddr). IsPermitting none_gained (asks_by (CreatePermission x) h.number) a (reissued_under (NewPermission transport x) (number_at bytes) h.number a)) (Prim.cc same)
-          (asking_again_permitting transport (number_at bytes) h.number a p at)
+      one : (a : Allocation) → find (awaits_reply (number_at bytes)) mid.allocations ≡ Some a → IsRequestedOf (number_at bytes) a (NewPermission transport ip)
+          → IsPermitting none_gained (asks_by (CreatePermission ips) h.number) a (reissued_under (NewPermission transport ip) (number_at bytes) h.number a)
+      one a found (OfLifetime l at same) = absurd (Prim.cc same)
+      one a found (OfRequestedChannel b at same) = absurd (Prim.cc same)
+      one a found (OfRenewedChannel b at same) = absurd (Prim.cc same)
+      one a found (OfRenewal p at same) = absurd (Prim.cc same)
+      one a found (OfConnection k at same) = absurd (Prim.cc same)
+      one a found (OfNew p at same) =
+          subst (λ (l : List IpAddr). IsPermitting none_gained (asks_by (CreatePermission l) h.number) a (reissued_under (NewPermission transport ip) (number_at bytes) h.number a))
+          (sym (addresses_found (number_at bytes) mid.allocations a p found at))
+          (asking_again_permitting transport ip (number_at bytes) h.number a p at)
   sent_again (Renewal transport ip) handled new t there first h =
-      let made_it = made c mid (CreatePermission ip) h.number under_way h.lawful tt h.is_next in
+      let made_it = made c mid (CreatePermission (ip ∷ [])) h.number under_way h.lawful tt h.is_next in
       subst (λ (p : Protocol). IsRunStep c (bytes ∷ []) None [] p) (sym h.outcome.1)
-      (anew (Renewal transport ip) h.number made_it (permission_fit mid ip h.number now made_it)
-      (first_permitting none_gained (asks_by (CreatePermission ip) h.number) (awaits_reply (number_at bytes)) (reissued_under (Renewal transport ip) (number_at bytes) h.number) mid.allocations
+      (anew (Renewal transport ip) h.number made_it (permission_fit mid (ip ∷ []) h.number now made_it)
+      (first_permitting none_gained (asks_by (CreatePermission (ip ∷ [])) h.number) (awaits_reply (number_at bytes)) (reissued_under (Renewal transport ip) (number_at bytes) h.number) mid.allocations
       (λ a found. renewing_again_permitting transport ip (number_at bytes) h.number a)))
   sent_again (NewConnection peer) handled new t there first h =
       let is = connect_found (number_at bytes) peer mid.allocations first in

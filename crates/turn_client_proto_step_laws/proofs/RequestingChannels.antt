@@ -44,7 +44,7 @@ use Rattle.turn_client_proto_step_laws.proofs.Requesting.{authenticated, marks_f
 beside_alike : (peer : SocketAddr) (number : ℕ) (a : Allocation) → IsAlike a (permission_beside (socket_ip peer) number a)
 unfolding permission_beside
 beside_alike peer number a =
-    elim (knows (socket_ip peer) a) as (λ b. IsAlike a (if b then a else record a { pending_permissions = a.pending_permissions ++ record { ip = socket_ip peer; numbers = number ∷ [] } ∷ [] })) [
+    elim (knows (socket_ip peer) a) as (λ b. IsAlike a (if b then a else record a { pending_permissions = a.pending_permissions ++ record { ip = socket_ip peer; others = []; numbers = number ∷ [] } ∷ [] })) [
       | true ↦ (refl, refl)
       | false ↦ (refl, refl)
     ]

@@ -21,7 +21,7 @@ use Rattle.turn_client_proto_timers.specs.TurnRuns.Members.{IsIn}
 use Rattle.turn_client_proto_timers.specs.Allocation.Awaited.{asks_for_permission, has_number}
 use Rattle.turn_client_proto_timers.specs.Allocation.Changes.{change_first}
 use Rattle.turn_client_proto_timers.specs.Allocation.Refreshing.{ends_by, granted, least_of, renewed}
-use Rattle.turn_client_proto_timers.specs.Allocation.PendingRequests.{pending_request, reissued_under, awaits_reply, permission_too}
+use Rattle.turn_client_proto_timers.specs.Allocation.PendingRequests.{addresses_for, pending_request, reissued_under, awaits_reply, permission_too}
 use Rattle.turn_client_proto_timers.specs.Peers.Channel.Granted as channels
 use Rattle.turn_client_proto_timers.specs.Allocation.declared.pending.PendingRequest.{PendingRequest}
 use Rattle.turn_client_proto_timers.specs.Allocation.declared.pending.PendingRequest.TheVariants.{ChannelRenewal, Lifetime, NewChannel, NewConnection, NewPermission, Renewal}
@@ -279,8 +279,8 @@ module _ (bytes : List ℕ) (now : ℕ) where
       ]
 
   -- The response to a CREATE_PERMISSION.
-  permitted_first : (ip : IpAddr) (number : ℕ) (old : List Allocation) → AreOf old (change_first (awaits_reply number) (permissions.permitted ip number now) old)
-  permitted_first ip number old = of_first (permissions.permitted ip number now) (λ a. refl) (awaits_reply number) old
+  permitted_first : (ips : List IpAddr) (number : ℕ) (old : List Allocation) → AreOf old (change_first (awaits_reply number) (permissions.permitted_all ips number now) old)
+  permitted_first ips number old = of_first (permissions.permitted_all ips number now) (λ a. refl) (awaits_reply number) old
 
   granted_keeps : (what : Option PendingRequest) (p : Protocol) → Keeps p.allocations (IsGrantedFor what p (number_at bytes) now)
   unfolding asking.granted asking.renews
@@ -290,7 +290,8 @@ module _ (bytes : List ℕ) (now : ℕ) where
   granted_keeps (Some (NewChannel transport channel peer)) p = ignored p
   granted_keeps (Some (ChannelRenewal transport channel peer)) p = ignored p
   granted_keeps (Some (NewPermission transport ip)) p =
-      handled_so p.allocations (asking.granted transport ip (number_at bytes) now p) (permitted_first ip (number_at bytes) p.allocations)
+      let ips = addresses_for (number_at bytes) p.allocations in
+      handled_so p.allocations (asking.granted transport ips (number_at bytes) now p) (permitted_first ips (number_at bytes) p.allocations)
   granted_keeps (Some (Renewal transport ip)) p =
       handled_so p.allocations (asking.renews (number_at bytes) now p) (of_each (permissions.renewed (number_at bytes) now) (renewed_stay (number_at bytes) now) p.allocations)
 
@@ -304,8 +305,8 @@ module _ (bytes : List ℕ) (now : ℕ) where
   refused_keeps (Some (NewConnection to)) p = ignored p
   refused_keeps (Some (NewChannel transport channel peer)) p = ignored p
   refused_keeps (Some (ChannelRenewal transport channel peer)) p = ignored p
-  refused_keeps (Some (NewPermission transport ip)) p = handled_so p.allocations (asking.refused transport ip (number_at bytes) p) (refused p)
-  refused_keeps (Some (Renewal transport ip)) p = handled_so p.allocations (asking.refused transport ip (number_at bytes) p) (refused p)
+  refused_keeps (Some (NewPermission transport ip)) p = handled_so p.allocations (asking.refused transport (addresses_for (number_at bytes) p.allocations) (number_at bytes) p) (refused p)
+  refused_keeps (Some (Renewal transport ip)) p = handled_so p.allocations (asking.refused transport (ip ∷ []) (number_at bytes) p) (refused p)
 
   permission_keeps : (p : Protocol) → Keeps p.allocations (IsPermissionResponded p bytes now)
   permission_keeps p = tested (is_error_class (class_of (kind_at bytes)))
@@ -314,7 +315,7 @@ module _ (bytes : List ℕ) (now : ℕ) where
   -- The response to a CHANNEL_BIND.
   with_permission : (ip : Option IpAddr) (old : List Allocation) → AreOf old (permitted_with ip (number_at bytes) now old)
   with_permission None old = of_all old
-  with_permission (Some ip) old = permitted_first ip (number_at bytes) old
+  with_permission (Some ip) old = permitted_first (ip ∷ []) (number_at bytes) old
 
   binds : (channel : ℕ) (peer : SocketAddr) (ip : Option IpAddr) (old : List Allocation)
       → AreOf old (channels.all_bound channel peer (number_at bytes) now (permitted_with ip (number_at bytes) now old))

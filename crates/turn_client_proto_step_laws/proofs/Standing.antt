@@ -22,7 +22,7 @@ use Rattle.turn_client_proto_timers.specs.StunProtoAgent.Handling.{is_awaited, i
 use Rattle.turn_client_proto_recv.specs.TurnTypesAttributes.TurnRegistry.{channel_bind_method, connect_method, create_permission_method, refresh_method}
 use Rattle.turn_client_proto_timers.specs.Allocation.Refreshing.{ends_by, least_of, renewed}
 use Rattle.turn_client_proto_timers.specs.Api.declared.event.TurnEvent.TheVariants.{PermissionCreateFailed}
-use Rattle.turn_client_proto_timers.specs.Allocation.PendingRequests.{pending_request}
+use Rattle.turn_client_proto_timers.specs.Allocation.PendingRequests.{addresses_for, pending_request}
 use Rattle.turn_client_proto_timers.specs.Allocation.declared.pending.PendingRequest.{PendingRequest}
 use Rattle.turn_client_proto_timers.specs.Allocation.declared.pending.PendingRequest.TheVariants.{ChannelRenewal, Lifetime, NewChannel, NewConnection, NewPermission, Renewal}
 use Rattle.turn_client_proto_timers.specs.Peers.Permission.Granted as granted_again
@@ -55,7 +55,7 @@ use Rattle.turn_client_proto_step_laws.proofs.Permissions.{renewed_alike, renewe
 use Rattle.turn_client_proto_step_laws.proofs.Permitting.{each_permitting, none_asks, none_gained}
 use Rattle.turn_client_proto_step_laws.proofs.Orderly.{allocations_orderly, phase_orderly, until_all}
 use Rattle.turn_client_proto_step_laws.proofs.Plain.{counts_none, none_decoded, nothing_transmitted, quiet, run_step}
-use Rattle.turn_client_proto_step_laws.proofs.Polling.{by_test}
+use Rattle.turn_client_proto_step_laws.proofs.Polling.{by_test, none_created}
 use Rattle.turn_client_proto_step_laws.proofs.Realms.{IsGoing, ended_realm, going_at}
 use Rattle.turn_client_proto_step_laws.proofs.Rechallenging.{rechallenged}
 use Rattle.turn_client_proto_step_laws.proofs.Signed.{validated_own}
@@ -108,14 +108,14 @@ module _ (c : Client) (mid : Protocol) (bytes : List ℕ) (now : ℕ) (under_way
         | false ↦ done c (bytes ∷ []) mid mid under_way refl
       ]
 
-  refused_step : (transport : TransportType) (ip : IpAddr) (new : Protocol) → new ≡ refused transport ip (number_at bytes) mid → IsRunStep c (bytes ∷ []) None [] new
+  refused_step : (transport : TransportType) (ips : List IpAddr) (new : Protocol) → new ≡ refused transport ips (number_at bytes) mid → IsRunStep c (bytes ∷ []) None [] new
   unfolding refused
-  refused_step transport ip new is =
+  refused_step transport ips new is =
       subst (λ (p : Protocol). IsRunStep c (bytes ∷ []) None [] p) (sym is)
-      (left_step c mid bytes under_way (refused transport ip (number_at bytes) mid) (map (rejected (number_at bytes)) mid.allocations)
+      (left_step c mid bytes under_way (refused transport ips (number_at bytes) mid) (map (rejected (number_at bytes)) mid.allocations)
       (each_permitting none_gained none_asks (rejected (number_at bytes)) (rejected_permitting (number_at bytes)) mid.allocations)
       (same_distinct (rejected (number_at bytes)) (rejected_alike (number_at bytes)) mid.allocations under_way.orderly.distinct) refl
-      (none_decoded mid.events (PermissionCreateFailed transport ip ∷ []) refl))
+      (none_decoded mid.events (map (PermissionCreateFailed transport) ips) (none_created transport ips)))
 
   renews_step : (new : Protocol) → new ≡ renews (number_at bytes) now mid → IsRunStep c (bytes ∷ []) None [] new
   unfolding renews
@@ -131,13 +131,13 @@ module _ (c : Client) (mid : Protocol) (bytes : List ℕ) (now : ℕ) (under_way
   refused_for (Some (NewConnection to)) handled new h = done c (bytes ∷ []) mid new under_way h.1
   refused_for (Some (NewChannel transport channel peer)) handled new h = done c (bytes ∷ []) mid new under_way h.1
   refused_for (Some (ChannelRenewal transport channel peer)) handled new h = done c (bytes ∷ []) mid new under_way h.1
-  refused_for (Some (NewPermission transport ip)) handled new h = refused_step transport ip new h.1
-  refused_for (Some (Renewal transport ip)) handled new h = refused_step transport ip new h.1
+  refused_for (Some (NewPermission transport ip)) handled new h = refused_step transport (addresses_for (number_at bytes) mid.allocations) new h.1
+  refused_for (Some (Renewal transport ip)) handled new h = refused_step transport (ip ∷ []) new h.1
 
-  -- A requested permission is granted.
+  -- The requested permissions are granted.
   abbrev pub GrantsOne : Type 0
   GrantsOne = (transport : TransportType) (ip : IpAddr) → pending_request (number_at bytes) mid.allocations ≡ Some (NewPermission transport ip) → is_error_class (class_of (kind_at bytes)) ≡ false
-      → IsRunStep c (bytes ∷ []) None [] (permission.granted transport ip (number_at bytes) now mid)
+      → IsRunStep c (bytes ∷ []) None [] (permission.granted transport (addresses_for (number_at bytes) mid.allocations) (number_at bytes) now mid)
 
   granted_for : GrantsOne → (what : Option PendingRequest) (handled : Bool) (new : Protocol) → pending_request (number_at bytes) mid.allocations ≡ what → is_error_class (class_of (kind_at bytes)) ≡ false
       → IsGrantedFor what mid (number_at bytes) now handled new → IsRunStep c (bytes ∷ []) None [] new

@@ -1,6 +1,6 @@
 -- What becomes of a client's items, by the outcome of a message: nothing is there that wasn't before; or the
 -- message was awaited and accepted, and no transaction ID was generated.
-use Rattle.std.proofs.Common.{◌≡◌, ◌⊎◌, ℕ, ◌==◌, Bool, true, false, ◌&&◌, List, [], length, map, Option, Some, None, Ok, Err, if◌then◌else◌, refl, sym, ap, ◌∙◌, subst, inl, inr}
+use Rattle.std.proofs.Common.{◌≡◌, ◌⊎◌, ℕ, ◌==◌, Bool, true, false, ◌&&◌, List, [], ◌∷◌, length, map, Option, Some, None, Ok, Err, if◌then◌else◌, refl, sym, ap, ◌∙◌, subst, inl, inr}
 use Rattle.std.specs.Bool.{MatchBool}
 use Rattle.std.specs.List.{find, list_any}
 use Rattle.std.specs.declared.net.socket_addr.SocketAddr.{SocketAddr}
@@ -23,7 +23,7 @@ use Rattle.turn_client_proto_timers.specs.Allocation.Awaited.{asks_for_permissio
 use Rattle.turn_client_proto_timers.specs.Allocation.Changes.{change_first}
 use Rattle.turn_client_proto_timers.specs.Allocation.Permissions as permissions
 use Rattle.turn_client_proto_timers.specs.Allocation.Refreshing.{ends_by, least_of, refreshing, renewed}
-use Rattle.turn_client_proto_timers.specs.Allocation.PendingRequests.{pending_request, reissued_under, awaits_reply, permission_too}
+use Rattle.turn_client_proto_timers.specs.Allocation.PendingRequests.{addresses_for, pending_request, reissued_under, awaits_reply, permission_too}
 use Rattle.turn_client_proto_timers.specs.Allocation.Channels as channels
 use Rattle.turn_client_proto_timers.specs.Allocation.declared.pending.PendingRequest.{PendingRequest}
 use Rattle.turn_client_proto_timers.specs.Allocation.declared.pending.PendingRequest.TheVariants.{ChannelRenewal, Lifetime, NewChannel, NewConnection, NewPermission, Renewal}
@@ -368,7 +368,7 @@ module _ (Signed : Type 0) (bytes : List ℕ) (now : ℕ) where
   granted_quiet (Some (NewConnection to)) p = quiet_still
   granted_quiet (Some (NewChannel transport channel peer)) p = quiet_still
   granted_quiet (Some (ChannelRenewal transport channel peer)) p = quiet_still
-  granted_quiet (Some (NewPermission transport ip)) p = quiet_handled (asking.granted transport ip (number_at bytes) now p) refl
+  granted_quiet (Some (NewPermission transport ip)) p = quiet_handled (asking.granted transport (addresses_for (number_at bytes) p.allocations) (number_at bytes) now p) refl
   granted_quiet (Some (Renewal transport ip)) p = quiet_handled (asking.renews (number_at bytes) now p) refl
 
   refused_quiet : (what : Option PendingRequest) (p : Protocol) → IsQuiet p (IsRefusedFor what p (number_at bytes))
@@ -378,8 +378,8 @@ module _ (Signed : Type 0) (bytes : List ℕ) (now : ℕ) where
   refused_quiet (Some (NewConnection to)) p = quiet_still
   refused_quiet (Some (NewChannel transport channel peer)) p = quiet_still
   refused_quiet (Some (ChannelRenewal transport channel peer)) p = quiet_still
-  refused_quiet (Some (NewPermission transport ip)) p = quiet_handled (asking.refused transport ip (number_at bytes) p) refl
-  refused_quiet (Some (Renewal transport ip)) p = quiet_handled (asking.refused transport ip (number_at bytes) p) refl
+  refused_quiet (Some (NewPermission transport ip)) p = quiet_handled (asking.refused transport (addresses_for (number_at bytes) p.allocations) (number_at bytes) p) refl
+  refused_quiet (Some (Renewal transport ip)) p = quiet_handled (asking.refused transport (ip ∷ []) (number_at bytes) p) refl
 
   permission_quiet : (p : Protocol) → IsQuiet p (IsPermissionResponded p bytes now)
   permission_quiet p = quiet_tested (is_error_class (class_of (kind_at bytes)))

@@ -84,7 +84,7 @@ same_ip (V6 a) (V6 b) is = ap V6 (same_v6 a b ((bytes_decides (ipv6_segments a) 
 same_ip (V4 a) (V6 b) is = absurd (Prim.cc is)
 same_ip (V6 a) (V4 b) is = absurd (Prim.cc is)
 
-itself_ip : (a : IpAddr) → is_same_ip a a ≡ true
+pub itself_ip : (a : IpAddr) → is_same_ip a a ≡ true
 itself_ip (V4 a) = (bytes_decides (ipv4_octets a) (ipv4_octets a)).1 refl
 itself_ip (V6 a) = (bytes_decides (ipv6_segments a) (ipv6_segments a)).1 refl
 

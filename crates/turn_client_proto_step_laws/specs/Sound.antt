@@ -17,7 +17,9 @@ use Rattle.turn_client_proto_timers.specs.StunProtoAgent.State.{Agent}
 use Rattle.turn_client_proto_recv.specs.TurnTypesAttributes.TurnRegistry.{allocate_method}
 use Rattle.turn_client_proto_timers.specs.TurnRuns.Members.{IsIn}
 use Rattle.std.specs.Net.Socket.{IsSocketAddr, socket_flowinfo, socket_scope_id}
+use Rattle.std.specs.declared.net.ip_addr.IpAddr.{IpAddr}
 use Rattle.std.specs.declared.net.socket_addr.SocketAddr.{SocketAddr}
+use Rattle.turn_client_proto_timers.specs.Allocation.Permissions.{addresses_of}
 use Rattle.turn_client_proto_timers.specs.Peers.Channel.Numbers.{AreDistinct}
 use Rattle.turn_client_proto_timers.specs.TurnRuns.Messages.{Asks, Gain, Held, Holds, IsResponse, Knows, Permission, Channel as ChannelHeld, Connection as ConnectionHeld}
 use Rattle.turn_client_proto_timers.specs.TurnRuns.StunWire.{decoded_by}
@@ -61,10 +63,11 @@ AsksOf agent gain transaction_id = (t : Transaction) → map.get agent.outstandi
 abbrev pub AsksFor : Agent → Held → ℕ → Type 0
 AsksFor agent held transaction_id = AsksOf agent (Holds held) transaction_id
 
--- An outstanding request with a transaction ID of a pending permission asks for that very permission.
+-- An outstanding request with a transaction ID of a pending permission asks for a permission for each of its
+-- addresses.
 abbrev pub AreRequested : Agent → Allocation → Type 0
 AreRequested agent a = (p : PendingPermission) → IsIn p a.pending_permissions → (transaction_id : ℕ) → IsIn transaction_id p.numbers
-    → AsksFor agent (Permission a.transport p.ip) transaction_id
+    → (ip : IpAddr) → IsIn ip (addresses_of p) → AsksFor agent (Permission a.transport ip) transaction_id
 
 -- An outstanding request with a transaction ID of a pending channel, or of a channel's renewal, asks for that
 -- very channel.

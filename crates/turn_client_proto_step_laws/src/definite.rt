@@ -16,6 +16,8 @@ ghost use Rattle.turn_client_proto_timers.specs.Api.declared.error.BindChannelEr
 ghost use Rattle.turn_client_proto_timers.specs.Api.declared.error.BindChannelError.TheVariants as channel;
 ghost use Rattle.turn_client_proto_timers.specs.Api.declared.error.CreatePermissionError.{CreatePermissionError};
 ghost use Rattle.turn_client_proto_timers.specs.Api.declared.error.CreatePermissionError.TheVariants as permission;
+ghost use Rattle.turn_client_proto_timers.specs.Api.declared.error.CreatePermissionsError.{CreatePermissionsError};
+ghost use Rattle.turn_client_proto_timers.specs.Api.declared.error.CreatePermissionsError.TheVariants as several;
 ghost use Rattle.turn_client_proto_timers.specs.Api.declared.error.DeleteError.{DeleteError};
 ghost use Rattle.turn_client_proto_timers.specs.Api.declared.error.DeleteError.TheVariants as deletion;
 ghost use Rattle.turn_client_proto_timers.specs.Api.declared.error.SendError.{SendError};
@@ -27,7 +29,7 @@ ghost use Rattle.turn_client_proto_timers.specs.Api.declared.error.TcpConnectErr
 ghost use Rattle.turn_client_proto_recv.specs.Connecting.{IsConnectAnswered};
 ghost use Rattle.turn_client_proto_timers.specs.Core.Binding.{IsBindAnswered};
 ghost use Rattle.turn_client_proto_timers.specs.Core.Deleting.{IsDeleteAnswered};
-ghost use Rattle.turn_client_proto_timers.specs.Core.Permitting.{IsPermissionAnswered};
+ghost use Rattle.turn_client_proto_timers.specs.Core.Permitting.{ArePermissionsAnswered, IsPermissionAnswered};
 ghost use Rattle.turn_client_proto_timers.specs.Core.Receiving.{IsProcessed};
 ghost use Rattle.turn_client_proto_timers.specs.Core.declared.protocol.Protocol.{Protocol};
 ghost use Rattle.turn_client_proto_timers.specs.Drawing.{IsTransmitted};
@@ -94,6 +96,18 @@ pub fn permitting_is_definite()
         → again ≢ Err permission.NoMemory
         → IsPermissionAnswered old transport ip now answer one
         → IsPermissionAnswered old transport ip now again other
+        → (answer ≡ again) × (one ≡ other) }
+{}
+
+/// Transport, addresses and time determine what `create_permissions` returns and the client's new
+/// state, unless it is refused with `NoMemory`.
+pub fn permitting_several_is_definite()
+    ensures { (old one other : Protocol) (transport : TransportType) (ips : List IpAddr) (now : ℕ)
+        (answer again : Result (Unit {0}) CreatePermissionsError)
+        → answer ≢ Err (several.Refused permission.NoMemory)
+        → again ≢ Err (several.Refused permission.NoMemory)
+        → ArePermissionsAnswered old transport ips now answer one
+        → ArePermissionsAnswered old transport ips now again other
         → (answer ≡ again) × (one ≡ other) }
 {}
 

@@ -26,9 +26,9 @@
 //! reports or delivers came from the server. The theorems for the calls are:
 //!
 //! - `polls_are_steps`, `draws_are_steps` (`poll_transmit`), `events_are_steps`,
-//!   `deletions_are_steps`, `permissions_are_steps`, `bindings_are_steps`, `connects_are_steps`,
-//!   `sockets_are_steps`, `closings_are_steps`, `sends_are_steps` and `ends_are_steps`
-//!   (`protocol_error`),
+//!   `deletions_are_steps`, `permissions_are_steps`, `several_permissions_are_steps`,
+//!   `bindings_are_steps`, `connects_are_steps`, `sockets_are_steps`, `closings_are_steps`,
+//!   `sends_are_steps` and `ends_are_steps` (`protocol_error`),
 //! - `failures_are_steps` for a call in which memory ran out,
 //! - `messages_are_steps` and `payloads_are_steps` for what comes from the server, [`framed`] for
 //!   complete frames over TCP, and [`sockets`] for what comes over the socket of a connection to a

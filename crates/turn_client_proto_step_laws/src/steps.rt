@@ -47,8 +47,9 @@ ghost use Rattle.turn_client_proto_timers.specs.StunTypesWire.Headers.{AreBytes}
 ghost use Rattle.turn_client_proto_timers.specs.Api.declared.answer.TurnPollRet.{TurnPollRet};
 ghost use Rattle.turn_client_proto_timers.specs.Api.declared.error.BindChannelError.{BindChannelError};
 ghost use Rattle.turn_client_proto_timers.specs.Api.declared.error.CreatePermissionError.{CreatePermissionError};
+ghost use Rattle.turn_client_proto_timers.specs.Api.declared.error.CreatePermissionsError.{CreatePermissionsError};
 ghost use Rattle.turn_client_proto_timers.specs.Api.declared.error.DeleteError.{DeleteError};
-ghost use Rattle.turn_client_proto_timers.specs.Core.Permitting.{IsPermissionAnswered};
+ghost use Rattle.turn_client_proto_timers.specs.Core.Permitting.{ArePermissionsAnswered, IsPermissionAnswered};
 ghost use Rattle.turn_client_proto_timers.specs.Api.declared.error.SendError.{SendError};
 ghost use Rattle.turn_client_proto_timers.specs.Api.declared.event.TurnEvent.{TurnEvent};
 ghost use Rattle.turn_client_proto_timers.specs.Core.Deleting.{IsDeleteAnswered};
@@ -201,6 +202,20 @@ pub fn permissions_are_steps()
         → IsSilent c new }
 {}
 
+/// `create_permissions` is a step.
+///
+/// - On success it makes one CREATE_PERMISSION, for all the addresses.
+/// - If it is refused by the addresses alone, nothing changes.
+/// - If it is refused otherwise, an allocation may be marked as expired, and nothing else changes.
+/// - If memory runs out, the generated transaction ID is counted, and nothing else changes.
+pub fn several_permissions_are_steps()
+    ensures { (c : Client) (transport : TransportType) (ips : List IpAddr) (now : ℕ)
+        (answer : Result (Unit {0}) CreatePermissionsError) (new : Protocol)
+        → IsSound c
+        → ArePermissionsAnswered c.core transport ips now answer new
+        → IsSilent c new }
+{}
+
 /// `bind_channel` is a step, if the peer has neither flow information nor scope, because
 /// XOR-PEER-ADDRESS carries neither (RFC 8656, section 18.3).
 ///
@@ -314,8 +329,9 @@ pub fn first_numbers_are_of_the_seed()
 /// an item afterwards that it did not hold before, the message brought it:
 ///
 /// - The message validates under the client's key, and is the response to a request that was
-///   outstanding and no longer is: an ALLOCATE, a CREATE_PERMISSION for this very address, or a
-///   CHANNEL_BIND of this very number to this very peer (RFC 8656, sections 7.3, 10.3 and 12.3).
+///   outstanding and no longer is: an ALLOCATE, a CREATE_PERMISSION that names this very address,
+///   or a CHANNEL_BIND of this very number to this very peer (RFC 8656, sections 7.3, 10.3 and
+///   12.3).
 /// - If the client learns a connection ID and its peer, the message is the response to a CONNECT to
 ///   this very peer (RFC 6062, section 4.3), or a CONNECTION_ATTEMPT, which validates under the
 ///   client's key, too (section 4.4).

@@ -116,14 +116,14 @@ pub record IsRefreshSent (old : Protocol) (now : ℕ) (sent : Sent) (new : Proto
 
 -- The client after it sent a CREATE_PERMISSION for an address, which renews the first permission that is due.
 unfoldable pub first_permitted : IpAddr → ℕ → ℕ → Protocol → Protocol
-first_permitted ip transaction_id now p = record (sent_at_once (after_number p) (CreatePermission ip) transaction_id now) {
+first_permitted ip transaction_id now p = record (sent_at_once (after_number p) (CreatePermission (ip ∷ [])) transaction_id now) {
   allocations = renewal_first now transaction_id p.allocations;
 }
 
 pub record IsRenewalSent (old : Protocol) (ip : IpAddr) (now : ℕ) (sent : Sent) (new : Protocol) : Type 0 where
   pub number : ℕ
-  pub lawful : IsLawfulRequest (CreatePermission ip)
-  pub made : IsMade old (CreatePermission ip) number sent
+  pub lawful : IsLawfulRequest (CreatePermission (ip ∷ []))
+  pub made : IsMade old (CreatePermission (ip ∷ [])) number sent
   pub after : new ≡ after_sending now (first_permitted ip number now old)
 
 -- The client after it sent a CHANNEL_BIND, which renews the first channel that is due.

@@ -35,6 +35,7 @@ use turn_client_proto_allocation::channel::ChannelId;
 use turn_client_proto_allocation::refresh::PendingRefresh;
 use turn_client_proto_core::protocol::{Phase, Protocol};
 use turn_client_proto_messages::laws::proof_requests_are_lawful;
+use turn_client_proto_messages::peer_ips::PeerIps;
 use turn_client_proto_messages::request::TurnRequest;
 
 /// Returns the message to send at `now`, if there is one. Call it until it returns `None`. The
@@ -272,7 +273,7 @@ fn send_renewal(
     ensures err { OnErr result (IsUnderWay protocol.old protocol.new) }
 {
     let number = protocol.generate_id()?;
-    let request = TurnRequest::CreatePermission(ip);
+    let request = TurnRequest::CreatePermission(PeerIps::one(&ip));
     proof_requests_are_lawful(&request);
     let sent = send_at_once(protocol, number, request, now)?;
     renew_first(protocol.allocations.as_mut_slice(), now, number)?;
@@ -306,17 +307,18 @@ fn send_channel_renewal(
 fn send_at_once(
     protocol: &mut Protocol,
     transaction_id: TransactionId,
-    request: TurnRequest,
+    request: TurnRequest<'_>,
     now: Instant,
 ) -> Result<Transmit<Data<'static>>, NoMemory>
     requires unused { IsUnused protocol.old.agent transaction_id }
     ensures sent { IfOk result (λ sent. sent_of sent ≡ record {
-      bytes = request_text protocol.old.auth request transaction_id;
+      bytes = request_text protocol.old.auth request.entry transaction_id;
       transport = protocol.old.agent.transport;
       from = protocol.old.agent.here;
       to = protocol.old.server;
     }) }
-    ensures ok { OnOk result (protocol.new ≡ sent_at_once protocol.old request transaction_id now) }
+    ensures ok { OnOk result (protocol.new ≡ sent_at_once protocol.old request.entry
+        transaction_id now) }
     ensures err { OnErr result (protocol.new ≡ protocol.old) }
 {
     let bytes = protocol

@@ -39,15 +39,16 @@ use Rattle.turn_client_proto_messages.specs.ReportedRequests.{IsLawfulRequest}
 use Rattle.turn_client_proto_messages.specs.Requests.{request_text}
 use Rattle.turn_client_proto_messages.specs.TurnRuns.Indications.{is_indication}
 use Rattle.turn_client_proto_messages.specs.Waiting.{Queued}
+use Rattle.turn_client_proto_messages.specs.declared.request.TurnRequest.{TurnRequest}
 use Rattle.turn_client_proto_handshake_laws.specs.Core.Asking.{queued_request, requested}
 use Rattle.turn_client_proto_handshake_laws.specs.Core.Ending.{ended}
-use Rattle.turn_client_proto_handshake_laws.specs.Core.Numbering.{after_draw, awaits, is_taken}
+use Rattle.turn_client_proto_handshake_laws.specs.Core.Numbering.{after_draw, after_number, awaits, is_taken}
 use Rattle.turn_client_proto_handshake_laws.specs.Core.Outcomes.{IsHandled, IsIgnored}
 use Rattle.turn_client_proto_core.proofs.Awaiting.{processed_awaited}
 use Rattle.turn_client_proto_handshake_laws.specs.Core.Attempting.{IsIndicationTaken}
 use Rattle.turn_client_proto_handshake_laws.specs.Core.Receiving.{IsFollowed, IsProcessed, IsProcessedIn}
 use Rattle.turn_client_proto_handshake_laws.specs.Core.Responding.{challenged, is_tired, judged, most_resends}
-use Rattle.turn_client_proto_handshake_laws.specs.Core.Standing.{IsJudgedStanding, IsRequestedAgain, IsSentAgain, asks_again, request_for}
+use Rattle.turn_client_proto_handshake_laws.specs.Core.Standing.{IsJudgedStanding, IsRequestedAgain, IsSentAgain, asks_again, request_again}
 use Rattle.turn_client_proto_handshake_laws.specs.Core.declared.protocol.Phase.{Phase}
 use Rattle.turn_client_proto_handshake_laws.specs.Core.declared.protocol.Phase.TheVariants.{Authenticated}
 use Rattle.turn_client_proto_handshake_laws.specs.Core.declared.protocol.Protocol.{Protocol}
@@ -190,7 +191,7 @@ module _ (h : Holder) (one two : Requested) (b : Allocation) (queue : List Queue
 module _ (h : Holder) (one : Requested) (a : Allocation) (last : ℕ) (events : List TurnEvent) (p : Protocol) (w : IsTcpBinding h (Some one) [] a [] last events p)
     (fewer : p.resends ≤ most_resends) (method : ℕ) (reported : ChallengeFields) (bytes : List ℕ) (is : IsChallengeOf reported method one.number bytes)
     (numbered : AreNumbered) (stay_short : StayShort) (stay_read : StayRead)
-    (what : Wanted) (pending : pending_request one.number (a ∷ []) ≡ Some what) (after : ℕ → Allocation) (reissued : (n : ℕ) → all_reissued_under what one.number n (a ∷ []) ≡ after n ∷ []) where
+    (what : Wanted) (asks : TurnRequest) (again_is : request_again what one.number (a ∷ []) ≡ asks) (pending : pending_request one.number (a ∷ []) ≡ Some what) (after : ℕ → Allocation) (reissued : (n : ℕ) → all_reissued_under what one.number n (a ∷ []) ≡ after n ∷ []) where
   awaited_is : is_awaited p.agent bytes ≡ true
   awaited_is = ap (λ (n : ℕ). is_some (map.get p.agent.outstanding n)) is.number_is ∙ ap is_some w.outstanding.newest
 
@@ -248,6 +249,9 @@ module _ (h : Holder) (one : Requested) (a : Allocation) (last : ℕ) (events : 
   fresh client number free same = clash (is_taken (judged client p) number)
       (ap (λ (b : Bool). b || (awaits number p.phase || is_any_awaited number p.allocations)) (ap (λ (n : ℕ). is_some (map.get p.agent.outstanding n)) same ∙ ap is_some w.outstanding.newest)) free
 
+  request_is : request_again what (number_at bytes) p.allocations ≡ asks
+  request_is = ap (λ (n : ℕ). request_again what n p.allocations) is.number_is ∙ (ap (request_again what one.number) w.allocations ∙ again_is)
+
   -- Another request is queued.
   pub record IsAskedAgain (now : ℕ) (q : Protocol) : Type 0 where
     pub choice : IntegrityAlgorithm
@@ -255,10 +259,10 @@ module _ (h : Holder) (one : Requested) (a : Allocation) (last : ℕ) (events : 
     pub next : ℕ
     pub fits : next < 2 ^ 96
     pub other : next ≢ one.number
-    pub lawful : IsLawfulRequest (request_for what)
+    pub lawful : IsLawfulRequest asks
     pub counted : q.resends ≡ p.resends + 1
-    pub requested_is : IsTcpBinding (challenged_by h reported choice) (Some (signed_by (challenged_by h reported choice) (request_for what) next now)) [] (after next)
-        (queued_from h.started.here (signed_by (challenged_by h reported choice) (request_for what) next now) ∷ []) last events q
+    pub requested_is : IsTcpBinding (challenged_by h reported choice) (Some (signed_by (challenged_by h reported choice) asks next now)) [] (after next)
+        (queued_from h.started.here (signed_by (challenged_by h reported choice) asks next now) ∷ []) last events q
 
   module _ (now : ℕ) (q : Protocol) where
     again : (choice : IntegrityAlgorithm) (answerable : CanAnswer h reported choice) (client : auth.Client) → client ≡ keeping h.auth reported choice → (handled : Bool) → IsSentAgain what (judged client p) bytes now handled q → IsAskedAgain now q
@@ -266,17 +270,18 @@ module _ (h : Holder) (one : Requested) (a : Allocation) (last : ℕ) (events : 
     again choice answerable client client_is handled k =
         let fits = number_fits (judged client p) k.number k.is_next in
         let differs = fresh client k.number k.is_next.free in
-        let two : Requested = signed_by (challenged_by h reported choice) (request_for what) k.number now in
+        let lawful : IsLawfulRequest asks = subst (λ (r : TurnRequest). IsLawfulRequest r) request_is k.lawful in
+        let two : Requested = signed_by (challenged_by h reported choice) asks k.number now in
         let all : all_reissued_under what (number_at bytes) k.number p.allocations ≡ after k.number ∷ [] =
         ap (λ (n : ℕ). all_reissued_under what n k.number p.allocations) is.number_is ∙ (ap (all_reissued_under what one.number k.number) w.allocations ∙ reissued k.number) in
-        let queued = has_requested (challenged_by h reported choice) (Some one) [] a [] last events (judged client p) (keeps choice answerable client client_is) (request_for what) k.number now fits k.lawful numbered
+        let queued = has_requested (challenged_by h reported choice) (Some one) [] a [] last events (judged client p) (keeps choice answerable client client_is) asks k.number now fits lawful numbered
         (after k.number) (all_reissued_under what (number_at bytes) k.number p.allocations) all p.agent.here h.started.here w.settings.here (after_draw p.rng) in
         let alone = challenged_so (challenged_by h reported choice) one two (after k.number) (queued_from h.started.here two ∷ []) last events
         (record p {
           auth = client;
           rng = after_draw p.rng;
-          agent = with_request p.agent (request_text client (request_for what) k.number) p.server now;
-          queue = p.queue ++ queued_request p.agent.here (request_text client (request_for what) k.number) ∷ [];
+          agent = with_request p.agent (request_text client asks k.number) p.server now;
+          queue = p.queue ++ queued_request p.agent.here (request_text client asks k.number) ∷ [];
           allocations = all_reissued_under what (number_at bytes) k.number p.allocations;
         }) queued bytes is.number_is responds_so differs (p.resends + 1) in
         record {
@@ -285,9 +290,10 @@ module _ (h : Holder) (one : Requested) (a : Allocation) (last : ℕ) (events : 
           next = k.number;
           fits = fits;
           other = differs;
-          lawful = k.lawful;
+          lawful = lawful;
           counted = ap (λ (x : Protocol). x.resends) k.outcome.1;
-          requested_is = subst (λ (x : Protocol). IsTcpBinding (challenged_by h reported choice) (Some two) [] (after k.number) (queued_from h.started.here two ∷ []) last events x) (sym k.outcome.1) alone;
+          requested_is = subst (λ (x : Protocol). IsTcpBinding (challenged_by h reported choice) (Some two) [] (after k.number) (queued_from h.started.here two ∷ []) last events x) (sym (k.outcome.1
+              ∙ ap (λ (r : TurnRequest). challenged bytes (record (requested (after_number (judged client p)) r k.number now) { allocations = all_reissued_under what (number_at bytes) k.number p.allocations })) request_is)) alone;
         }
 
     none_decoded : {A : Type 0} → challenge_visible bytes ≡ None → A

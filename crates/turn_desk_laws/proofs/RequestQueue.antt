@@ -130,13 +130,13 @@ module _ (p : Protocol) where
     refused_queue : (transport : TransportType) (ip : IpAddr) (found : Option Allocation) (q : Protocol) → q ≡ refused_in found transport ip at p → IsGrown q
     refused_queue transport ip found q is = subst (λ (x : Protocol). IsGrown x) (sym is) (refused_same transport ip found)
 
-    permission_made : (transport : TransportType) (ip : IpAddr) (q : Protocol) → IsPermissionRequested p transport ip at q → IsGrown q
+    permission_made : (transport : TransportType) (ip : IpAddr) (q : Protocol) → IsPermissionRequested p transport ip [] at q → IsGrown q
     unfolding after_permission requested
-    permission_made transport ip q is = record { extra = queued_request p.agent.here (request_text p.auth (CreatePermission ip) is.number) ∷ []; queue_is = ap (λ (x : Protocol). x.queue) is.after; last_is = ap (λ (x : Protocol). x.last_send) is.after }
+    permission_made transport ip q is = record { extra = queued_request p.agent.here (request_text p.auth (CreatePermission (ip ∷ [])) is.number) ∷ []; queue_is = ap (λ (x : Protocol). x.queue) is.after; last_is = ap (λ (x : Protocol). x.last_send) is.after }
 
     permission_by : (transport : TransportType) (ip : IpAddr) (ret : Result (Unit {0}) CreatePermissionError) (q : Protocol) (refusal : Option CreatePermissionError) → ret ≢ Err not_permitted.NoMemory
         → IfSome refusal (λ error. (ret ≡ Err error) × (q ≡ refused_in (allocation_for transport ip p) transport ip at p))
-        → IfNone refusal (MatchResult ret (λ _. IsPermissionRequested p transport ip at q) (λ error. (error ≡ not_permitted.NoMemory) × (q ≡ after_number p))) → IsGrown q
+        → IfNone refusal (MatchResult ret (λ _. IsPermissionRequested p transport ip [] at q) (λ error. (error ≡ not_permitted.NoMemory) × (q ≡ after_number p))) → IsGrown q
     permission_by transport ip ret q (Some error) ample refused made = refused_queue transport ip (allocation_for transport ip p) q refused.1
     permission_by transport ip (Ok done) q None ample refused made = permission_made transport ip q made
     permission_by transport ip (Err error) q None ample refused made = absurd (ample (ap Err made.0))
@@ -345,7 +345,7 @@ not_resting sent at p pace h late = ap (λ (n : ℕ). is_resting n p.last_send a
 
 -- ---- once it is requested
 
-permission_text : (transport : TransportType) (p : Protocol) (ip : IpAddr) (number at : ℕ) → (after_permission transport ip number at p).queue ≡ p.queue ++ queued_request p.agent.here (request_text p.auth (CreatePermission ip) number) ∷ []
+permission_text : (transport : TransportType) (p : Protocol) (ip : IpAddr) (number at : ℕ) → (after_permission transport ip [] number at p).queue ≡ p.queue ++ queued_request p.agent.here (request_text p.auth (CreatePermission (ip ∷ [])) number) ∷ []
 unfolding after_permission requested
 permission_text transport p ip number at = refl
 

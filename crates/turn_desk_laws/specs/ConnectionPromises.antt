@@ -34,7 +34,7 @@ use Rattle.turn_desk_laws.specs.ConnectionLoops.{Permitted, Position, Queued, Re
 -- What a request of this method asks for, its method, and the address from which it is sent: a CONNECTION_BIND is
 -- sent from the socket.
 abbrev pub request_made_for : Target → Method → TurnRequest
-request_made_for target Permission = turn.CreatePermission (socket_ip target.peer)
+request_made_for target Permission = turn.CreatePermission (socket_ip target.peer ∷ [])
 request_made_for target Connect = turn.Connect target.peer
 request_made_for target Bind = turn.ConnectionBind target.number
 

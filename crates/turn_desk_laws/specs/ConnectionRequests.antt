@@ -24,7 +24,7 @@ use Rattle.turn_client_proto_progress_laws.specs.TcpBinding.{HasRequestedConnect
 -- The client's allocation with a pending permission for this IP. These are the transaction IDs of the requests for
 -- it: the first one, and those that answer a challenge.
 abbrev pub permitting_by : Holder → IpAddr → (ids : List ℕ) → Allocation
-permitting_by h ip ids = allocation_with h [] (record { ip = ip; numbers = ids } ∷ []) [] [] []
+permitting_by h ip ids = allocation_with h [] (record { ip = ip; others = []; numbers = ids } ∷ []) [] [] []
 
 -- The permission was requested, at last with this transaction ID; these messages are queued.
 abbrev pub IsPermitting : Holder → IpAddr → (ids : List ℕ) → (transaction_id made : ℕ) → List Queued → (last : ℕ)
@@ -43,7 +43,7 @@ pub record HasPermissionAgain (h : Holder) (ip : IpAddr) (challenged now last : 
   pub transaction_id : ℕ
   pub fits : transaction_id < 2 ^ 96
   pub other : transaction_id ≢ challenged
-  pub lawful : IsLawfulRequest (CreatePermission ip)
+  pub lawful : IsLawfulRequest (CreatePermission (ip ∷ []))
   pub counted : new.resends ≡ old.resends + 1
   pub all : List ℕ
   pub among : has_number transaction_id all ≡ true

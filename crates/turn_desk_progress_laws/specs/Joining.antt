@@ -112,14 +112,14 @@ permitted_in link = granted_for (socket_ip link.peer) link.granted ∷ []
 
 -- A CREATE_PERMISSION is queued.
 pub record IsRequested (link : Link) (last : ℕ) (h : Holder) (events : List TurnEvent) (p : Protocol) (transaction_id : ℕ) : Type 0 where
-  pub lawful : IsLawfulRequest (CreatePermission (socket_ip link.peer))
+  pub lawful : IsLawfulRequest (CreatePermission (socket_ip link.peer ∷ []))
   pub could : CanPermit h (socket_ip link.peer) link.requested
   pub is : HasRequestedPermission h (socket_ip link.peer) transaction_id link.requested last events p
 
 -- It was transmitted. `IsPermitting`: it was also granted, and these first bytes of the reply have come.
 pub record IsAskTransmitted (link : Link) (request : Sent) (h : Holder) (events : List TurnEvent) (p : Protocol) (transaction_id : ℕ)
     : Type 0 where
-  pub lawful : IsLawfulRequest (CreatePermission (socket_ip link.peer))
+  pub lawful : IsLawfulRequest (CreatePermission (socket_ip link.peer ∷ []))
   pub could : CanPermit h (socket_ip link.peer) link.requested
   pub request_is : request ≡ sent_from h h.started.here (permission_request h (socket_ip link.peer) transaction_id link.requested)
   pub is : HasSentPermission h (socket_ip link.peer) transaction_id link.requested link.granted events p

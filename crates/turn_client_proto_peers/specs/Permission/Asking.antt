@@ -28,8 +28,9 @@ marked a = record a { is_expired = true }
 
 -- ---- what it knows
 
+-- The pending permission is for the address, among others.
 abbrev pub is_pending_for : IpAddr → PendingPermission → Bool
-is_pending_for ip p = is_same_ip p.ip ip
+is_pending_for ip p = list_any (λ other. is_same_ip other ip) p.others || is_same_ip p.ip ip
 
 -- The allocation has a pending permission for the address.
 abbrev pub asks_for : IpAddr → Allocation → Bool

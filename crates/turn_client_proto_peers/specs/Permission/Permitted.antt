@@ -6,11 +6,16 @@ use Rattle.std.specs.declared.net.ip_addr.IpAddr.{IpAddr}
 use Rattle.turn_client_proto_allocation.specs.Awaited.{asks_for_permission}
 use Rattle.turn_client_proto_allocation.specs.Changes.{change_first}
 use Rattle.turn_client_proto_allocation.specs.declared.allocation.Allocation.{Allocation}
-use Rattle.turn_client_proto_peers.specs.Permission.Granted.{permitted}
+use Rattle.turn_client_proto_peers.specs.Permission.Granted.{permitted, permitted_all}
 use Rattle.turn_client_proto_allocation.specs.PendingRequests.{awaits_reply}
 
--- The allocations after the first one that awaits the response to this request got a permission for the
--- address.
+-- The allocations after the first one that awaits the response to this request got permissions for the
+-- addresses.
+abbrev pub all_permitted_each : List IpAddr → (transaction_id now : ℕ) → List Allocation → List Allocation
+all_permitted_each ips transaction_id now allocations =
+    change_first (awaits_reply transaction_id) (permitted_all ips transaction_id now) allocations
+
+-- The same of one address.
 abbrev pub all_permitted : IpAddr → (transaction_id now : ℕ) → List Allocation → List Allocation
 all_permitted ip transaction_id now allocations = change_first (awaits_reply transaction_id) (permitted ip transaction_id now) allocations
 

@@ -2,14 +2,14 @@
 use Rattle.std.specs.Prelude.{ℕ, min, List, map, filter, fold, Option}
 use Rattle.std.specs.List.{flat_map}
 use Rattle.std.specs.declared.net.ip_addr.IpAddr.{IpAddr}
-use Rattle.turn_client_proto_allocation.specs.Permissions.{has_expired, is_over, next_of_permission, not_over, polled_permissions}
+use Rattle.turn_client_proto_allocation.specs.Permissions.{addresses_of, has_expired, is_over, next_of_permission, not_over, polled_permissions}
 use Rattle.turn_client_proto_allocation.specs.declared.allocation.Allocation.{Allocation}
 use Rattle.turn_client_proto_allocation.specs.declared.permission.PendingPermission.{PendingPermission}
 use Rattle.turn_client_proto_allocation.specs.declared.permission.Permission.{Permission}
 
--- The addresses of the pending permissions whose request timed out.
+-- The addresses of the pending permissions whose request timed out, each once for each request.
 abbrev pub addresses_over : Option ℕ → List PendingPermission → List IpAddr
-addresses_over ended pending = map (λ p. p.ip) (filter (is_over ended) pending)
+addresses_over ended pending = flat_map addresses_of (filter (is_over ended) pending)
 
 -- The addresses of the permissions that have expired.
 abbrev pub addresses_expired : ℕ → List Permission → List IpAddr

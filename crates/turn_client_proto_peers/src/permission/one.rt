@@ -1,8 +1,8 @@
 //! The permissions of one allocation.
 
-ghost use Rattle.std.specs.Prelude.{◌≡◌, OnOk, OnErr};
-ghost use Rattle.turn_client_proto_peers.specs.Permission.Asking.{asks_for, is_of, is_past, knows, permits_over};
-ghost use Rattle.turn_client_proto_peers.specs.Permission.Granted.{permission_end, permitted, renewed, rejected};
+ghost use Rattle.std.specs.Prelude.{◌≡◌, ◌++◌, OnOk, OnErr, take};
+ghost use Rattle.turn_client_proto_peers.specs.Permission.Asking.{asks_for, is_of, is_past, is_pending_for, knows, permits_over};
+ghost use Rattle.turn_client_proto_peers.specs.Permission.Granted.{granted_each, granted_for, permission_end, permitted, permitted_all, renewed, rejected};
 ghost use Rattle.turn_client_proto_peers.specs.Permission.Reporting.{polled};
 
 use std::alloc::Global;
@@ -14,8 +14,9 @@ use stun_types_base::list::ListOf;
 use stun_types_base::memory::NoMemory;
 use stun_types_base::transport::TransportType;
 use stun_types_wire::transaction::TransactionId;
+use turn_client_proto_allocation::addresses::names;
 use turn_client_proto_allocation::allocation::Allocation;
-use turn_client_proto_allocation::permission::Permission;
+use turn_client_proto_allocation::permission::{PendingPermission, Permission};
 use turn_client_proto_allocation::permissions;
 use turn_client_proto_allocation::permitted::permits;
 
@@ -43,11 +44,19 @@ pub fn is_past(a: &Allocation, now: Instant) -> bool
     a.expiry <= now
 }
 
+/// Returns whether the pending permission is for the address, among others.
+fn is_pending_for(p: &PendingPermission, ip: IpAddr) -> bool
+    ensures { result ≡ is_pending_for ip p.now }
+{
+    names(p.others.as_slice(), ip) || p.ip == ip
+}
+
 /// Returns whether the allocation has a pending permission for the address.
 fn asks_for(a: &Allocation, ip: IpAddr) -> bool
     ensures { result ≡ asks_for ip a.now }
 {
-    a.pending_permissions.as_slice().iter().any(|p| p.ip == ip)
+    let pending = a.pending_permissions.as_slice();
+    pending.iter().any(|p| is_pending_for(p, ip))
 }
 
 /// Returns whether the allocation has an active or pending permission for the address.
@@ -65,6 +74,65 @@ pub(crate) fn permits_over(a: &Allocation, transport: TransportType, ip: IpAddr)
     !a.is_expired && a.transport == transport && permits(a, ip)
 }
 
+/// Returns the permission for the address that was granted at `now`.
+fn granted_for(alloc: Global, ip: IpAddr, now: Instant) -> Permission
+    ensures { result ≡ granted_for ip now }
+{
+    Permission {
+        ip,
+        expiry: permission_end(now),
+        renewals: ListOf::new(alloc),
+    }
+}
+
+/// Removes all permissions but the first `count`.
+fn keep_first(permissions: &mut ListOf<Permission>, count: usize)
+    ensures { permissions.new ≡ take count permissions.old }
+{
+    while permissions.len() > count {
+        permissions.pop();
+    }
+}
+
+/// Appends a permission for each address, granted at `now`. If memory runs out, fails with
+/// `NoMemory` and nothing changes.
+fn grant_each(
+    alloc: Global,
+    permissions: &mut ListOf<Permission>,
+    ips: &[IpAddr],
+    now: Instant,
+) -> Result<(), NoMemory>
+    ensures ok { OnOk result (permissions.new ≡ permissions.old ++ granted_each ips.now now) }
+    ensures err { OnErr result (permissions.new ≡ permissions.old) }
+{
+    let count = permissions.len();
+    for ip in ips {
+        if permissions.push(granted_for(alloc, *ip, now)).is_err() {
+            keep_first(permissions, count);
+            return Err(NoMemory);
+        }
+    }
+    Ok(())
+}
+
+/// Adds an active permission for each address and removes the pending permissions of the request
+/// with this transaction ID. If memory runs out, fails with `NoMemory` and nothing changes.
+pub fn permit_each(
+    alloc: Global,
+    a: &mut Allocation,
+    ips: &[IpAddr],
+    transaction_id: TransactionId,
+    now: Instant,
+) -> Result<(), NoMemory>
+    ensures ok { OnOk result (a.new ≡ permitted_all ips.now transaction_id now a.old) }
+    ensures err { OnErr result (a.new ≡ a.old) }
+{
+    grant_each(alloc, &mut a.permissions, ips, now)?;
+    a.pending_permissions
+        .retain(|p| !p.is_requested_by(transaction_id));
+    Ok(())
+}
+
 /// Adds an active permission for the address and removes the pending permissions of the request
 /// with this transaction ID. If memory runs out, fails with `NoMemory` and nothing changes.
 pub fn permit(
@@ -77,12 +145,7 @@ pub fn permit(
     ensures ok { OnOk result (a.new ≡ permitted ip transaction_id now a.old) }
     ensures err { OnErr result (a.new ≡ a.old) }
 {
-    let permission = Permission {
-        ip,
-        expiry: permission_end(now),
-        renewals: ListOf::new(alloc),
-    };
-    a.permissions.push(permission)?;
+    a.permissions.push(granted_for(alloc, ip, now))?;
     a.pending_permissions
         .retain(|p| !p.is_requested_by(transaction_id));
     Ok(())

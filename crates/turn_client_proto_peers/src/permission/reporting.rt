@@ -3,6 +3,7 @@
 ghost use Rattle.std.specs.Prelude.{◌≡◌, ◌≢◌, ◌++◌, [], OnOk, OnErr, length, map, take};
 ghost use Rattle.turn_client_proto_allocation.specs.StunProtoTransaction.Least.{IsLeastOf};
 ghost use Rattle.turn_client_proto_api.specs.declared.event.TurnEvent.TheVariants.{PermissionCreateFailed};
+ghost use Rattle.turn_client_proto_allocation.specs.Permissions.{addresses_of};
 ghost use Rattle.turn_client_proto_peers.specs.Permission.Reporting.{addresses_expired, addresses_over, all_nexts, earlier_of, polled};
 
 use crate::permission::one;
@@ -10,14 +11,38 @@ use stun_types_base::instant::Instant;
 use stun_types_base::memory::NoMemory;
 use stun_types_base::transport::TransportType;
 use stun_types_wire::transaction::TransactionId;
+use turn_client_proto_allocation::addresses::is_repeated;
 use turn_client_proto_allocation::allocation::Allocation;
 use turn_client_proto_allocation::permission::{PendingPermission, Permission};
 use turn_client_proto_api::event::TurnEvent;
 use turn_client_proto_api::queue::QueueOf;
 
-/// Queues a `PermissionCreateFailed` for each pending permission whose request timed out. Fails
-/// with `NoMemory` if memory runs out, which happens only if there is an event to queue. The events
-/// that were queued before are then still the first ones.
+/// Queues a `PermissionCreateFailed` for each address of the pending permission, each once. If
+/// memory runs out, fails with `NoMemory`, and the events that were queued before are still the
+/// first ones.
+#[tactic(auto, using(turn_client_proto_allocation::proofs::Heads::heads))]
+fn report_one(
+    events: &mut QueueOf<TurnEvent>,
+    transport: TransportType,
+    pending: &PendingPermission,
+) -> Result<(), NoMemory>
+    ensures ok { OnOk result (events.new ≡ events.old
+        ++ map (PermissionCreateFailed transport) (addresses_of pending.now)) }
+    ensures err { OnErr result (take (length events.old) events.new ≡ events.old) }
+{
+    let (ip, others) = (pending.ip, pending.others.as_slice());
+    events.push_back(TurnEvent::PermissionCreateFailed(transport, ip))?;
+    for index in 0..others.len() {
+        if !is_repeated(ip, &others[..index], others[index]) {
+            events.push_back(TurnEvent::PermissionCreateFailed(transport, others[index]))?;
+        }
+    }
+    Ok(())
+}
+
+/// Queues a `PermissionCreateFailed` for each address of each pending permission whose request
+/// timed out. Fails with `NoMemory` if memory runs out, which happens only if there is an event to
+/// queue. The events that were queued before are then still the first ones.
 #[tactic(auto, using(turn_client_proto_allocation::proofs::Heads::heads))]
 pub fn report_over(
     events: &mut QueueOf<TurnEvent>,
@@ -32,7 +57,7 @@ pub fn report_over(
 {
     for permission in pending {
         if permission.is_over(ended) {
-            events.push_back(TurnEvent::PermissionCreateFailed(transport, permission.ip))?;
+            report_one(events, transport, permission)?;
         }
     }
     Ok(())

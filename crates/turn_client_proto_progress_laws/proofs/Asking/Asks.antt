@@ -181,7 +181,7 @@ module _ (b : Beginning) (realm : List ℕ) (address : SocketAddr) (p : Protocol
 
   answered_by : (ret : Result (Unit {0}) CreatePermissionError) (q : Protocol) (refusal : Option CreatePermissionError) → permission_refusal p transport ip at ≡ refusal → ret ≢ Err not_permitted.NoMemory
       → IfSome refusal (λ error. (ret ≡ Err error) × (q ≡ refused_in (allocation_for transport ip p) transport ip at p))
-      → IfNone refusal (MatchResult ret (λ _. IsPermissionRequested p transport ip at q) (λ error. (error ≡ not_permitted.NoMemory) × (q ≡ after_number p)))
+      → IfNone refusal (MatchResult ret (λ _. IsPermissionRequested p transport ip [] at q) (λ error. (error ≡ not_permitted.NoMemory) × (q ≡ after_number p)))
       → (ret ≡ Ok tt → MayPermit b address transport ip at p) × (MayPermit b address transport ip at p → ret ≡ Ok tt)
   answered_by ret q (Some error) why ample refused made = (λ done. absurd (Prim.cc (sym done ∙ refused.0)), λ may. absurd (Prim.cc (sym (not_refused may) ∙ why)))
   answered_by (Ok done) q None why ample refused made = (λ is. is_wanted why, λ may. refl)
@@ -195,23 +195,23 @@ module _ (b : Beginning) (realm : List ℕ) (address : SocketAddr) (p : Protocol
 
   made_by : (q : Protocol) (refusal : Option CreatePermissionError) → permission_refusal p transport ip at ≡ refusal
       → IfSome refusal (λ error. (ok ≡ Err error) × (q ≡ refused_in (allocation_for transport ip p) transport ip at p))
-      → IfNone refusal (MatchResult ok (λ _. IsPermissionRequested p transport ip at q) (λ error. (error ≡ not_permitted.NoMemory) × (q ≡ after_number p)))
-      → MayPermit b address transport ip at p × IsPermissionRequested p transport ip at q
+      → IfNone refusal (MatchResult ok (λ _. IsPermissionRequested p transport ip [] at q) (λ error. (error ≡ not_permitted.NoMemory) × (q ≡ after_number p)))
+      → MayPermit b address transport ip at p × IsPermissionRequested p transport ip [] at q
   made_by q (Some error) why refused made = absurd (Prim.cc refused.0)
   made_by q None why refused made = (is_wanted why, made)
 
-  pub made : (q : Protocol) → IsPermissionAnswered p transport ip at (Ok tt) q → MayPermit b address transport ip at p × IsPermissionRequested p transport ip at q
+  pub made : (q : Protocol) → IsPermissionAnswered p transport ip at (Ok tt) q → MayPermit b address transport ip at p × IsPermissionRequested p transport ip [] at q
   made q is = made_by q (permission_refusal p transport ip at) refl is.refused is.requested
 
-  module _ (q : Protocol) (may : MayPermit b address transport ip at p) (is : IsPermissionRequested p transport ip at q) where
+  module _ (q : Protocol) (may : MayPermit b address transport ip at p) (is : IsPermissionRequested p transport ip [] at q) where
     abbrev number : ℕ
     number = is.number
 
     abbrev text : List ℕ
-    text = request_text p.auth (CreatePermission ip) number
+    text = request_text p.auth (CreatePermission (ip ∷ [])) number
 
     shows : number_at text ≡ number
-    shows = number_law p.auth (CreatePermission ip) number speaks.signs.short is.lawful (number_small p number is.is_next)
+    shows = number_law p.auth (CreatePermission (ip ∷ [])) number speaks.signs.short is.lawful (number_small p number is.is_next)
 
     -- ---- no other request has its number
 
@@ -223,7 +223,7 @@ module _ (b : Beginning) (realm : List ℕ) (address : SocketAddr) (p : Protocol
         first_not (is_awaited number may.allocation) false (ap (λ (l : List Allocation). is_any_awaited number l) (sym may.only) ∙ any)
 
     abbrev pending : PendingPermission
-    pending = record { ip = ip; numbers = number ∷ [] }
+    pending = record { ip = ip; others = []; numbers = number ∷ [] }
 
     awaits_it : AwaitsPermission (number ∷ []) number ip (asking pending may.allocation)
     unfolding is_awaited
@@ -248,7 +248,7 @@ module _ (b : Beginning) (realm : List ℕ) (address : SocketAddr) (p : Protocol
     transaction = started p.agent text p.server at
 
     abbrev after : Protocol
-    after = record (requested (after_number p) (CreatePermission ip) number at) {
+    after = record (requested (after_number p) (CreatePermission (ip ∷ [])) number at) {
       allocations = change_first (is_of transport (family_of_ip ip)) (asking pending) p.allocations;
     }
 
@@ -261,7 +261,7 @@ module _ (b : Beginning) (realm : List ℕ) (address : SocketAddr) (p : Protocol
     unfolding requested
     there_after = ap (λ (n : ℕ). finite.get (finite.insert p.agent.outstanding (number_at text) transaction) n) (sym shows) ∙ put_there p.agent.outstanding (number_at text) transaction
 
-    is_after : after_asking transport ip number at p ≡ after
+    is_after : after_asking transport ip [] number at p ≡ after
     unfolding after_asking
     is_after = refl
 

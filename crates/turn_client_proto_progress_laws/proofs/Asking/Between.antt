@@ -106,7 +106,7 @@ module _ (b : Beginning) (realm : List ℕ) (address : SocketAddr) (wanted : Wan
   renewed_so : (at : ℕ) (ip : IpAddr) (sent : Sent) (q : Protocol) → IsRenewalSent p ip at sent q → Asks q
   unfolding first_permitted
   renewed_so at ip sent q is = subst (λ (x : Protocol). Asks x) (sym is.after)
-      (made_so (CreatePermission ip) is.number at is.lawful is.made.is_next (wants at) (permission_wanting.renewing at is.number)
+      (made_so (CreatePermission (ip ∷ [])) is.number at is.lawful is.made.is_next (wants at) (permission_wanting.renewing at is.number)
       (permission_renewed h.numbers h.number is.number (apart_from b realm address wanted request until beyond Counts p h is.number is.made.is_next) wanted at h.allocation))
 
   rebound_so : (at channel : ℕ) (peer : SocketAddr) (sent : Sent) (q : Protocol) → IsChannelRenewalSent p channel peer at sent q → Asks q
@@ -245,15 +245,15 @@ module _ (b : Beginning) (realm : List ℕ) (address : SocketAddr) (wanted : Wan
           requested_still b realm address wanted request until beyond Counts p h _ (record { server = refl; remote = refl; transport = refl; here = refl; waits = refl; allocates = refl; asked = refl; auth = refl; phase = refl }) refl
           changed.0 changed.1 changed.2 (others_made b realm address wanted request until beyond Counts p h other number at p.server lawful next) h.transaction (beside_made b realm address wanted request until beyond Counts p h other number at p.server lawful next) h.continues
 
-    permission_made : (transport : TransportType) (ip : IpAddr) (q : Protocol) → IsPermissionRequested p transport ip at q → Asks q
+    permission_made : (transport : TransportType) (ip : IpAddr) (q : Protocol) → IsPermissionRequested p transport ip [] at q → Asks q
     unfolding after_permission
     permission_made transport ip q is = subst (λ (y : Protocol). Asks y) (sym is.after)
-        (waits_so (CreatePermission ip) is.number is.lawful is.is_next (is_of transport (family_of_ip ip)) (permission_asking.asking (record { ip = ip; numbers = is.number ∷ [] }))
+        (waits_so (CreatePermission (ip ∷ [])) is.number is.lawful is.is_next (is_of transport (family_of_ip ip)) (permission_asking.asking (record { ip = ip; others = []; numbers = is.number ∷ [] }))
         (permission_requested h.numbers h.number is.number (apart_from b realm address wanted request until beyond Counts p h is.number is.is_next) wanted ip h.allocation))
 
     permission_by : (transport : TransportType) (ip : IpAddr) (ret : Result (Unit {0}) CreatePermissionError) (q : Protocol) (refusal : Option CreatePermissionError) → ret ≢ Err not_permitted.NoMemory
         → IfSome refusal (λ error. (ret ≡ Err error) × (q ≡ refused_in (allocation_for transport ip p) transport ip at p))
-        → IfNone refusal (MatchResult ret (λ _. IsPermissionRequested p transport ip at q) (λ error. (error ≡ not_permitted.NoMemory) × (q ≡ after_number p))) → Asks q
+        → IfNone refusal (MatchResult ret (λ _. IsPermissionRequested p transport ip [] at q) (λ error. (error ≡ not_permitted.NoMemory) × (q ≡ after_number p))) → Asks q
     permission_by transport ip ret q (Some error) ample refused made = unchanged q (refused.1 ∙ refused_so transport ip (allocation_for transport ip p) refl)
     permission_by transport ip (Ok done) q None ample refused made = permission_made transport ip q made
     permission_by transport ip (Err error) q None ample refused made = absurd (ample (ap Err made.0))

@@ -29,7 +29,7 @@ use Rattle.turn_client_proto_messages.specs.Allocation.Awaited.{asks_for_channel
 use Rattle.turn_client_proto_messages.specs.Allocation.Changes.{change_first}
 use Rattle.turn_client_proto_messages.specs.Allocation.declared.allocation.Allocation.{Allocation}
 use Rattle.turn_client_proto_messages.specs.Allocation.declared.permission.Permission.{Permission}
-use Rattle.turn_client_proto_messages.specs.Allocation.PendingRequests.{pending_request, requested_of, awaits_reply}
+use Rattle.turn_client_proto_messages.specs.Allocation.PendingRequests.{addresses_for, pending_request, requested_of, awaits_reply}
 use Rattle.turn_client_proto_step_laws.specs.Peers.Permission.Permitted.{all_permitted}
 use Rattle.turn_client_proto_messages.specs.Allocation.declared.pending.PendingRequest.{PendingRequest}
 use Rattle.turn_client_proto_messages.specs.Allocation.declared.pending.PendingRequest.TheVariants.{NewPermission}
@@ -52,6 +52,7 @@ use Rattle.turn_client_proto_step_laws.specs.Peers.Permission.Asking.{permits_ov
 use Rattle.turn_client_proto_messages.specs.Allocation.Permits.{is_for, permits}
 use Rattle.turn_client_proto_step_laws.specs.Peers.Permission.Granted.{granted_for, permitted}
 use Rattle.turn_client_proto_messages.specs.Allocation.Same.{is_same_ip, is_same_transport}
+use Rattle.turn_client_proto_progress_laws.proofs.Asking.Addresses.{one_address}
 use Rattle.turn_client_proto_progress_laws.proofs.Asking.Tools.{no_challenge, successes_respond}
 use Rattle.turn_client_proto_progress_laws.proofs.Asking.Tools.{where_false, where_true}
 use Rattle.turn_client_proto_handshake_laws.specs.Sent.{Beginning}
@@ -168,6 +169,12 @@ module _ (b : Beginning) (realm : List ℕ) (address : SocketAddr) (ip : IpAddr)
       ∙ (ap (λ (l : List Allocation). pending_request h.number l) h.only
       ∙ (ap (λ (o : Option Allocation). option_and_then (requested_of h.number) o) (one_found (awaits_reply h.number) a awaits_it) ∙ asks_for))
 
+  -- It asks for this address alone.
+  addresses_here : (number : ℕ) → number ≡ h.number → addresses_for number p.allocations ≡ ip ∷ []
+  addresses_here number same =
+      ap (λ (n : ℕ). addresses_for n p.allocations) same
+      ∙ (ap (λ (l : List Allocation). addresses_for h.number l) h.only ∙ one_address h.number ip h.numbers a awaits_it h.awaits.requested)
+
   module _ (reply : List ℕ) (shows : number_at request ≡ h.number) (claims : claimed request ≡ own_claim p.auth.anonymous_username (standing_under b h.speaks.signs.challenge)) (method : method_of (kind_at request) ≡ create_permission_method)
       (g : IsGrantOf b realm request reply) where
     abbrev k : auth.Client → Protocol
@@ -184,14 +191,17 @@ module _ (b : Beginning) (realm : List ℕ) (address : SocketAddr) (ip : IpAddr)
         let permits_it : (method_of (kind_at reply) == create_permission_method) ≡ true = ap (λ (m : ℕ). m == create_permission_method) own_method in
         where_true _ _ (method_of (kind_at reply) == create_permission_method) permits_it (where_false _ _ (method_of (kind_at reply) == refresh_method) no_refresh is)
 
-    granted_so : (client : auth.Client) (handled : Bool) (q : Protocol) → IsPermissionResponded (k client) reply now handled q → IsHandled (granted a.transport ip (number_at reply) now (k client)) handled q
+    granted_so : (client : auth.Client) (handled : Bool) (q : Protocol) → IsPermissionResponded (k client) reply now handled q → IsHandled (granted a.transport (ip ∷ []) (number_at reply) now (k client)) handled q
     granted_so client handled q is =
         let success : is_error_class (class_of (kind_at reply)) ≡ false = ap is_error_class g.success in
         let by_class = where_false (IsRefusedFor (pending_request (number_at reply) (k client).allocations) (k client) (number_at reply) handled q)
         (IsGrantedFor (pending_request (number_at reply) (k client).allocations) (k client) (number_at reply) now handled q) (is_error_class (class_of (kind_at reply))) success is in
         let what : pending_request (number_at reply) (k client).allocations ≡ Some (NewPermission a.transport ip) =
         ap (λ (l : List Allocation). pending_request (number_at reply) l) (allocations_are client) ∙ requested_here (number_at reply) (g.number ∙ shows) in
-        subst (λ (o : Option PendingRequest). IsGrantedFor o (k client) (number_at reply) now handled q) what by_class
+        let addresses : addresses_for (number_at reply) (k client).allocations ≡ ip ∷ [] =
+        ap (λ (l : List Allocation). addresses_for (number_at reply) l) (allocations_are client) ∙ addresses_here (number_at reply) (g.number ∙ shows) in
+        subst (λ (l : List IpAddr). IsHandled (granted a.transport l (number_at reply) now (k client)) handled q) addresses
+        (subst (λ (o : Option PendingRequest). IsGrantedFor o (k client) (number_at reply) now handled q) what by_class)
 
     -- The allocation afterwards.
     permitted_is : all_permitted ip (number_at reply) now p.allocations ≡ permitted ip (number_at reply) now a ∷ []
@@ -202,7 +212,7 @@ module _ (b : Beginning) (realm : List ℕ) (address : SocketAddr) (ip : IpAddr)
     permits_now : permits ip (permitted ip (number_at reply) now a) ≡ true
     permits_now = last_passes ip now a.permissions
 
-    holds_after : (client : auth.Client) → HoldsPermission b ip (granted a.transport ip (number_at reply) now (k client))
+    holds_after : (client : auth.Client) → HoldsPermission b ip (granted a.transport (ip ∷ []) (number_at reply) now (k client))
     unfolding granted accepted
     holds_after client = (let like = after_like p.agent reply p.server in record {
       settings = record {
@@ -233,7 +243,7 @@ module _ (b : Beginning) (realm : List ℕ) (address : SocketAddr) (ip : IpAddr)
         (done.0, subst (λ (x : Protocol). HoldsPermission b ip x) (sym done.1) (holds_after r.client))
 
     -- Then it has answered no challenge in a row.
-    none_after : (client : auth.Client) → (granted a.transport ip (number_at reply) now (k client)).resends ≡ 0
+    none_after : (client : auth.Client) → (granted a.transport (ip ∷ []) (number_at reply) now (k client)).resends ≡ 0
     unfolding granted accepted
     none_after client = refl
 

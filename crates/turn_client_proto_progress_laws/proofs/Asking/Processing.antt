@@ -1,5 +1,5 @@
 -- An established client stays so when it handles a message, if that is no challenge of another realm.
-use Rattle.std.proofs.Common.{◌≡◌, ℕ, zero, suc, Bool, List, length, map, Option, Some, None, refl, sym, ap, ◌∙◌, subst, inl, inr}
+use Rattle.std.proofs.Common.{◌≡◌, ℕ, zero, suc, Bool, List, [], ◌∷◌, length, map, Option, Some, None, refl, sym, ap, ◌∙◌, subst, inl, inr}
 use Rattle.std.specs.Prelude.{◌==◌, ◌&&◌, nat_le, Result, Ok, Err, find}
 use Rattle.std.specs.List.{list_any}
 use Rattle.std.specs.declared.net.ip_addr.IpAddr.{IpAddr}
@@ -24,7 +24,7 @@ use Rattle.turn_client_proto_messages.specs.Allocation.Awaited.{asks_for_permiss
 use Rattle.turn_client_proto_messages.specs.Allocation.Changes.{change_first}
 use Rattle.turn_client_proto_messages.specs.Allocation.Refreshing.{ends_by, least_of, lifetime_requested, renewed, renewed_by}
 use Rattle.turn_client_proto_messages.specs.Allocation.declared.allocation.Allocation.{Allocation}
-use Rattle.turn_client_proto_messages.specs.Allocation.PendingRequests.{pending_request, reissued_under, awaits_reply, permission_too}
+use Rattle.turn_client_proto_messages.specs.Allocation.PendingRequests.{addresses_for, pending_request, reissued_under, awaits_reply, permission_too}
 use Rattle.turn_client_proto_step_laws.specs.Peers.Channel.Granted as channel_granted
 use Rattle.turn_client_proto_messages.specs.Allocation.declared.pending.PendingRequest.{PendingRequest}
 use Rattle.turn_client_proto_messages.specs.Allocation.declared.pending.PendingRequest.TheVariants.{ChannelRenewal, Lifetime, NewChannel, NewConnection, NewPermission, Renewal}
@@ -239,21 +239,21 @@ module _ (b : Beginning) (realm : List ℕ) (address : SocketAddr) where
 
     -- ---- the response to a CREATE_PERMISSION
 
-    granted_so : (transport : TransportType) (ip : IpAddr) (number now : ℕ) → Speaking (permitting.granted transport ip number now p)
+    granted_so : (transport : TransportType) (ips : List IpAddr) (number now : ℕ) → Speaking (permitting.granted transport ips number now p)
     unfolding permitting.granted
-    granted_so transport ip number now = with_allocations (permitting.granted transport ip number now p) (own_agent b realm address p is) refl refl refl refl refl
-        (most_changed b address (awaits_reply number) (permission_granted.permitted ip number now) (λ a. record { transport = refl; address = refl }) p.allocations is.one)
+    granted_so transport ips number now = with_allocations (permitting.granted transport ips number now p) (own_agent b realm address p is) refl refl refl refl refl
+        (most_changed b address (awaits_reply number) (permission_granted.permitted_all ips number now) (λ a. record { transport = refl; address = refl }) p.allocations is.one)
 
     renewed_so : (number now : ℕ) → Speaking (renews number now p)
     unfolding renews
     renewed_so number now = with_allocations (renews number now p) (own_agent b realm address p is) refl refl refl refl refl (most_mapped b address (permission_granted.renewed number now) (permissions_stay number now) p.allocations is.one)
 
-    refused_so : (transport : TransportType) (ip : IpAddr) (number : ℕ) → Speaking (refused transport ip number p)
+    refused_so : (transport : TransportType) (ips : List IpAddr) (number : ℕ) → Speaking (refused transport ips number p)
     unfolding refused
-    refused_so transport ip number = with_allocations (refused transport ip number p) (own_agent b realm address p is) refl refl refl refl refl (most_mapped b address (permission_granted.rejected number) (turned_stay number) p.allocations is.one)
+    refused_so transport ips number = with_allocations (refused transport ips number p) (own_agent b realm address p is) refl refl refl refl refl (most_mapped b address (permission_granted.rejected number) (turned_stay number) p.allocations is.one)
 
     permission_granted_for : (what : Option PendingRequest) (number now : ℕ) (handled : Bool) (q : Protocol) → IsGrantedFor what p number now handled q → Speaking q
-    permission_granted_for (Some (NewPermission transport ip)) number now handled q r = handled_so _ handled q (granted_so transport ip number now) r
+    permission_granted_for (Some (NewPermission transport ip)) number now handled q r = handled_so _ handled q (granted_so transport (addresses_for number p.allocations) number now) r
     permission_granted_for (Some (Renewal transport ip)) number now handled q r = handled_so _ handled q (renewed_so number now) r
     permission_granted_for (Some (Lifetime lifetime)) number now handled q r = ignored_so p handled q is r
     permission_granted_for (Some (NewConnection to)) number now handled q r = ignored_so p handled q is r
@@ -262,8 +262,8 @@ module _ (b : Beginning) (realm : List ℕ) (address : SocketAddr) where
     permission_granted_for None number now handled q r = ignored_so p handled q is r
 
     permission_refused_for : (what : Option PendingRequest) (number : ℕ) (handled : Bool) (q : Protocol) → IsRefusedFor what p number handled q → Speaking q
-    permission_refused_for (Some (NewPermission transport ip)) number handled q r = handled_so _ handled q (refused_so transport ip number) r
-    permission_refused_for (Some (Renewal transport ip)) number handled q r = handled_so _ handled q (refused_so transport ip number) r
+    permission_refused_for (Some (NewPermission transport ip)) number handled q r = handled_so _ handled q (refused_so transport (addresses_for number p.allocations) number) r
+    permission_refused_for (Some (Renewal transport ip)) number handled q r = handled_so _ handled q (refused_so transport (ip ∷ []) number) r
     permission_refused_for (Some (Lifetime lifetime)) number handled q r = ignored_so p handled q is r
     permission_refused_for (Some (NewConnection to)) number handled q r = ignored_so p handled q is r
     permission_refused_for (Some (NewChannel transport channel peer)) number handled q r = ignored_so p handled q is r

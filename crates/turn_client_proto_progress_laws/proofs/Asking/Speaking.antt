@@ -272,15 +272,15 @@ module _ (b : Beginning) (realm : List ℕ) (address : SocketAddr) (p : Protocol
     | inr not ↦ rw not is
   ]
 
-  permission_made : (transport : TransportType) (ip : IpAddr) (at : ℕ) (q : Protocol) → IsPermissionRequested p transport ip at q → Speaking q
+  permission_made : (transport : TransportType) (ip : IpAddr) (at : ℕ) (q : Protocol) → IsPermissionRequested p transport ip [] at q → Speaking q
   unfolding after_permission requested
   permission_made transport ip at q r = subst (λ (y : Protocol). Speaking y) (sym r.after)
-      (made_so (after_permission transport ip r.number at p) at (is_of transport (family_of_ip ip)) (permission_asking.asking (record { ip = ip; numbers = r.number ∷ [] })) (λ a. record { transport = refl; address = refl })
+      (made_so (after_permission transport ip [] r.number at p) at (is_of transport (family_of_ip ip)) (permission_asking.asking (record { ip = ip; others = []; numbers = r.number ∷ [] })) (λ a. record { transport = refl; address = refl })
       (record { remote = refl; transport = refl; here = refl; waits = refl }) refl refl refl refl refl refl)
 
   permission_by : (transport : TransportType) (ip : IpAddr) (at : ℕ) (ret : Result (Unit {0}) CreatePermissionError) (q : Protocol) (refusal : Option CreatePermissionError) → ret ≢ Err not_permitted.NoMemory
       → IfSome refusal (λ error. (ret ≡ Err error) × (q ≡ refused_in (allocation_for transport ip p) transport ip at p))
-      → IfNone refusal (MatchResult ret (λ _. IsPermissionRequested p transport ip at q) (λ error. (error ≡ not_permitted.NoMemory) × (q ≡ after_number p))) → Speaking q
+      → IfNone refusal (MatchResult ret (λ _. IsPermissionRequested p transport ip [] at q) (λ error. (error ≡ not_permitted.NoMemory) × (q ≡ after_number p))) → Speaking q
   permission_by transport ip at ret q (Some error) ample refused made = subst (λ (y : Protocol). Speaking y) (sym refused.1) (refused_so transport ip at (allocation_for transport ip p))
   permission_by transport ip at (Ok done) q None ample refused made = permission_made transport ip at q made
   permission_by transport ip at (Err error) q None ample refused made = absurd (ample (ap Err made.0))

@@ -69,16 +69,16 @@ more_not number other apart (n ∷ numbers) none = elim (cases_Bool (n == number
 
 module _ (numbers : List ℕ) (number other : ℕ) (apart : (other == number) ≡ false) where
   -- A permission for another address is requested.
-  requested_beside : (wanted : Wanted) (ip : IpAddr) (a : Allocation) → Awaits numbers number wanted a → Awaits numbers number wanted (permission_asking.asking (record { ip = ip; numbers = other ∷ [] }) a)
+  requested_beside : (wanted : Wanted) (ip : IpAddr) (a : Allocation) → Awaits numbers number wanted a → Awaits numbers number wanted (permission_asking.asking (record { ip = ip; others = []; numbers = other ∷ [] }) a)
   requested_beside (APermission own) ip a is = record {
     no_refresh = is.no_refresh;
     no_channel = is.no_channel;
     no_renewal = is.no_renewal;
-    requested = found_before (asks_for_permission number) a.pending_permissions (record { ip = ip; numbers = other ∷ [] } ∷ []) _ is.requested;
+    requested = found_before (asks_for_permission number) a.pending_permissions (record { ip = ip; others = []; numbers = other ∷ [] } ∷ []) _ is.requested;
   }
   requested_beside (AChannel channel peer) ip a is = record { no_refresh = is.no_refresh; requested = is.requested; free = is.free }
 
-  pub permission_requested : (wanted : Wanted) (ip : IpAddr) (a : Allocation) → Keeps numbers number wanted a (permission_asking.asking (record { ip = ip; numbers = other ∷ [] }) a)
+  pub permission_requested : (wanted : Wanted) (ip : IpAddr) (a : Allocation) → Keeps numbers number wanted a (permission_asking.asking (record { ip = ip; others = []; numbers = other ∷ [] }) a)
   permission_requested wanted ip a = record { transport = refl; address = refl; expiry = refl; visible = refl; awaits = requested_beside wanted ip a }
 
   -- A channel is requested.
@@ -187,7 +187,7 @@ module _ (numbers : List ℕ) (number : ℕ) (over : Option ℕ) (now : ℕ) (co
     no_refresh = is.no_refresh;
     no_channel = is.no_channel;
     no_renewal = is.no_renewal;
-    requested = found_stored (asks_for_permission number) (λ p. not (permissions.is_over over p)) a.pending_permissions (record { ip = ip; numbers = numbers }) is.requested stays_requested;
+    requested = found_stored (asks_for_permission number) (λ p. not (permissions.is_over over p)) a.pending_permissions (record { ip = ip; others = []; numbers = numbers }) is.requested stays_requested;
   }
   permissions_left (AChannel channel peer) a is = record { no_refresh = is.no_refresh; requested = is.requested; free = is.free }
 

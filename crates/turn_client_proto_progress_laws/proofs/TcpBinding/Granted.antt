@@ -1,6 +1,6 @@
 -- The success response to a CREATE_PERMISSION comes to a client, and that to a CONNECT.
 use Rattle.std.proofs.Common.{◌≡◌, ℕ, ◌++◌, Bool, true, List, [], ◌∷◌, Option, Some, None, refl, sym, ap, ◌∙◌, subst, append-nil}
-use Rattle.std.specs.Prelude.{◌==◌, find, if◌then◌else◌}
+use Rattle.std.specs.Prelude.{◌==◌, find, is_some, if◌then◌else◌}
 use Rattle.std.specs.declared.net.ip_addr.IpAddr.{IpAddr}
 use Rattle.std.specs.declared.net.socket_addr.SocketAddr.{SocketAddr}
 use Rattle.std.proofs.lemmas.Bool.{eq-eqb}
@@ -14,7 +14,7 @@ use Rattle.turn_client_proto_messages.specs.Allocation.Awaited.{has_number, rene
 use Rattle.turn_client_proto_messages.specs.Allocation.declared.permission.Permission.{Permission}
 use Rattle.turn_client_proto_messages.specs.Api.declared.event.TurnEvent.{TurnEvent}
 use Rattle.turn_client_proto_messages.specs.Api.declared.event.TurnEvent.TheVariants.{PermissionCreated}
-use Rattle.turn_client_proto_messages.specs.Allocation.PendingRequests.{pending_request, requested_of}
+use Rattle.turn_client_proto_messages.specs.Allocation.PendingRequests.{addresses_for, pending_request, requested_of}
 use Rattle.turn_client_proto_step_laws.specs.Peers.Permission.Permitted.{all_permitted}
 use Rattle.turn_client_proto_messages.specs.Allocation.declared.pending.PendingRequest.{PendingRequest as Wanted}
 use Rattle.turn_client_proto_messages.specs.Allocation.declared.pending.PendingRequest.TheVariants.{NewConnection, NewPermission}
@@ -28,6 +28,7 @@ use Rattle.turn_client_proto_messages.specs.Reported.{connection_reported}
 use Rattle.turn_client_proto_handshake_laws.specs.Core.Standing.{IsConnectResponded, IsRequestAnswered, after_connect, after_refresh}
 use Rattle.turn_client_proto_handshake_laws.specs.Core.declared.protocol.Protocol.{Protocol}
 use Rattle.turn_client_proto_step_laws.specs.Peers.Permission.Granted.{granted_for}
+use Rattle.turn_client_proto_progress_laws.proofs.Asking.Addresses.{one_address}
 use Rattle.turn_client_proto_progress_laws.proofs.TcpBinding.Tools.{where_false, where_true}
 use Rattle.turn_client_proto_progress_laws.specs.Holders.{Holder}
 use Rattle.turn_client_proto_progress_laws.specs.TcpBinding.{HasLearned, HasSentConnect, HasSentPermission, IsReady, allocation_with, connect_request, connecting_to, permission_request, permitting}
@@ -65,6 +66,9 @@ module _ (h : Holder) (ip : IpAddr) (number : ℕ) where
   permission_by : pending_request number (permitting h ip number ∷ []) ≡ Some (NewPermission Tcp ip)
   permission_by = rw permission_of (rw permission_of refl)
 
+  addresses_by : addresses_for number (permitting h ip number ∷ []) ≡ ip ∷ []
+  addresses_by = one_address number ip (number ∷ []) (permitting h ip number) (ap is_some permission_of) (rw (number_same number) refl)
+
   permitted_so : (now : ℕ) → all_permitted ip number now (permitting h ip number ∷ []) ≡ allocation_with h (granted_for ip now ∷ []) [] [] [] [] ∷ []
   permitted_so now = rw permission_of (rw (number_same number) refl)
 
@@ -79,8 +83,11 @@ module _ (h : Holder) (ip : IpAddr) (number made last : ℕ) (events : List Turn
       (IsGrantedFor (pending_request (number_at bytes) p.allocations) (accepted bytes (judged k.client p)) (number_at bytes) now handled q) (is_error_class (class_of (kind_at bytes))) (ap is_error_class is.success) r in
       let what : pending_request (number_at bytes) p.allocations ≡ Some (NewPermission Tcp ip) =
       ap (λ (n : ℕ). pending_request n p.allocations) is.number_is ∙ (ap (pending_request number) w.allocations ∙ permission_by h ip number) in
-      let t : IsHandled (granted Tcp ip (number_at bytes) now (accepted bytes (judged k.client p))) handled q =
-      subst (λ (o : Option Wanted). IsGrantedFor o (accepted bytes (judged k.client p)) (number_at bytes) now handled q) what g in
+      let addresses : addresses_for (number_at bytes) p.allocations ≡ ip ∷ [] =
+      ap (λ (n : ℕ). addresses_for n p.allocations) is.number_is ∙ (ap (addresses_for number) w.allocations ∙ addresses_by h ip number) in
+      let t : IsHandled (granted Tcp (ip ∷ []) (number_at bytes) now (accepted bytes (judged k.client p))) handled q =
+      subst (λ (l : List IpAddr). IsHandled (granted Tcp l (number_at bytes) now (accepted bytes (judged k.client p))) handled q) addresses
+      (subst (λ (o : Option Wanted). IsGrantedFor o (accepted bytes (judged k.client p)) (number_at bytes) now handled q) what g) in
       let all : all_permitted ip (number_at bytes) now p.allocations ≡ allocation_with h (granted_for ip now ∷ []) [] [] [] [] ∷ [] =
       ap (λ (n : ℕ). all_permitted ip n now p.allocations) is.number_is ∙ (ap (all_permitted ip number now) w.allocations ∙ permitted_so h ip number now) in
       let after = after_success h (permission_request h ip number made) [] (permitting h ip number) [] last events p w create_permission_method bytes is
@@ -89,7 +96,7 @@ module _ (h : Holder) (ip : IpAddr) (number made last : ℕ) (events : List Turn
       let agent = agent_after h (permission_request h ip number made) [] (permitting h ip number) [] last events p w create_permission_method bytes is in (
         t.0,
         subst (λ (x : Protocol). IsReady h ip now last (events ++ PermissionCreated Tcp ip ∷ []) x) (sym (t.1
-            ∙ ap (λ (y : agents.Agent). granted Tcp ip (number_at bytes) now (record p { auth = k.client; agent = y; resends = 0 })) agent)) after,
+            ∙ ap (λ (y : agents.Agent). granted Tcp (ip ∷ []) (number_at bytes) now (record p { auth = k.client; agent = y; resends = 0 })) agent)) after,
       )
 
 -- ---- a connection

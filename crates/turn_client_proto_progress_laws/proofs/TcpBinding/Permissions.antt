@@ -62,11 +62,11 @@ module _ (h : Holder) (last : ℕ) (events : List TurnEvent) (p : Protocol) (w :
 
   -- The result, by whether there is a reason.
   module _ (answer : Result (Unit {0}) CreatePermissionError) (q : Protocol) (is : IsPermissionAnswered p Tcp ip now answer q) where
-    pub permission_taken : permission_refusal p Tcp ip now ≡ None → MatchResult answer (λ _. IsPermissionRequested p Tcp ip now q) (λ error. error ≡ NoMemory)
+    pub permission_taken : permission_refusal p Tcp ip now ≡ None → MatchResult answer (λ _. IsPermissionRequested p Tcp ip [] now q) (λ error. error ≡ NoMemory)
     permission_taken none =
-        by answer (subst (λ (o : Option CreatePermissionError). IfNone o (MatchResult answer (λ _. IsPermissionRequested p Tcp ip now q) (λ error. (error ≡ NoMemory) × (q ≡ after_number p)))) none is.requested)
+        by answer (subst (λ (o : Option CreatePermissionError). IfNone o (MatchResult answer (λ _. IsPermissionRequested p Tcp ip [] now q) (λ error. (error ≡ NoMemory) × (q ≡ after_number p)))) none is.requested)
       where
-        by : (x : Result (Unit {0}) CreatePermissionError) → MatchResult x (λ _. IsPermissionRequested p Tcp ip now q) (λ error. (error ≡ NoMemory) × (q ≡ after_number p)) → MatchResult x (λ _. IsPermissionRequested p Tcp ip now q) (λ error. error ≡ NoMemory)
+        by : (x : Result (Unit {0}) CreatePermissionError) → MatchResult x (λ _. IsPermissionRequested p Tcp ip [] now q) (λ error. (error ≡ NoMemory) × (q ≡ after_number p)) → MatchResult x (λ _. IsPermissionRequested p Tcp ip [] now q) (λ error. error ≡ NoMemory)
         by (Ok u) a = a
         by (Err e) a = a.0
 
@@ -78,13 +78,13 @@ module _ (h : Holder) (last : ℕ) (events : List TurnEvent) (p : Protocol) (w :
         by (Some error) a = absurd (Prim.cc (sym ok ∙ a.0))
 
   -- The permission was requested.
-  pub permission_requested : AreNumbered → (q : Protocol) → permission_refusal p Tcp ip now ≡ None → (k : IsPermissionRequested p Tcp ip now q) → HasRequestedPermission h ip k.number now last events q
+  pub permission_requested : AreNumbered → (q : Protocol) → permission_refusal p Tcp ip now ≡ None → (k : IsPermissionRequested p Tcp ip [] now q) → HasRequestedPermission h ip k.number now last events q
   unfolding after_asking requested
   permission_requested numbered q none k =
       let same = (permission_unbarred none).0 in
-      let changed : change_first (is_of Tcp (family_of_ip ip)) (asking (record { ip = ip; numbers = k.number ∷ [] })) p.allocations ≡ permitting h ip k.number ∷ [] =
-      ap (change_first (is_of Tcp (family_of_ip ip)) (asking (record { ip = ip; numbers = k.number ∷ [] }))) w.allocations
+      let changed : change_first (is_of Tcp (family_of_ip ip)) (asking (record { ip = ip; others = []; numbers = k.number ∷ [] })) p.allocations ≡ permitting h ip k.number ∷ [] =
+      ap (change_first (is_of Tcp (family_of_ip ip)) (asking (record { ip = ip; others = []; numbers = k.number ∷ [] }))) w.allocations
       ∙ ap (λ (b : Bool). if b then permitting h ip k.number ∷ [] else held ∷ []) (equal_families (family_of_socket h.address) (family_of_ip ip) (sym same)) in
       subst (λ (x : Protocol). HasRequestedPermission h ip k.number now last events x) (sym k.after)
-      (has_requested h None [] held [] last events p w (CreatePermission ip) k.number now (number_fits p k.number k.is_next) k.lawful numbered
+      (has_requested h None [] held [] last events p w (CreatePermission (ip ∷ [])) k.number now (number_fits p k.number k.is_next) k.lawful numbered
       (permitting h ip k.number) _ changed p.agent.here h.started.here w.settings.here (after_draw p.rng))

@@ -65,7 +65,7 @@ module _ (old : Protocol) (now : ℕ) where
   renewal_definite : (ip : IpAddr) → IsDefinite (λ (sent : Sent) (new : Protocol). IsRenewalSent old ip now sent new)
   renewal_definite ip = record {
     same = λ sent more one other a b.
-        made_same (CreatePermission ip) (λ n. after_sending now (first_permitted ip n now old)) a.number b.number sent more one other a.made b.made a.after b.after;
+        made_same (CreatePermission (ip ∷ [])) (λ n. after_sending now (first_permitted ip n now old)) a.number b.number sent more one other a.made b.made a.after b.after;
   }
 
   channel_definite : (channel : ℕ) (peer : SocketAddr) → IsDefinite (λ (sent : Sent) (new : Protocol). IsChannelRenewalSent old channel peer now sent new)

@@ -5,7 +5,7 @@ pub returns-clause-allocate : goal.returns-clause-allocate
 returns-clause-allocate c = λ r many now old new ret numbers ends phase in_it. allocate_ends r many now old ret new ends numbers in_it phase
 
 pub returns-clause-permission : goal.returns-clause-permission
-returns-clause-permission c = λ r many now old new ret a p ends at held lasts pending in_it. permission_ends r many now old ret new ends at a held lasts p pending in_it
+returns-clause-permission c = λ r many now old new ret a p ip ends at held lasts pending in_it named. permission_ends r many now old ret new ends at a held lasts p ip pending in_it named
 
 pub returns-clause-channel : goal.returns-clause-channel
 returns-clause-channel c = λ r many now old new ret a p ends at held lasts pending in_it. channel_ends r many now old ret new ends at a held lasts p pending in_it

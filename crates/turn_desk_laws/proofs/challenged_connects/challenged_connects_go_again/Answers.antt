@@ -7,6 +7,7 @@ use Rattle.turn_client_proto_messages.specs.Allocation.Awaited.{has_number, rene
 use Rattle.turn_client_proto_messages.specs.Allocation.PendingRequests.{all_reissued_under, pending_request, requested_of}
 use Rattle.turn_client_proto_messages.specs.Allocation.declared.pending.PendingRequest.TheVariants.{NewConnection}
 use Rattle.turn_client_proto_messages.specs.Allocation.declared.permission.Permission.{Permission}
+use Rattle.turn_client_proto_messages.specs.declared.request.TurnRequest.TheVariants.{Connect}
 use Rattle.turn_client_proto_progress_laws.specs.Holders.{Holder}
 use Rattle.turn_client_proto_progress_laws.specs.Resting.{AreUnrenewed}
 use Rattle.turn_client_proto_progress_laws.specs.TcpBinding.{connect_request, connecting_to}
@@ -33,7 +34,7 @@ pub returns : goal.returns
 returns c = λ h permissions peer id made last events old new bytes now handled reported some settled is fewer challenge can processed.
     let a = challenge_processed h (connect_request h peer id made) (connecting_to h permissions peer id) last events old is fewer connect_method reported bytes challenge
     c.proof_requests_are_read.ensures.number c.proof_texts_stay_short.ensures.stay c.texts_stay_read.ensures.stay
-    (NewConnection peer) (connection_by h permissions settled peer id) (λ next. connecting_to h permissions peer next) (reissued h permissions settled peer id) now new handled some can processed in
+    (NewConnection peer) (Connect peer) refl (connection_by h permissions settled peer id) (λ next. connecting_to h permissions peer next) (reissued h permissions settled peer id) now new handled some can processed in
     record {
       choice = a.choice;
       can = a.answerable;

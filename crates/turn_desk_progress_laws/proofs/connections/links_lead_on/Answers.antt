@@ -116,7 +116,7 @@ module _ (c : goal.After-connections_are_listed) (plan : Plan) (old : World) (fr
   promise new Unpermitted s = s
   promise new (AskTransmitted request) s =
       let a = s.client.is in
-      signed new [] _ s (CreatePermission (socket_ip link.peer)) a.number link.requested plan.client.here request create_permission_method a.is.is.signs a.is.lawful refl a.fits refl refl a.is.request_is
+      signed new [] _ s (CreatePermission (socket_ip link.peer ∷ [])) a.number link.requested plan.client.here request create_permission_method a.is.is.signs a.is.lawful refl a.fits refl refl a.is.request_is
   promise new (Permitting request reply head) s = tt
   promise new Permitted s = tt
   promise new Called s = tt

@@ -125,7 +125,7 @@ module _ (c : goal.After-messages_reach_holders) (plan : Plan) (old w v : World)
     granted_it : (bytes reply : Vec ℕ Global) (decision : Decision) (seed : List ℕ) → bytes.items ≡ request.bytes → IsSuccess reply.items
         → IsStep (ToDesk bytes request.from link.granted decision seed) w (answer.Reply reply) v → IsAtStep plan old address lifetime link (Permitting request reply.items []) v
     granted_it bytes reply decision seed same success step =
-        let what = CreatePermission (socket_ip link.peer) in
+        let what = CreatePermission (socket_ip link.peer ∷ []) in
         let a = s.client.is in
         let can = a.is.is.signs in
         let signed = c.holders_can_ask.ensures.signs k what a.number can a.is.lawful refl a.fits in

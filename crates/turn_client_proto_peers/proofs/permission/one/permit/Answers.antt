@@ -6,4 +6,4 @@ use Rattle.turn_client_proto_peers.proofs.permission.one.permit.Goals as goal
 pub returns-clause-ok : goal.returns-clause-ok
 returns-clause-ok c =
     let pending : c.retain.new.self ≡ not_pending_request c.args.transaction_id c.args.a.now.pending_permissions = filter_same _ _ _ (λ x b f' k. search rules) _ _ c.retain.ensures in
-    rw (c.in_ok-push.ensures.ok, pending, c.permission_end.ensures, c.new.ensures) refl
+    rw (c.in_ok-push.ensures.ok, pending, c.granted_for.ensures) refl

@@ -1,0 +1,7 @@
+use Rattle.std.proofs.Common.{◌≡◌, ◌++◌, map, take}
+use Rattle.turn_client_proto_api.specs.declared.event.TurnEvent.TheVariants.{PermissionCreateFailed}
+use Rattle.turn_client_proto_core.proofs.reporting.report_failed.Given as goal
+
+-- The events of the addresses so far are queued.
+abbrev pub invariant-loop-ip : goal.invariant-loop-ip
+invariant-loop-ip l = l.events ≡ l.fn.events ++ map (PermissionCreateFailed l.transport) (take l.ip-index l.ips)
