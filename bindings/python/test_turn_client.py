@@ -16,6 +16,7 @@ import ctypes
 import gc
 import importlib
 import importlib.util
+import ipaddress
 import os
 import re
 import shutil
@@ -61,6 +62,7 @@ REFUSALS = {
     "TURN_EXPIRED_CHANNEL": turn_client.ExpiredChannelExists, "TURN_NO_SOCKET": turn_client.NoTcpSocket,
     "TURN_TOO_LARGE": turn_client.TooLarge, "TURN_NO_MEMORY": turn_client.NoMemory,
     "TURN_ZERO_SEED": turn_client.ZeroSeed, "TURN_BAD_LENGTH": turn_client.BadLength,
+    "TURN_BAD_ADDRESSES": turn_client.InvalidAddresses,
 }
 EVENTS = {
     "AllocationCreated": "TURN_ALLOCATION_CREATED", "AllocationCreateFailed": "TURN_ALLOCATION_FAILED",
@@ -87,6 +89,16 @@ def read(text: str) -> turn_client.Address:
 def shown(address: turn_client.Address) -> str:
     ip, port = address
     return f"[{ip}]:{port}" if ":" in ip else f"{ip}:{port}"
+
+
+def read_all(text: bytes) -> list[str]:
+    """The IP addresses of peers: of each its family, and its octets."""
+    peers = []
+    while text:
+        size = 17 if text[0] == 6 else 5
+        peers.append(str(ipaddress.ip_address(text[1:size])))
+        text = text[size:]
+    return peers
 
 
 def transport_of(text: str) -> turn_client.Transport:
@@ -293,6 +305,11 @@ class Walker:
         self.client.create_permission(transport_of(step.given["transport"]), peer, step.now)
         return "TURN_OK", {}
 
+    def permit_several(self, step: Step) -> Any:
+        peers = read_all(step.given["bytes"])
+        self.client.create_permissions(transport_of(step.given["transport"]), peers, step.now)
+        return "TURN_OK", {}
+
     def bind(self, step: Step) -> Any:
         self.client.bind_channel(transport_of(step.given["transport"]), read(step.given["to"]), step.now)
         return "TURN_OK", {}
@@ -393,6 +410,9 @@ class Exchanges(unittest.TestCase):
 
     def test_over_tcp(self) -> None:
         self.assertLessEqual({"permit", "bind", "feed", "pull", "read"}, walk(self, samples.tcp))
+
+    def test_several_peers(self) -> None:
+        self.assertLessEqual({"permit_several", "feed", "permissions"}, walk(self, samples.several))
 
     def test_connections(self) -> None:
         self.assertLessEqual({"connect", "socket", "closed", "connections"}, walk(self, samples.connections))
@@ -580,6 +600,8 @@ class Refusals(unittest.TestCase):
         config = turn_client.TurnConfig("alice", "secret")
         calls: list[Callable[[], object]] = [
             lambda: client.create_permission(udp, "example.org", now),
+            lambda: client.create_permissions(udp, ["198.51.100.1", "example.org"], now),
+            lambda: client.create_permissions(udp, "198.51.100.1", now),
             lambda: client.bind_channel(udp, ("198.51.100.1", 0x10000), now),
             lambda: client.bind_channel(udp, ("198.51.100.1", -1), now),
             lambda: client.create_permission(udp, "198.51.100.1", -1),
@@ -802,7 +824,7 @@ class Structs(unittest.TestCase):
     def test_numbers(self) -> None:
         want = {
             "TURN_NAME_MAX": turn_client.NAME_MAX, "TURN_SOFTWARE_MAX": turn_client.SOFTWARE_MAX,
-            "TURN_PAYLOAD_MAX": turn_client.PAYLOAD_MAX,
+            "TURN_PAYLOAD_MAX": turn_client.PAYLOAD_MAX, "TURN_PERMIT_MAX": turn_client.PERMIT_MAX,
             "TURN_MOMENT_MAX": turn_client.MOMENT_MAX, "TURN_MESSAGE_MAX": turn_client._MESSAGE_MAX,
             "TURN_SEND_EXTRA": turn_client._SEND_EXTRA, "TURN_CLIENT_VERSION_NUMBER": turn_client.library_version(),
             "TURN_NOTHING": turn_client._NOTHING, "TURN_IGNORED": turn_client._IGNORED,

@@ -29,7 +29,7 @@ import sys
 import threading
 import warnings
 import weakref
-from collections.abc import Callable, Sequence
+from collections.abc import Callable, Iterable, Sequence
 from dataclasses import dataclass, field
 from pathlib import Path
 from types import TracebackType
@@ -43,6 +43,7 @@ Buffer = Union[bytes, bytearray, memoryview]
 NAME_MAX = 513            # bytes of a user's name
 SOFTWARE_MAX = 763        # bytes of the text of SOFTWARE
 PAYLOAD_MAX = 65504       # bytes of a payload over UDP between server and peers
+PERMIT_MAX = 32           # addresses of create_permissions
 MOMENT_MAX = 1 << 62      # nanoseconds
 _MESSAGE_MAX = 65555      # bytes of any message
 _SEND_EXTRA = 64          # bytes beside the payload in the buffer of a send
@@ -175,6 +176,12 @@ class BadLength(TurnError):
     """A length that nothing has. This module hands in none."""
 
     status = -18
+
+
+class InvalidAddresses(TurnError):
+    """There is no address, or more than PERMIT_MAX, or they are of two families."""
+
+    status = -19
 
 
 _REFUSALS = {kind.status: kind for kind in TurnError.__subclasses__()}
@@ -639,6 +646,7 @@ _CALLS: dict[str, tuple[Any, Sequence[Any]]] = {
     "mapped": (_STATUS, (_AT,)),
     "reservation": (_STATUS, (ctypes.POINTER(ctypes.c_uint64),)),
     "permit": (_STATUS, (_NUMBER, _AT, _MOMENT)),
+    "permit_several": (_STATUS, (_NUMBER, _AT, _SIZE, _MOMENT)),
     "bind": (_STATUS, (_NUMBER, _AT, _MOMENT, ctypes.POINTER(_MOMENT))),
     "connect": (_STATUS, (_AT, _MOMENT)),
     "socket": (_STATUS, (_NUMBER, _AT, _AT, _MOMENT)),
@@ -1010,6 +1018,14 @@ class TurnClient:
     def create_permission(self, transport: Transport, peer: str, now: int) -> None:
         """Asks for a permission for an IP address; it is renewed. NoAllocation, AlreadyExists, NoMemory."""
         self._status("permit", _word(transport), _to_c((peer, 0)), _moment(now))
+
+    def create_permissions(self, transport: Transport, peers: Iterable[str], now: int) -> None:
+        """Asks for permissions for several IP addresses by one request, which names each of them once: the server
+        grants all or none. Each gets an event of its own, in their order, and is renewed by itself. There are at most
+        PERMIT_MAX, of one family. InvalidAddresses, NoAllocation, AlreadyExists, NoMemory."""
+        all_of_them = [_to_c((peer, 0)) for peer in peers]
+        addresses = (_Address * len(all_of_them))(*all_of_them)
+        self._status("permit_several", _word(transport), addresses, len(addresses), _moment(now))
 
     def bind_channel(self, transport: Transport, peer: Address, now: int) -> None:
         """Asks for a channel, and for the permission where none stands; both are renewed. NoAllocation, AlreadyExists,

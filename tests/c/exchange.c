@@ -93,12 +93,34 @@ static void refuse_transport(struct walker *w, const struct step *step)
     static const uint32_t unknown[] = {0, 5, 18, 256 + 17};
     struct step changed = *step;
     bool is_getter = step->call == CALL_PERMISSIONS || step->call == CALL_IS_PERMITTED;
-    if (!is_getter && step->call != CALL_SEND && step->call != CALL_PERMIT && step->call != CALL_BIND)
+    if (!is_getter && step->call != CALL_SEND && step->call != CALL_PERMIT && step->call != CALL_PERMIT_SEVERAL
+        && step->call != CALL_BIND)
         return;
     for (size_t i = 0; i < sizeof unknown / sizeof *unknown; i++) {
         changed.transport = unknown[i];
         is_refused(w, &changed, is_getter ? 0 : TURN_BAD_SETTING, "a transport that there isn't");
     }
+}
+
+/* Peers of which one has no family that there is, and as many as are too many, or none. */
+static void refuse_peers(struct walker *w, const struct step *step)
+{
+    static uint8_t peers[5 * PEERS_MAX];
+    struct step changed = *step;
+    if (step->call != CALL_PERMIT_SEVERAL)
+        return;
+    for (size_t i = 0; i < PEERS_MAX; i++) {
+        peers[5 * i] = 4;
+        peers[5 * i + 4] = (uint8_t)i;
+    }
+    changed.bytes = (struct bytes){peers, sizeof peers};
+    is_refused(w, &changed, TURN_BAD_ADDRESSES, "too many peers");
+    peers[5 * (PEERS_MAX - 2)] = 7;
+    is_refused(w, &changed, TURN_BAD_ADDRESSES, "too many peers, and a family that there isn't");
+    changed.bytes.len = sizeof peers - 5;
+    is_refused(w, &changed, TURN_BAD_FAMILY, "a family that there isn't, of the last of as many as may be");
+    changed.bytes.len = 0;
+    is_refused(w, &changed, TURN_BAD_ADDRESSES, "no peer");
 }
 
 /* The least room that a call wants which writes bytes and is to be done; 0 of others. */
@@ -170,7 +192,7 @@ static void refuse_opening(struct walker *w, const struct step *step)
 
 static void refuse_all(struct walker *w, const char *when)
 {
-    static const uint8_t some[1];
+    static const uint8_t some[1] = {4}; /* and a family, for permit_several */
     struct step step = {.transport = TURN_UDP, .bytes = {some, sizeof some}};
     const turn_client before = w->client;
     step.from = w->exchange->settings.server;
@@ -199,6 +221,7 @@ static void walk_step(struct walker *w, const struct step *step)
     refuse_text(w, step);
     refuse_families(w, step);
     refuse_transport(w, step);
+    refuse_peers(w, step);
     refuse_room(w, step);
     forget(w);
     int32_t answer = step_call(w, step);
@@ -451,6 +474,26 @@ static void list_by_null(turn_client *client, const turn_settings *s)
               && turn_client_permissions(client, TURN_UDP, &s->local, NULL, 0) == 0, "lists without room, by null");
 }
 
+/* How many peers there are is looked at before them, and so is a transport. */
+static void permit_counts(turn_client *client, const turn_settings *s, bool is_open)
+{
+    const turn_address *peer = &s->server;
+    const int32_t none = is_open ? TURN_BAD_ADDRESSES : TURN_NO_CLIENT;
+    for (size_t i = 0; i < sizeof bad_lengths / sizeof *bad_lengths; i++) {
+        const size_t len = bad_lengths[i];
+        check_answer(turn_client_permit_several(client, TURN_UDP, peer, len, 0), TURN_BAD_ADDRESSES, "permit_several",
+                     "as many peers as nothing has");
+        check_answer(turn_client_permit_several(client, 0, peer, len, 0), TURN_BAD_SETTING, "permit_several",
+                     "the transport comes first");
+    }
+    check_answer(turn_client_permit_several(client, TURN_UDP, peer, TURN_PERMIT_MAX + 1, 0), TURN_BAD_ADDRESSES,
+                 "permit_several", "33 peers");
+    check_answer(turn_client_permit_several(client, TURN_UDP, NULL, 0, 0), none, "permit_several",
+                 "no peers, by a null pointer");
+    check_answer(turn_client_permit_several(client, TURN_UDP, peer, 1, 0),
+                 is_open ? TURN_NO_ALLOCATION : TURN_NO_CLIENT, "permit_several", "one peer");
+}
+
 /* ---- how the client introduces itself */
 
 /* Other credentials: each refusal, in the order in which they are checked, and what is short enough. */
@@ -509,6 +552,7 @@ static void lengths(void)
         feed_lengths(&client, good, is_open);
         send_lengths(&client, good, is_open);
         list_by_null(&client, good);
+        permit_counts(&client, good, is_open);
         set_credentials(&client, is_open);
         set_software(&client, is_open);
         if (!is_open)

@@ -33,6 +33,8 @@ static const char *wrong_behind_failure(uint64_t now)
         return "a client that has failed holds an address";
     if (turn_client_draw(&walker.client, now, walker.out, TURN_MESSAGE_MAX, &walker.transmit) != TURN_NOTHING)
         return "a client that has failed sends";
+    while (turn_client_event(&walker.client, &walker.event) == TURN_OK) {
+    }
     if (turn_client_poll(&walker.client, now, &walker.wait) != TURN_CLOSED)
         return "a client that has failed goes on";
     return NULL;

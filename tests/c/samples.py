@@ -13,12 +13,12 @@ import sys
 sys.dont_write_bytecode = True
 
 from samples_base import (  # noqa: E402
-    A, B, BEHIND_PEER, BY_SHA1, CHANNEL_BIND, CONNECT, CONNECTION_ATTEMPT, CONNECTION_BIND, CREATE_PERMISSION,
-    ELSEWHERE, ERROR, Exchange, FIRST, HERE, LONGEST, MS, NAME, NOBODY, ONE, OTHER, OWN, REFRESH, RELAYED, REPORT,
-    SECOND, SECOND_SOCKET, SECRET, SEED, SERVER, SIX, STRANGER, SUCCESS, TCP, TEXTS, TWO, UDP, allocate,
-    asks_socket, attempt, attempted, bind, c_fields, challenge, closes_socket, code, connect, data, fingerprinted,
-    first, frame, grant, host, identified, indication, join, lifetime, message, named, number, opens_socket, padded,
-    permit, refresh, success,
+    A, ADDITIONAL_FAMILY, B, BEHIND_PEER, BY_SHA1, CHANNEL_BIND, CONNECT, CONNECTION_ATTEMPT, CONNECTION_BIND,
+    CREATE_PERMISSION, ELSEWHERE, ERROR, Exchange, FIRST, HERE, LONGEST, MS, NAME, NOBODY, ONE, OTHER, OWN,
+    REFRESH, RELAYED, RELAYED_6, REPORT, SECOND, SECOND_SOCKET, SECRET, SEED, SERVER, SIX, STRANGER, SUCCESS, TCP,
+    TEXTS, TWO, UDP, V6, allocate, asks_socket, attempt, attempted, bind, c_fields, challenge, closes_socket, code,
+    connect, data, fingerprinted, first, frame, grant, host, identified, indication, join, lifetime, message, named,
+    number, opens_socket, padded, permit, permit_several, refresh, rejection, success,
 )
 from samples_settings import (  # noqa: E402
     announced, announced_over_udp, another_password, asked_otherwise, binds, both, even, expired,
@@ -185,6 +185,126 @@ def udp():
     t.is_permitted(ONE, 0)
     t.permits()
     t.holds_channels()
+    t.does("close")
+    return t
+
+
+# ---- permissions of several peers
+
+SIX_2 = "[2001:db8::8]:9000"
+MOST_PEERS = 32
+MANY = [f"10.0.0.{k}:9000" for k in range(MOST_PEERS + 1)]
+
+
+def several_allocations(t):
+    t.begins()
+    t.reaches_several((ONE, TWO), "TURN_NO_ALLOCATION")
+    t.reaches_several((), "TURN_BAD_ADDRESSES", name="no peer")
+    t.reaches_several((ONE, SIX), "TURN_BAD_ADDRESSES", name="two families")
+    t.reaches_several(MANY, "TURN_BAD_ADDRESSES", name="33 peers")
+    more = ADDITIONAL_FAMILY, V6
+    t.draws(first(UDP, more))
+    t.feeds(challenge())
+    t.at(50)
+    t.draws(allocate(UDP, more))
+    t.at(60)
+    t.feeds(grant(RELAYED, RELAYED_6))
+    t.tells("TURN_ALLOCATION_CREATED", RELAYED)
+    t.tells("TURN_ALLOCATION_CREATED", RELAYED_6)
+    t.tells_no_more()
+
+
+def several_granted(t):
+    t.part("one request, and each address once")
+    t.reaches_several((ONE, TWO), "TURN_NO_ALLOCATION", "tcp")
+    t.reaches_several((SIX, SIX_2, TWO), "TURN_BAD_ADDRESSES", name="the last is of another family")
+    t.reaches_several((ONE, TWO, ONE, host(TWO)))
+    t.reaches_several((STRANGER, TWO), "TURN_ALREADY_EXISTS", name="one was asked for")
+    t.reaches("permit", TWO, "TURN_ALREADY_EXISTS")
+    t.at(100)
+    t.draws(permit_several(2, ONE, TWO))
+    t.draws_nothing()
+    t.permits()
+    t.at(120)
+    t.feeds(success(CREATE_PERMISSION, 2))
+    t.tells("TURN_PERMISSION_CREATED", host(ONE))
+    t.tells("TURN_PERMISSION_CREATED", host(TWO))
+    t.tells_no_more()
+    t.permits(ONE, TWO)
+    t.reaches_several((STRANGER, ONE), "TURN_ALREADY_EXISTS", name="one stands")
+    t.is_permitted(STRANGER, 0)
+    t.gives(data(TWO, b"hello"), TWO, b"hello", BEHIND_PEER)
+
+
+def several_rejected(t):
+    t.part("challenged, made again, and rejected")
+    t.at(150)
+    t.reaches_several((SIX, SIX_2))
+    t.draws(permit_several(3, SIX, SIX_2))
+    t.feeds(challenge(3, CREATE_PERMISSION, code(438, b"Stale Nonce"), OTHER))
+    t.tells_no_more()
+    t.at(200)
+    t.draws(permit_several(4, SIX, SIX_2, told=named(OTHER)))
+    t.feeds(rejection(CREATE_PERMISSION, 4, 403, b"Forbidden"))
+    for peer in (SIX, SIX_2):
+        t.tells("TURN_PERMISSION_FAILED", host(peer))
+        t.because("TURN_REJECTED", 403, True, b"Forbidden")
+    t.tells_no_more()
+    t.holds("permissions", transport="udp", to=RELAYED_6)
+    t.reaches_several((SIX,), name="one alone")
+    t.at(250)
+    t.draws(permit(5, SIX, named(OTHER)))
+    t.feeds(success(CREATE_PERMISSION, 5))
+    t.tells("TURN_PERMISSION_CREATED", host(SIX))
+    t.tells_no_more()
+
+
+def several_unanswered(t):
+    t.part("32 peers, and no answer")
+    t.at(300)
+    t.reaches_several(MANY[:-1])
+    t.draws(permit_several(6, *MANY[:-1], told=named(OTHER)))
+    t.at(800)
+    t.draws(permit_several(6, *MANY[:-1], told=named(OTHER)), name="the same request again")
+    t.waits(1800 * MS)
+    t.at(1799)
+    t.tells_no_more()
+    t.reaches("permit", MANY[-2], "TURN_ALREADY_EXISTS")
+    t.at(1800)
+    t.waits(1800 * MS)
+    for peer in MANY[:-1]:
+        t.tells("TURN_PERMISSION_FAILED", host(peer))
+    t.because("TURN_UNANSWERED")
+    t.tells_no_more()
+    t.permits(ONE, TWO)
+
+
+def several_renewed(t):
+    t.part("each is renewed by itself")
+    due = 240 * SECOND + 120 * MS
+    t.at(2000)
+    t.waits(due)
+    t.now = due - 1
+    t.draws_nothing()
+    for k, (peer, later) in enumerate(((ONE, 0), (TWO, 50), (SIX, 130)), 7):
+        t.now = due + later * MS
+        t.draws(permit(k, peer, named(OTHER)))
+        t.feeds(success(CREATE_PERMISSION, k))
+        t.tells_no_more()
+    t.permits(ONE, TWO)
+
+
+def several():
+    t = Exchange("permissions of several peers", families=3, sends=2, first_wait=500, most_wait=500, last_wait=1000)
+    several_allocations(t)
+    several_granted(t)
+    several_rejected(t)
+    several_unanswered(t)
+    several_renewed(t)
+    t.part("the end")
+    t.at(241_000)
+    t.deleted(10, named(OTHER))
+    t.reaches_several((ONE, TWO), "TURN_NO_ALLOCATION")
     t.does("close")
     return t
 
@@ -473,7 +593,7 @@ EXCHANGES = (
     redirected,
     redirected_unsigned, another_password, replaced, replaced_by_stale_nonce, replaced_at_first, introduced,
     introduced_to_peers, expired, expired_untold, expired_behind_deletion, asked_otherwise, reserved, even,
-    announced, not_announced, announced_over_udp,
+    announced, not_announced, announced_over_udp, several,
 )
 
 # ---- the file

@@ -115,6 +115,11 @@ def permit(k, peer, told=named(), by=BY_SHA1, user=OLD):
     return message(CREATE_PERMISSION, number(k), [to(host(peer), number(k)), *told], by, user)
 
 
+def permit_several(k, *peers, told=named()):
+    """One request, with an XOR-PEER-ADDRESS for each (RFC 8656, section 10.1)."""
+    return message(CREATE_PERMISSION, number(k), [*(to(host(it), number(k)) for it in peers), *told], BY_SHA1)
+
+
 def bind(k, channel, peer, told=named()):
     asked = [(CHANNEL, struct.pack(">HH", channel, 0)), to(peer, number(k))]
     return message(CHANNEL_BIND, number(k), [*asked, *told], BY_SHA1)
@@ -210,6 +215,16 @@ def padded(channel, value):
 UNION = {"udp": "TURN_UDP", "tcp": "TURN_TCP", "none": "0"}
 
 
+def peers_as_text(peers):
+    """Peers as the bytes of a step: of each its family, and its octets."""
+    text = b""
+    for peer in peers:
+        ip = peer.rsplit(":", 1)[0]
+        kind, family = (socket.AF_INET6, 6) if ip[0] == "[" else (socket.AF_INET, 4)
+        text += bytes((family,)) + socket.inet_pton(kind, ip.strip("[]"))
+    return text
+
+
 class Texts:
     """Bytes that are named once."""
 
@@ -291,6 +306,10 @@ class Exchange:
     def reaches(self, call, peer, answer="TURN_OK", transport=None, name=None, **given):
         """A call that speaks of a peer, over the allocation's transport unless another is said."""
         self.does(call, answer, name, transport=transport or self.peers, to=peer, **given)
+
+    def reaches_several(self, peers, answer="TURN_OK", transport=None, name=None):
+        """One call for permissions of several peers."""
+        self.does("permit_several", answer, name, transport=transport or self.peers, bytes=peers_as_text(peers))
 
     def waits(self, until, name=None, repeats=0):
         self.step("poll", {}, {"until": until}, name=name, repeats=repeats)

@@ -10,7 +10,8 @@
 const char *const call_names[CALLS] = {
     [CALL_OPEN] = "open", [CALL_CLOSE] = "close", [CALL_DELETE] = "delete", [CALL_FEED] = "feed", [CALL_PULL] = "pull",
     [CALL_READ] = "read", [CALL_DRAW] = "draw", [CALL_SEND] = "send", [CALL_POLL] = "poll", [CALL_EVENT] = "event",
-    [CALL_EXPIRED] = "expired", [CALL_PERMIT] = "permit", [CALL_BIND] = "bind", [CALL_CONNECT] = "connect",
+    [CALL_EXPIRED] = "expired", [CALL_PERMIT] = "permit", [CALL_PERMIT_SEVERAL] = "permit_several",
+    [CALL_BIND] = "bind", [CALL_CONNECT] = "connect",
     [CALL_SOCKET] = "socket", [CALL_CLOSED] = "closed", [CALL_CREDENTIALS] = "credentials",
     [CALL_SOFTWARE] = "software", [CALL_FINGERPRINT] = "fingerprint", [CALL_CAUSE] = "cause", [CALL_REASON] = "reason",
     [CALL_DOMAIN] = "domain", [CALL_MAPPED] = "mapped", [CALL_RESERVATION] = "reservation",
@@ -44,6 +45,28 @@ static int32_t step_introduce(turn_client *c, const struct step *s)
     default:
         return turn_client_fingerprint(c, s->number != 0);
     }
+}
+
+size_t step_peers(const struct step *s, turn_address *peers)
+{
+    const uint8_t *at = s->bytes.at;
+    size_t left = s->bytes.len, count = 0;
+    while (left > 0 && count < PEERS_MAX) {
+        const size_t whole = 1 + (*at == 6 ? 16 : 4), size = whole < left ? whole : left;
+        turn_address *peer = &peers[count++];
+        *peer = (turn_address){.port = (uint16_t)count, .family = *at};
+        memcpy(peer->ip, at + 1, size - 1);
+        at += size;
+        left -= size;
+    }
+    return count;
+}
+
+static int32_t step_permit_several(turn_client *c, const struct step *s)
+{
+    turn_address peers[PEERS_MAX];
+    const size_t count = step_peers(s, peers);
+    return turn_client_permit_several(c, s->transport, peers, count, s->now);
 }
 
 /* The getters: how many there are. */
@@ -94,6 +117,8 @@ int32_t step_call(struct walker *w, const struct step *s)
         return turn_client_expired(c, &w->expired);
     case CALL_PERMIT:
         return turn_client_permit(c, s->transport, &s->to, s->now);
+    case CALL_PERMIT_SEVERAL:
+        return step_permit_several(c, s);
     case CALL_BIND:
         return turn_client_bind(c, s->transport, &s->to, s->now, &w->until);
     case CALL_CONNECT:

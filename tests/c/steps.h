@@ -11,9 +11,9 @@
 /* the functions of turn_client.h */
 enum call {
     CALL_OPEN, CALL_CLOSE, CALL_DELETE, CALL_FEED, CALL_PULL, CALL_READ, CALL_DRAW, CALL_SEND, CALL_POLL, CALL_EVENT,
-    CALL_EXPIRED, CALL_PERMIT, CALL_BIND, CALL_CONNECT, CALL_SOCKET, CALL_CLOSED, CALL_CREDENTIALS, CALL_SOFTWARE,
-    CALL_FINGERPRINT, CALL_CAUSE, CALL_REASON, CALL_DOMAIN, CALL_MAPPED, CALL_RESERVATION, CALL_RELAYED,
-    CALL_PERMISSIONS, CALL_IS_PERMITTED, CALL_CHANNELS, CALL_CONNECTIONS,
+    CALL_EXPIRED, CALL_PERMIT, CALL_PERMIT_SEVERAL, CALL_BIND, CALL_CONNECT, CALL_SOCKET, CALL_CLOSED,
+    CALL_CREDENTIALS, CALL_SOFTWARE, CALL_FINGERPRINT, CALL_CAUSE, CALL_REASON, CALL_DOMAIN, CALL_MAPPED,
+    CALL_RESERVATION, CALL_RELAYED, CALL_PERMISSIONS, CALL_IS_PERMITTED, CALL_CHANNELS, CALL_CONNECTIONS,
     CALLS
 };
 
@@ -53,7 +53,7 @@ struct step {
                                  whether it is to be there */
     turn_address from, to;    /* where one alone is given, `to`: the peer, or the relayed address; the own address of a
                                  socket is `from` */
-    struct bytes bytes;       /* of credentials the name */
+    struct bytes bytes;       /* of credentials the name; of permit_several of each peer its family and its octets */
     struct bytes password;
     size_t less;              /* by so many bytes the buffer is too small */
     unsigned repeats;         /* in c_calls.c: how often it is called, where that changes nothing; 0 is once */
@@ -77,7 +77,7 @@ struct exchange {
 
 /* Bytes that any buffer has room for that a step wants. */
 #define OUT_MAX (TURN_PAYLOAD_MAX + 1 + TURN_SEND_EXTRA)
-enum { HELD_MAX = 4 };
+enum { HELD_MAX = 4, PEERS_MAX = TURN_PERMIT_MAX + 1 };
 
 /* A client that walks an exchange, and what its last call wrote. */
 struct walker {
@@ -107,6 +107,9 @@ extern const struct bytes sample_user, sample_password;
 
 /* Opens a client under the seed of all exchanges. */
 int32_t open_with(turn_client *client, const turn_settings *settings, struct bytes user, struct bytes password);
+
+/* The peers of a step of permit_several, PEERS_MAX at most: how many there are. */
+size_t step_peers(const struct step *step, turn_address *peers);
 
 /* Makes the call of a step: its answer. */
 int32_t step_call(struct walker *walker, const struct step *step);

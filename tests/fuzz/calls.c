@@ -10,7 +10,7 @@ enum { NO_REFUSAL = 0, SHOWN_MAX = 64, REASON_MAX = 763, DOMAIN_MAX = 255 };
 
 /* ---- the statuses that each call may answer */
 
-#define BIT(status) (UINT32_C(1) << ((status) - TURN_BAD_LENGTH))
+#define BIT(status) (UINT32_C(1) << ((status) - TURN_BAD_ADDRESSES))
 #define ASKED (BIT(TURN_OK) | BIT(TURN_NO_ALLOCATION) | BIT(TURN_ALREADY_EXISTS) | BIT(TURN_BAD_FAMILY) \
                | BIT(TURN_NO_MEMORY) | BIT(TURN_NO_CLIENT))
 
@@ -32,6 +32,7 @@ static const uint32_t statuses[CALLS] = {
     [CALL_EVENT] = BIT(TURN_OK) | BIT(TURN_NOTHING) | BIT(TURN_NO_CLIENT),
     [CALL_EXPIRED] = BIT(TURN_OK) | BIT(TURN_NOTHING) | BIT(TURN_NO_CLIENT),
     [CALL_PERMIT] = ASKED | BIT(TURN_BAD_SETTING),
+    [CALL_PERMIT_SEVERAL] = ASKED | BIT(TURN_BAD_SETTING) | BIT(TURN_BAD_ADDRESSES),
     [CALL_BIND] = ASKED | BIT(TURN_BAD_SETTING) | BIT(TURN_EXPIRED_CHANNEL) | BIT(TURN_NO_CHANNEL),
     [CALL_CONNECT] = ASKED | BIT(TURN_NO_PERMISSION),
     [CALL_SOCKET] = ASKED,
@@ -74,7 +75,7 @@ static bool is_family(const turn_address *address)
 
 static bool names_transport(enum call call)
 {
-    return call == CALL_SEND || call == CALL_PERMIT || call == CALL_BIND;
+    return call == CALL_SEND || call == CALL_PERMIT || call == CALL_PERMIT_SEVERAL || call == CALL_BIND;
 }
 
 static bool names_two(enum call call)
@@ -84,7 +85,7 @@ static bool names_two(enum call call)
 
 static bool names_peer(enum call call)
 {
-    return names_transport(call) || call == CALL_CONNECT || call == CALL_SOCKET;
+    return (names_transport(call) && call != CALL_PERMIT_SEVERAL) || call == CALL_CONNECT || call == CALL_SOCKET;
 }
 
 static bool is_ascii(struct bytes text)
@@ -94,6 +95,22 @@ static bool is_ascii(struct bytes text)
             return false;
     }
     return true;
+}
+
+/* Of several peers: how many there are is looked at first, then each family, and what they have in common last. */
+static int32_t refusal_of_peers(const struct step *s, bool is_open)
+{
+    turn_address peers[PEERS_MAX];
+    const size_t count = step_peers(s, peers);
+    bool is_one_family = count > 0;
+    if (count > TURN_PERMIT_MAX)
+        return TURN_BAD_ADDRESSES;
+    for (size_t i = 0; i < count; i++) {
+        if (!is_family(&peers[i]))
+            return TURN_BAD_FAMILY;
+        is_one_family = is_one_family && peers[i].family == peers[0].family;
+    }
+    return is_open && !is_one_family ? TURN_BAD_ADDRESSES : NO_REFUSAL;
 }
 
 /* Whether the length of a text is no reason to refuse it. */
@@ -109,6 +126,8 @@ static int32_t refusal_of_arguments(const struct step *s)
         return s->call == CALL_CREDENTIALS ? TURN_LONG_NAME : TURN_TOO_LARGE;
     if (names_transport(s->call) && s->transport != TURN_UDP && s->transport != TURN_TCP)
         return TURN_BAD_SETTING;
+    if (s->call == CALL_PERMIT_SEVERAL)
+        return refusal_of_peers(s, false);
     if (names_two(s->call) && !(is_family(&s->from) && is_family(&s->to)))
         return TURN_BAD_FAMILY;
     if (names_peer(s->call) && !is_family(&s->to))
@@ -145,7 +164,7 @@ static int32_t refusal_of(const struct fuzzed *f, const struct step *s, size_t r
         return TURN_UNREAD;
     if ((s->call == CALL_READ || is_text(s->call)) && room_wanted(f, s) > room)
         return TURN_SMALL_BUFFER;
-    return NO_REFUSAL;
+    return s->call == CALL_PERMIT_SEVERAL ? refusal_of_peers(s, true) : NO_REFUSAL;
 }
 
 size_t room_wanted(const struct fuzzed *f, const struct step *s)
@@ -169,8 +188,14 @@ static int32_t call_asking(turn_client *c, const struct step *s, const turn_addr
 {
     int32_t answer;
     uint64_t *until;
+    turn_address peers[PEERS_MAX];
+    size_t count;
     switch (s->call) {
     case CALL_PERMIT: return turn_client_permit(c, s->transport, to, s->now);
+    case CALL_PERMIT_SEVERAL:
+        count = step_peers(s, peers);
+        room_copy(ROOM_BYTES, peers, count * sizeof *peers);
+        return turn_client_permit_several(c, s->transport, room_at(ROOM_BYTES), count, s->now);
     case CALL_CONNECT: return turn_client_connect(c, to, s->now);
     case CALL_SOCKET: return turn_client_socket(c, s->number, to, from, s->now);
     case CALL_CLOSED: return turn_client_closed(c, from, to, s->now);
@@ -461,7 +486,7 @@ static void check_unchanged(struct fuzzed *f, uint64_t before)
 /* Whether a refusal may take an allocation out of sight: one whose time is found to be over. */
 static bool finds_time_over(const struct step *s, int32_t answer)
 {
-    return answer == TURN_NO_ALLOCATION && (s->call == CALL_PERMIT || s->call == CALL_BIND || s->call == CALL_CONNECT);
+    return answer == TURN_NO_ALLOCATION && s->call >= CALL_PERMIT && s->call <= CALL_CONNECT;
 }
 
 /* Of a call that was refused: it changed nothing. */
@@ -503,8 +528,8 @@ static void check_text(const struct step *s, int32_t answer, int32_t refusal, bo
 static void check_reason(struct fuzzed *f, const struct step *s, int32_t answer, int32_t refusal, bool had_no_memory)
 {
     const bool is_of_arguments = answer == TURN_BAD_FAMILY || answer == TURN_BAD_SETTING || answer == TURN_UNREAD
-        || answer == TURN_SMALL_BUFFER || answer == TURN_NO_CLIENT;
-    check(answer >= TURN_BAD_LENGTH && answer <= TURN_CLOSE_SOCKET && (statuses[s->call] & BIT(answer)) != 0,
+        || answer == TURN_SMALL_BUFFER || answer == TURN_NO_CLIENT || answer == TURN_BAD_ADDRESSES;
+    check(answer >= TURN_BAD_ADDRESSES && answer <= TURN_CLOSE_SOCKET && (statuses[s->call] & BIT(answer)) != 0,
           "a status that the call hasn't");
     if (is_introducing(s->call) && s->call != CALL_FINGERPRINT)
         check_text(s, answer, refusal, had_no_memory);
@@ -521,11 +546,10 @@ static void check_reason(struct fuzzed *f, const struct step *s, int32_t answer,
 /* A client that has failed, and what it answers from then on. */
 static void check_behind_failure(const struct fuzzed *f, const struct step *s, int32_t answer)
 {
-    const bool asks = s->call == CALL_PERMIT || s->call == CALL_BIND || s->call == CALL_CONNECT
-        || s->call == CALL_DELETE;
+    const bool asks = (s->call >= CALL_PERMIT && s->call <= CALL_CONNECT) || s->call == CALL_DELETE;
     if (!f->has_failed || answer == TURN_BAD_FAMILY || answer == TURN_BAD_SETTING || answer == TURN_SMALL_BUFFER)
         return;
-    check(!asks || answer == TURN_NO_ALLOCATION, "a client that has failed asks for something");
+    check(!asks || answer == TURN_NO_ALLOCATION || answer == TURN_BAD_ADDRESSES, "a client that has failed asks");
     check(s->call != CALL_DRAW || answer == TURN_NOTHING, "a client that has failed sends something");
     check(s->call != CALL_POLL || answer == TURN_CLOSED, "a client that has failed goes on");
 }
@@ -627,7 +651,7 @@ int32_t open_checked(struct fuzzed *f, const turn_settings *settings, struct byt
     last_call = CALL_OPEN;
     const int32_t answer = last_answer = open_in_rooms(f, settings, user, password);
     const bool had_no_memory = memory_was_refused();
-    check(answer >= TURN_BAD_LENGTH && answer <= TURN_OK && (statuses[CALL_OPEN] & BIT(answer)) != 0,
+    check(answer >= TURN_BAD_ADDRESSES && answer <= TURN_OK && (statuses[CALL_OPEN] & BIT(answer)) != 0,
           "a status that open hasn't");
     check(!had_no_memory || answer == TURN_NO_MEMORY, "refused memory wasn't told");
     check(!is_good || answer == TURN_OK || f->is_open || had_no_memory, "good settings were refused");

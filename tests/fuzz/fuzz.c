@@ -335,7 +335,7 @@ static void call_any(enum call call)
         s.from = next() % 2 ? next_near(false) : next_address();
         s.number = next() % 16;
     }
-    if (call == CALL_SEND || call == CALL_CREDENTIALS || call == CALL_SOFTWARE)
+    if (call == CALL_SEND || call == CALL_CREDENTIALS || call == CALL_SOFTWARE || call == CALL_PERMIT_SEVERAL)
         s.bytes = next_bytes();
     if (call == CALL_CREDENTIALS)
         s.password = next() % 2 ? sample_password : s.bytes;

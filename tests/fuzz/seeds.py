@@ -9,9 +9,9 @@ import os
 import re
 import sys
 
-EXCHANGES = [*range(19), 129, 131]  # the first byte: the exchanges, and the two that bench/c_calls.c times
+EXCHANGES = [*range(19), 28, 129, 131]  # the first byte: exchanges, and the two that bench/c_calls.c times
 STEPS = range(0, 126, 5)
-WALK_SOME, FEED_ANY, OPERATIONS, FIRST_CALL, CALLS = 0, 5, 14, 32, 20
+WALK_SOME, FEED_ANY, OPERATIONS, FIRST_CALL, CALLS = 0, 5, 14, 32, 23
 GIVEN, REFUSED = (1, 2, 3, 5, 8), (4, 1, 0, 0, 0)  # arguments; the first of the second is no transport
 FROM_SERVER, OF_INPUT = 3, 3  # how feed_any takes addresses and bytes
 LONGEST = 200  # texts beyond are long payloads, which fuzz.c fills by itself

@@ -58,12 +58,14 @@ def end_of(text, at, brackets="{}"):
 
 @cache
 def tellers():
-    """What in an answer can tell that memory is refused."""
-    found = set(REFUSED)
+    """What in an answer can tell that memory is refused: also an enum with a variant that holds one of these."""
+    enums = {}
     for text in (*sources().values(), (CRATES / "line_io/src/status.rt").read_text(encoding="utf-8")):
         for enum in re.finditer(r"pub enum (\w+)[^{;]*\{", text):
-            if "NoMemory" in text[enum.end() : end_of(text, enum.end() - 1)]:
-                found.add(enum[1])
+            enums[enum[1]] = text[enum.end() : end_of(text, enum.end() - 1)]
+    found = {*REFUSED, *(name for name, body in enums.items() if "NoMemory" in body)}
+    holds = re.compile(r"\(\s*(" + "|".join(sorted(found)) + r")\s*\)")
+    found |= {name for name, body in enums.items() if holds.search(body)}
     return re.compile(r"\b(" + "|".join(sorted(found)) + r")\b")
 
 

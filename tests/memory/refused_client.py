@@ -101,6 +101,7 @@ def judge_asked(walk, peer):
     calls = (
         ("delete", (now,), turn.NoAllocation),
         ("create_permission", (by, peer[0], now), turn.NoAllocation),
+        ("create_permissions", (by, [peer[0]], now), turn.NoAllocation),
         ("bind_channel", (by, peer, now), turn.NoAllocation),
         ("tcp_connect", (peer, now), turn.NoAllocation),
         ("send_to", (by, peer, b"hello", now), turn.NoPermission),

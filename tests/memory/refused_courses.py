@@ -49,6 +49,12 @@ def permits(w, *peers):
     w.runs(0.1 * len(peers))
 
 
+def permits_together(w, *peers):
+    """One request for all of them."""
+    w.asks("create_permissions", w.course.peers, [pair(peer)[0] for peer in peers])
+    w.runs(0.2)
+
+
 def binds(w, *peers):
     for peer in peers:
         w.asks("bind_channel", w.course.peers, pair(peer))
@@ -148,6 +154,23 @@ def taken_late(w):
     w.answers(w.draws())
     w.asks("delete")
     w.runs(1)
+
+
+def several_at_once(w):
+    """One request for several permissions is granted, the next finds another nonce, one is refused by its last peer,
+    and one is never answered. Then each is renewed by itself."""
+    allocates(w)
+    permits_together(w, ONE, TWO)
+    w.server.nonce = OTHER
+    permits_together(w, *MANY[:4])
+    w.server.refused = {(CREATE_PERMISSION, host(MANY[9])): 403}
+    permits_together(w, *MANY[4:])
+    w.server.lost = ALL
+    permits_together(w, THREE, *MANY[4:7])
+    w.runs(60)
+    w.server.lost = 0
+    w.runs(250)
+    ends(w)
 
 
 # ---- what ends
@@ -300,6 +323,7 @@ COURSES = (
     Course("both families", of_both_families, families=3, integrity=7, server=featured),
     Course("events that are taken late", taken_late),
     Course("requests that are lost, and another nonce", lost_and_stale),
+    Course("permissions of several peers at once", several_at_once),
     Course("refused", refused),
     Course("no address", no_address, families=3),
     Course("never answered", never_answered, families=3),

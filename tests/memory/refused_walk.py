@@ -11,8 +11,8 @@ from refused_server import OWN, RELAYED, RELAYED_6, SERVER, shown
 
 # these may be made again where they were refused memory; after others the client has failed
 OF_THE_USER = (
-    "open", "create_permission", "bind_channel", "tcp_connect", "allocated_tcp_socket", "tcp_closed",
-    "delete", "send_to",
+    "open", "create_permission", "create_permissions", "bind_channel", "tcp_connect", "allocated_tcp_socket",
+    "tcp_closed", "delete", "send_to",
 )
 # these note why events happen. Without memory for that they answer as ever, and the cause is lost
 NOTING = "recv", "poll_recv", "poll"

@@ -13,6 +13,7 @@ from pathlib import Path
 # what is imported leaves no folder of compiled files behind
 sys.dont_write_bytecode = True
 
+from rows_client_permits import permits
 from rows_client_requests import requests
 from rows_proto_base import BINDING, DEFAULT, GREATEST, HERE, HOUR, LONGEST, THERE, Waits, message as bare
 from rows_wire_base import NUMBER, ROWS, SMALL, part, row, write
@@ -264,6 +265,11 @@ ERRORS = {
         "no-channel": "no channel number is free",
     },
     "permission": {
+        "already-exists": "The permission already exists and cannot be recreated.",
+        "no-allocation": f"{NO_SERVER} that can handle this permission",
+    },
+    "permissions": {
+        "invalid-addresses": "there is no address, there are too many, or they are of two families",
         "already-exists": "The permission already exists and cannot be recreated.",
         "no-allocation": f"{NO_SERVER} that can handle this permission",
     },
@@ -534,7 +540,7 @@ def debugs():
 def main():
     for made in (
         no_settings, lists, kinds, agents, errors, payloads, sends, debugs, bad_lines, hardened, limited, short_lived,
-        announced, asked_otherwise, requests,
+        announced, asked_otherwise, requests, permits,
     ):
         made()
     write(CRATE)

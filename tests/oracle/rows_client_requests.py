@@ -54,12 +54,25 @@ CHALLENGES = [
     Challenge("sha256", b"gAAA", ("sha1", "sha256")),
     Challenge("sha512", b"wAAA", ("sha512",)),
 ]
+MOST_PEERS = 32  # of one request
+
+
+def permission(*ips):
+    """A CREATE_PERMISSION with an XOR-PEER-ADDRESS for each address, with port 0 (RFC 8656, section 10.1)."""
+    peers = (f"[{it}]:0" if ":" in it else f"{it}:0" for it in ips)
+    return f"permission {' '.join(ips)}", (CREATE_PERMISSION, [(PEER, xored(it, ID)) for it in peers])
+
+
 SIGNED = {
     "allocate": (ALLOCATE, [UDP, lifetime(1800)]),
     "refresh 600": (REFRESH, [lifetime(600)]),
     "refresh 0": (REFRESH, [lifetime(0)]),
-    "permission 10.0.0.3": (CREATE_PERMISSION, [(PEER, xored("10.0.0.3:0", ID))]),
-    "permission ::1": (CREATE_PERMISSION, [(PEER, xored("[::1]:0", ID))]),
+    **dict((
+        permission("10.0.0.3"), permission("::1"),
+        permission("10.0.0.3", "10.0.0.4"), permission("2001:db8::7", "::1"),
+        permission(*(f"10.0.1.{k}" for k in range(MOST_PEERS))),
+        permission(*(f"2001:db8::{k:x}" for k in range(1, MOST_PEERS + 1))),
+    )),
 }
 FIRST = [lifetime(1800), UDP, (DONT_FRAGMENT, b"")]
 # RFC 8656, sections 7.1, 18.6, 18.7, 18.10 and 18.11: a pair is the bit R, and no family stands beside a token
@@ -134,7 +147,9 @@ def requests():
     part("SOFTWARE that is too long or is no UTF-8, and words that mean no such request")
     for software in (b"x" * 764, b"\xff"):
         row(*words(PLAIN, software, True, "sha1", "refresh 600"))("bad line")
-    for algorithm, what in (("md5", "first"), ("sha1", "last"), ("sha1", "refresh"), ("sha1", "permission x")):
+    many = permission(*(f"10.0.1.{k}" for k in range(MOST_PEERS + 1)))[0]
+    for algorithm, what in (("md5", "first"), ("sha1", "last"), ("sha1", "refresh"), ("sha1", "permission x"),
+                            ("sha1", "permission"), ("sha1", "permission 10.0.0.3 x"), ("sha1", many)):
         row(*words(None, b"", True, algorithm, what))("bad line")
     row("request", "00", "-", "true", 1, "sha1", "first")("bad line")
     row("request", "-", "-", "yes", 1, "sha1", "first")("bad line")

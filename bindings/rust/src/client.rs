@@ -13,9 +13,9 @@ use crate::api::{
     TurnCredentials, TurnEvent, TurnPeerData, TurnPollRet, TurnRecvRet,
 };
 use crate::error::{
-    AllocateError, BindChannelError, CreatePermissionError, CredentialsError, DeleteError,
-    PollError, PollTransmitError, RecvError, SendError, SoftwareError, TcpAllocateError,
-    TcpClosedError, TcpConnectError,
+    AllocateError, BindChannelError, CreatePermissionError, CreatePermissionsError,
+    CredentialsError, DeleteError, PollError, PollTransmitError, RecvError, SendError,
+    SoftwareError, TcpAllocateError, TcpClosedError, TcpConnectError,
 };
 use crate::sys;
 
@@ -408,6 +408,31 @@ pub trait TurnClientApi: HasHandle {
         // SAFETY: both pointers are of values that live as long as the call.
         let status = unsafe { sys::turn_client_permit(at, number, &peer, told_moment(now)) };
         outcome(status, CreatePermissionError::of)
+    }
+
+    /// Asks for permissions for several addresses by one request, which names each of them once:
+    /// the server grants all or none. Each gets an event of its own, in their order, and is renewed
+    /// by itself. There are at most [`PERMIT_MAX`](crate::PERMIT_MAX), of one family.
+    fn create_permissions(
+        &mut self,
+        transport: TransportType,
+        peer_addrs: &[IpAddr],
+        now: Duration,
+    ) -> Result<(), CreatePermissionsError> {
+        let (at, number) = (self.handle_mut().at(), told_transport(transport));
+        let peers: Vec<_> = peer_addrs.iter().copied().map(told_ip).collect();
+        // SAFETY: the handle is open; pointer and length are of a vector that lives as long as the
+        // call.
+        let status = unsafe {
+            sys::turn_client_permit_several(
+                at,
+                number,
+                peers.as_ptr(),
+                peers.len(),
+                told_moment(now),
+            )
+        };
+        outcome(status, CreatePermissionsError::of)
     }
 
     /// Asks for a channel to a peer, and for the permission where none stands. It stands for 600

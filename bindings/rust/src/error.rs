@@ -79,6 +79,16 @@ refusals! {
 }
 
 refusals! {
+    /// Why permissions for several addresses can't be asked for.
+    CreatePermissionsError {
+        InvalidAddresses = TURN_BAD_ADDRESSES: "there is no address, or more than 32, or they are of two families",
+        AlreadyExists = TURN_ALREADY_EXISTS: "a permission for one of the addresses stands, or was asked for",
+        NoAllocation = TURN_NO_ALLOCATION: "no allocation of this transport and family stands, or the client has ended",
+        NoMemory = TURN_NO_MEMORY: "there is no memory for the request: the call may be made again",
+    }
+}
+
+refusals! {
     /// Why a channel can't be asked for.
     BindChannelError {
         AlreadyExists = TURN_ALREADY_EXISTS: "a channel to the peer stands",

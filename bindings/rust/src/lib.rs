@@ -117,8 +117,8 @@
 //!   either transport.
 //! - `allocated_tcp_socket` takes no five addresses: number and peer name the connection. There is
 //!   no `protocol_error`.
-//! - `channels`, `connections` and `poll_event_with_cause` are new. `cause` and `alternate_domain`
-//!   return values of their own.
+//! - `create_permissions`, `channels`, `connections` and `poll_event_with_cause` are new. `cause`
+//!   and `alternate_domain` return values of their own.
 
 #![deny(missing_docs, missing_debug_implementations, unsafe_op_in_unsafe_fn)]
 #![deny(clippy::undocumented_unsafe_blocks)]
@@ -148,9 +148,9 @@ pub use api::{
 pub use client::{TurnClientApi, TurnClientTcp, TurnClientUdp};
 pub use driver::{ConnectError, SocketError, TurnSocket, TurnStream};
 pub use error::{
-    AllocateError, BindChannelError, CreatePermissionError, CredentialsError, DeleteError,
-    PollError, PollTransmitError, RecvError, SendError, SoftwareError, TcpAllocateError,
-    TcpClosedError, TcpConnectError,
+    AllocateError, BindChannelError, CreatePermissionError, CreatePermissionsError,
+    CredentialsError, DeleteError, PollError, PollTransmitError, RecvError, SendError,
+    SoftwareError, TcpAllocateError, TcpClosedError, TcpConnectError,
 };
 
 pub use uri::{TurnUri, UriError, UriScheme, DEFAULT_PORT, DEFAULT_TLS_PORT};
@@ -171,6 +171,9 @@ pub const NAME_MAX: usize = sys::TURN_NAME_MAX;
 
 /// Bytes of the text of SOFTWARE at most.
 pub const SOFTWARE_MAX: usize = sys::TURN_SOFTWARE_MAX;
+
+/// Addresses at most for which one call asks for permissions.
+pub const PERMIT_MAX: usize = sys::TURN_PERMIT_MAX;
 
 /// Bytes of data at most that go to a peer over UDP between it and the server.
 pub const PAYLOAD_MAX: usize = sys::TURN_PAYLOAD_MAX;

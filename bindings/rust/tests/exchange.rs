@@ -92,6 +92,11 @@ fn requests_have_software_and_fingerprint() {
     walk("SOFTWARE and FINGERPRINT, over TCP");
 }
 
+#[test]
+fn permissions_of_several_peers() {
+    walk("permissions of several peers");
+}
+
 /// A client goes to another thread between any two parts.
 #[test]
 fn on_other_threads() {
@@ -121,6 +126,7 @@ fn the_exchanges_have_each_answer() {
         .collect();
     let wanted = [
         "ALREADY_EXISTS",
+        "BAD_ADDRESSES",
         "CLOSED",
         "CLOSE_SOCKET",
         "EXPIRED_CHANNEL",

@@ -73,7 +73,7 @@ pub struct Step {
     pub from: &'static str,
     /// Where one address alone is given this is it, but for the own one of a socket.
     pub to: &'static str,
-    /// Of `credentials` the name.
+    /// Of `credentials` the name; of `permit_several` of each peer its family and its octets.
     pub bytes: &'static [u8],
     pub password: &'static [u8],
     pub want: Told,

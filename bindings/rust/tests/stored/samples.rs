@@ -225,6 +225,30 @@ const TEXT_218: &[u8] = &[1, 27, 0, 64, 33, 18, 164, 66, 112, 166, 137, 123, 201
 const TEXT_219: &[u8] = &[1, 4, 0, 32, 33, 18, 164, 66, 32, 97, 103, 81, 22, 215, 138, 99, 57, 169, 194, 103, 0, 13, 0, 4, 0, 0, 0, 0, 0, 8, 0, 20, 252, 181, 185, 176, 216, 133, 151, 199, 157, 62, 122, 100, 166, 179, 22, 104, 218, 179, 144, 200];
 const TEXT_220: &[u8] = &[0, 28, 0, 20, 33, 18, 164, 66, 7, 7, 7, 7, 7, 7, 7, 7, 7, 7, 7, 7, 0, 42, 0, 4, 0, 0, 0, 10, 0, 18, 0, 8, 0, 1, 2, 59, 231, 33, 192, 64];
 const TEXT_221: &[u8] = &[1, 4, 0, 32, 33, 18, 164, 66, 93, 43, 187, 232, 3, 225, 101, 35, 124, 231, 106, 15, 0, 13, 0, 4, 0, 0, 0, 0, 0, 8, 0, 20, 196, 43, 14, 200, 41, 13, 70, 102, 227, 97, 115, 47, 8, 189, 189, 86, 98, 75, 173, 194];
+const TEXT_222: &[u8] = &[4, 198, 51, 100, 1, 4, 198, 51, 100, 2];
+const TEXT_223: &[u8] = &[4, 198, 51, 100, 1, 6, 32, 1, 13, 184, 0, 0, 0, 0, 0, 0, 0, 0, 0, 0, 0, 7];
+const TEXT_224: &[u8] = &[4, 10, 0, 0, 0, 4, 10, 0, 0, 1, 4, 10, 0, 0, 2, 4, 10, 0, 0, 3, 4, 10, 0, 0, 4, 4, 10, 0, 0, 5, 4, 10, 0, 0, 6, 4, 10, 0, 0, 7, 4, 10, 0, 0, 8, 4, 10, 0, 0, 9, 4, 10, 0, 0, 10, 4, 10, 0, 0, 11, 4, 10, 0, 0, 12, 4, 10, 0, 0, 13, 4, 10, 0, 0, 14, 4, 10, 0, 0, 15, 4, 10, 0, 0, 16, 4, 10, 0, 0, 17, 4, 10, 0, 0, 18, 4, 10, 0, 0, 19, 4, 10, 0, 0, 20, 4, 10, 0, 0, 21, 4, 10, 0, 0, 22, 4, 10, 0, 0, 23, 4, 10, 0, 0, 24, 4, 10, 0, 0, 25, 4, 10, 0, 0, 26, 4, 10, 0, 0, 27, 4, 10, 0, 0, 28, 4, 10, 0, 0, 29, 4, 10, 0, 0, 30, 4, 10, 0, 0, 31, 4, 10, 0, 0, 32];
+const TEXT_225: &[u8] = &[0, 3, 0, 104, 33, 18, 164, 66, 161, 28, 105, 105, 19, 252, 163, 167, 128, 152, 20, 79, 0, 25, 0, 4, 17, 0, 0, 0, 0, 13, 0, 4, 0, 0, 7, 8, 128, 0, 0, 4, 2, 0, 0, 0, 0, 6, 0, 5, 97, 108, 105, 99, 101, 0, 0, 0, 0, 20, 0, 11, 101, 120, 97, 109, 112, 108, 101, 46, 111, 114, 103, 0, 0, 21, 0, 24, 97, 32, 110, 111, 110, 99, 101, 32, 111, 102, 32, 111, 114, 100, 105, 110, 97, 114, 121, 32, 116, 101, 120, 116, 0, 8, 0, 20, 254, 184, 97, 29, 67, 242, 148, 130, 98, 190, 159, 186, 122, 38, 196, 110, 24, 48, 77, 246];
+const TEXT_226: &[u8] = &[1, 3, 0, 80, 33, 18, 164, 66, 161, 28, 105, 105, 19, 252, 163, 167, 128, 152, 20, 79, 0, 22, 0, 8, 0, 1, 226, 66, 234, 18, 213, 71, 0, 22, 0, 20, 0, 2, 226, 67, 1, 19, 169, 250, 161, 28, 105, 105, 19, 252, 163, 167, 128, 152, 20, 74, 0, 13, 0, 4, 0, 0, 7, 8, 0, 32, 0, 8, 0, 1, 50, 154, 225, 18, 166, 67, 0, 8, 0, 20, 176, 49, 87, 125, 195, 34, 140, 94, 26, 182, 106, 126, 75, 213, 155, 237, 3, 62, 200, 44];
+const TEXT_227: &[u8] = &[6, 32, 1, 13, 184, 0, 0, 0, 0, 0, 0, 0, 0, 0, 0, 0, 7, 6, 32, 1, 13, 184, 0, 0, 0, 0, 0, 0, 0, 0, 0, 0, 0, 8, 4, 198, 51, 100, 2];
+const TEXT_228: &[u8] = &[4, 198, 51, 100, 1, 4, 198, 51, 100, 2, 4, 198, 51, 100, 1, 4, 198, 51, 100, 2];
+const TEXT_229: &[u8] = &[4, 198, 51, 100, 9, 4, 198, 51, 100, 2];
+const TEXT_230: &[u8] = &[0, 8, 0, 104, 33, 18, 164, 66, 93, 43, 187, 232, 3, 225, 101, 35, 124, 231, 106, 15, 0, 18, 0, 8, 0, 1, 33, 18, 231, 33, 192, 67, 0, 18, 0, 8, 0, 1, 33, 18, 231, 33, 192, 64, 0, 6, 0, 5, 97, 108, 105, 99, 101, 0, 0, 0, 0, 20, 0, 11, 101, 120, 97, 109, 112, 108, 101, 46, 111, 114, 103, 0, 0, 21, 0, 24, 97, 32, 110, 111, 110, 99, 101, 32, 111, 102, 32, 111, 114, 100, 105, 110, 97, 114, 121, 32, 116, 101, 120, 116, 0, 8, 0, 20, 134, 155, 138, 46, 9, 228, 237, 150, 65, 130, 5, 231, 190, 235, 230, 98, 241, 130, 107, 176];
+const TEXT_231: &[u8] = &[4, 198, 51, 100, 9, 4, 198, 51, 100, 1];
+const TEXT_232: &[u8] = &[0, 23, 0, 24, 33, 18, 164, 66, 160, 161, 162, 163, 164, 165, 166, 167, 168, 169, 170, 171, 0, 18, 0, 8, 0, 1, 2, 59, 231, 33, 192, 64, 0, 19, 0, 5, 104, 101, 108, 108, 111, 0, 0, 0];
+const TEXT_233: &[u8] = &[6, 32, 1, 13, 184, 0, 0, 0, 0, 0, 0, 0, 0, 0, 0, 0, 7, 6, 32, 1, 13, 184, 0, 0, 0, 0, 0, 0, 0, 0, 0, 0, 0, 8];
+const TEXT_234: &[u8] = &[0, 8, 0, 128, 33, 18, 164, 66, 49, 11, 201, 77, 26, 163, 58, 7, 137, 190, 201, 148, 0, 18, 0, 20, 0, 2, 33, 18, 1, 19, 169, 250, 49, 11, 201, 77, 26, 163, 58, 7, 137, 190, 201, 147, 0, 18, 0, 20, 0, 2, 33, 18, 1, 19, 169, 250, 49, 11, 201, 77, 26, 163, 58, 7, 137, 190, 201, 156, 0, 6, 0, 5, 97, 108, 105, 99, 101, 0, 0, 0, 0, 20, 0, 11, 101, 120, 97, 109, 112, 108, 101, 46, 111, 114, 103, 0, 0, 21, 0, 24, 97, 32, 110, 111, 110, 99, 101, 32, 111, 102, 32, 111, 114, 100, 105, 110, 97, 114, 121, 32, 116, 101, 120, 116, 0, 8, 0, 20, 115, 122, 235, 143, 12, 74, 239, 104, 226, 157, 165, 227, 80, 243, 36, 5, 183, 226, 85, 186];
+const TEXT_235: &[u8] = &[1, 24, 0, 56, 33, 18, 164, 66, 49, 11, 201, 77, 26, 163, 58, 7, 137, 190, 201, 148, 0, 9, 0, 15, 0, 0, 4, 38, 83, 116, 97, 108, 101, 32, 78, 111, 110, 99, 101, 0, 0, 20, 0, 11, 101, 120, 97, 109, 112, 108, 101, 46, 111, 114, 103, 0, 0, 21, 0, 13, 97, 110, 111, 116, 104, 101, 114, 32, 110, 111, 110, 99, 101, 0, 0, 0];
+const TEXT_236: &[u8] = &[0, 8, 0, 120, 33, 18, 164, 66, 112, 166, 137, 123, 201, 193, 166, 42, 34, 171, 177, 131, 0, 18, 0, 20, 0, 2, 33, 18, 1, 19, 169, 250, 112, 166, 137, 123, 201, 193, 166, 42, 34, 171, 177, 132, 0, 18, 0, 20, 0, 2, 33, 18, 1, 19, 169, 250, 112, 166, 137, 123, 201, 193, 166, 42, 34, 171, 177, 139, 0, 6, 0, 5, 97, 108, 105, 99, 101, 0, 0, 0, 0, 20, 0, 11, 101, 120, 97, 109, 112, 108, 101, 46, 111, 114, 103, 0, 0, 21, 0, 13, 97, 110, 111, 116, 104, 101, 114, 32, 110, 111, 110, 99, 101, 0, 0, 0, 0, 8, 0, 20, 160, 213, 171, 238, 22, 162, 205, 174, 8, 15, 160, 198, 198, 192, 144, 19, 74, 168, 149, 208];
+const TEXT_237: &[u8] = &[1, 24, 0, 44, 33, 18, 164, 66, 112, 166, 137, 123, 201, 193, 166, 42, 34, 171, 177, 131, 0, 9, 0, 13, 0, 0, 4, 3, 70, 111, 114, 98, 105, 100, 100, 101, 110, 0, 0, 0, 0, 8, 0, 20, 83, 166, 176, 124, 111, 15, 28, 174, 247, 224, 238, 86, 251, 30, 201, 235, 10, 126, 215, 84];
+const TEXT_238: &[u8] = &[6, 32, 1, 13, 184, 0, 0, 0, 0, 0, 0, 0, 0, 0, 0, 0, 7];
+const TEXT_239: &[u8] = &[0, 8, 0, 96, 33, 18, 164, 66, 32, 97, 103, 81, 22, 215, 138, 99, 57, 169, 194, 103, 0, 18, 0, 20, 0, 2, 33, 18, 1, 19, 169, 250, 32, 97, 103, 81, 22, 215, 138, 99, 57, 169, 194, 96, 0, 6, 0, 5, 97, 108, 105, 99, 101, 0, 0, 0, 0, 20, 0, 11, 101, 120, 97, 109, 112, 108, 101, 46, 111, 114, 103, 0, 0, 21, 0, 13, 97, 110, 111, 116, 104, 101, 114, 32, 110, 111, 110, 99, 101, 0, 0, 0, 0, 8, 0, 20, 220, 133, 38, 140, 130, 147, 2, 211, 234, 116, 115, 178, 187, 94, 220, 69, 224, 175, 107, 75];
+const TEXT_240: &[u8] = &[4, 10, 0, 0, 0, 4, 10, 0, 0, 1, 4, 10, 0, 0, 2, 4, 10, 0, 0, 3, 4, 10, 0, 0, 4, 4, 10, 0, 0, 5, 4, 10, 0, 0, 6, 4, 10, 0, 0, 7, 4, 10, 0, 0, 8, 4, 10, 0, 0, 9, 4, 10, 0, 0, 10, 4, 10, 0, 0, 11, 4, 10, 0, 0, 12, 4, 10, 0, 0, 13, 4, 10, 0, 0, 14, 4, 10, 0, 0, 15, 4, 10, 0, 0, 16, 4, 10, 0, 0, 17, 4, 10, 0, 0, 18, 4, 10, 0, 0, 19, 4, 10, 0, 0, 20, 4, 10, 0, 0, 21, 4, 10, 0, 0, 22, 4, 10, 0, 0, 23, 4, 10, 0, 0, 24, 4, 10, 0, 0, 25, 4, 10, 0, 0, 26, 4, 10, 0, 0, 27, 4, 10, 0, 0, 28, 4, 10, 0, 0, 29, 4, 10, 0, 0, 30, 4, 10, 0, 0, 31];
+const TEXT_241: &[u8] = &[0, 8, 1, 200, 33, 18, 164, 66, 80, 54, 75, 155, 56, 173, 222, 151, 249, 143, 220, 251, 0, 18, 0, 8, 0, 1, 33, 18, 43, 18, 164, 66, 0, 18, 0, 8, 0, 1, 33, 18, 43, 18, 164, 67, 0, 18, 0, 8, 0, 1, 33, 18, 43, 18, 164, 64, 0, 18, 0, 8, 0, 1, 33, 18, 43, 18, 164, 65, 0, 18, 0, 8, 0, 1, 33, 18, 43, 18, 164, 70, 0, 18, 0, 8, 0, 1, 33, 18, 43, 18, 164, 71, 0, 18, 0, 8, 0, 1, 33, 18, 43, 18, 164, 68, 0, 18, 0, 8, 0, 1, 33, 18, 43, 18, 164, 69, 0, 18, 0, 8, 0, 1, 33, 18, 43, 18, 164, 74, 0, 18, 0, 8, 0, 1, 33, 18, 43, 18, 164, 75, 0, 18, 0, 8, 0, 1, 33, 18, 43, 18, 164, 72, 0, 18, 0, 8, 0, 1, 33, 18, 43, 18, 164, 73, 0, 18, 0, 8, 0, 1, 33, 18, 43, 18, 164, 78, 0, 18, 0, 8, 0, 1, 33, 18, 43, 18, 164, 79, 0, 18, 0, 8, 0, 1, 33, 18, 43, 18, 164, 76, 0, 18, 0, 8, 0, 1, 33, 18, 43, 18, 164, 77, 0, 18, 0, 8, 0, 1, 33, 18, 43, 18, 164, 82, 0, 18, 0, 8, 0, 1, 33, 18, 43, 18, 164, 83, 0, 18, 0, 8, 0, 1, 33, 18, 43, 18, 164, 80, 0, 18, 0, 8, 0, 1, 33, 18, 43, 18, 164, 81, 0, 18, 0, 8, 0, 1, 33, 18, 43, 18, 164, 86, 0, 18, 0, 8, 0, 1, 33, 18, 43, 18, 164, 87, 0, 18, 0, 8, 0, 1, 33, 18, 43, 18, 164, 84, 0, 18, 0, 8, 0, 1, 33, 18, 43, 18, 164, 85, 0, 18, 0, 8, 0, 1, 33, 18, 43, 18, 164, 90, 0, 18, 0, 8, 0, 1, 33, 18, 43, 18, 164, 91, 0, 18, 0, 8, 0, 1, 33, 18, 43, 18, 164, 88, 0, 18, 0, 8, 0, 1, 33, 18, 43, 18, 164, 89, 0, 18, 0, 8, 0, 1, 33, 18, 43, 18, 164, 94, 0, 18, 0, 8, 0, 1, 33, 18, 43, 18, 164, 95, 0, 18, 0, 8, 0, 1, 33, 18, 43, 18, 164, 92, 0, 18, 0, 8, 0, 1, 33, 18, 43, 18, 164, 93, 0, 6, 0, 5, 97, 108, 105, 99, 101, 0, 0, 0, 0, 20, 0, 11, 101, 120, 97, 109, 112, 108, 101, 46, 111, 114, 103, 0, 0, 21, 0, 13, 97, 110, 111, 116, 104, 101, 114, 32, 110, 111, 110, 99, 101, 0, 0, 0, 0, 8, 0, 20, 36, 4, 214, 201, 199, 128, 178, 45, 143, 245, 251, 76, 44, 186, 126, 83, 235, 158, 180, 65];
+const TEXT_242: &[u8] = &[0, 8, 0, 96, 33, 18, 164, 66, 53, 52, 139, 185, 48, 167, 68, 146, 175, 146, 129, 160, 0, 18, 0, 20, 0, 2, 33, 18, 1, 19, 169, 250, 53, 52, 139, 185, 48, 167, 68, 146, 175, 146, 129, 167, 0, 6, 0, 5, 97, 108, 105, 99, 101, 0, 0, 0, 0, 20, 0, 11, 101, 120, 97, 109, 112, 108, 101, 46, 111, 114, 103, 0, 0, 21, 0, 13, 97, 110, 111, 116, 104, 101, 114, 32, 110, 111, 110, 99, 101, 0, 0, 0, 0, 8, 0, 20, 67, 180, 214, 245, 107, 190, 210, 177, 251, 198, 188, 55, 131, 239, 203, 213, 151, 52, 2, 230];
+const TEXT_243: &[u8] = &[1, 8, 0, 24, 33, 18, 164, 66, 53, 52, 139, 185, 48, 167, 68, 146, 175, 146, 129, 160, 0, 8, 0, 20, 210, 11, 121, 195, 93, 65, 143, 247, 170, 116, 168, 177, 231, 162, 221, 17, 175, 6, 240, 212];
+const TEXT_244: &[u8] = &[0, 4, 0, 80, 33, 18, 164, 66, 249, 253, 27, 119, 63, 151, 247, 252, 58, 185, 147, 71, 0, 13, 0, 4, 0, 0, 0, 0, 0, 6, 0, 5, 97, 108, 105, 99, 101, 0, 0, 0, 0, 20, 0, 11, 101, 120, 97, 109, 112, 108, 101, 46, 111, 114, 103, 0, 0, 21, 0, 13, 97, 110, 111, 116, 104, 101, 114, 32, 110, 111, 110, 99, 101, 0, 0, 0, 0, 8, 0, 20, 189, 158, 56, 215, 123, 125, 139, 135, 123, 126, 118, 210, 247, 118, 221, 163, 247, 173, 179, 64];
+const TEXT_245: &[u8] = &[1, 4, 0, 32, 33, 18, 164, 66, 249, 253, 27, 119, 63, 151, 247, 252, 58, 185, 147, 71, 0, 13, 0, 4, 0, 0, 0, 0, 0, 8, 0, 20, 37, 104, 241, 116, 214, 47, 88, 159, 81, 60, 89, 55, 99, 235, 235, 40, 29, 179, 192, 22];
 pub const EXCHANGES: &[Exchange] = &[
     Exchange { name: "over UDP", local: "192.0.2.1:5000", server: "192.0.2.2:3478", transport: "udp", peers: "udp", 
         parts: &[
@@ -1465,6 +1489,142 @@ pub const EXCHANGES: &[Exchange] = &[
                 Step { name: "", call: "draw", now: 60000000, want: Told { answer: "TURN_NOTHING", ..TOLD }, ..STEP },
                 Step { name: "", call: "connections", now: 60000000, number: 0, want: Told { answer: "0", ..TOLD }, ..STEP },
                 Step { name: "", call: "close", now: 60000000, want: Told { answer: "TURN_OK", ..TOLD }, ..STEP },
+            ]),
+        ],
+        ..EXCHANGE
+    },
+    Exchange { name: "permissions of several peers", local: "192.0.2.1:5000", server: "192.0.2.2:3478", transport: "udp", peers: "udp", families: 3, sends: 2, first_wait: 500, most_wait: 500, last_wait: 1000, 
+        parts: &[
+            ("permissions of several peers: the allocation", &[
+                Step { name: "", call: "open", now: 0, want: Told { answer: "TURN_OK", ..TOLD }, ..STEP },
+                Step { name: "", call: "permit_several", now: 0, transport: "udp", bytes: TEXT_222, want: Told { answer: "TURN_NO_ALLOCATION", ..TOLD }, ..STEP },
+                Step { name: "no peer", call: "permit_several", now: 0, transport: "udp", bytes: TEXT_4, want: Told { answer: "TURN_BAD_ADDRESSES", ..TOLD }, ..STEP },
+                Step { name: "two families", call: "permit_several", now: 0, transport: "udp", bytes: TEXT_223, want: Told { answer: "TURN_BAD_ADDRESSES", ..TOLD }, ..STEP },
+                Step { name: "33 peers", call: "permit_several", now: 0, transport: "udp", bytes: TEXT_224, want: Told { answer: "TURN_BAD_ADDRESSES", ..TOLD }, ..STEP },
+                Step { name: "", call: "draw", now: 0, want: Told { answer: "TURN_OK", bytes: TEXT_96, transport: "udp", from: "192.0.2.1:5000", to: "192.0.2.2:3478", size: 48, ..TOLD }, ..STEP },
+                Step { name: "", call: "feed", now: 0, from: "192.0.2.2:3478", to: "192.0.2.1:5000", bytes: TEXT_2, want: Told { answer: "TURN_OK", ..TOLD }, ..STEP },
+                Step { name: "", call: "draw", now: 50000000, want: Told { answer: "TURN_OK", bytes: TEXT_225, transport: "udp", from: "192.0.2.1:5000", to: "192.0.2.2:3478", size: 124, ..TOLD }, ..STEP },
+                Step { name: "", call: "feed", now: 60000000, from: "192.0.2.2:3478", to: "192.0.2.1:5000", bytes: TEXT_226, want: Told { answer: "TURN_OK", ..TOLD }, ..STEP },
+                Step { name: "", call: "event", now: 60000000, want: Told { answer: "TURN_OK", kind: "TURN_ALLOCATION_CREATED", transport: "udp", peer: "203.0.113.5:50000", ..TOLD }, ..STEP },
+                Step { name: "", call: "event", now: 60000000, want: Told { answer: "TURN_OK", kind: "TURN_ALLOCATION_CREATED", transport: "udp", peer: "[2001:db8::5]:50001", ..TOLD }, ..STEP },
+                Step { name: "", call: "event", now: 60000000, want: Told { answer: "TURN_NOTHING", ..TOLD }, ..STEP },
+            ]),
+            ("permissions of several peers: one request, and each address once", &[
+                Step { name: "", call: "permit_several", now: 60000000, transport: "tcp", bytes: TEXT_222, want: Told { answer: "TURN_NO_ALLOCATION", ..TOLD }, ..STEP },
+                Step { name: "the last is of another family", call: "permit_several", now: 60000000, transport: "udp", bytes: TEXT_227, want: Told { answer: "TURN_BAD_ADDRESSES", ..TOLD }, ..STEP },
+                Step { name: "", call: "permit_several", now: 60000000, transport: "udp", bytes: TEXT_228, want: Told { answer: "TURN_OK", ..TOLD }, ..STEP },
+                Step { name: "one was asked for", call: "permit_several", now: 60000000, transport: "udp", bytes: TEXT_229, want: Told { answer: "TURN_ALREADY_EXISTS", ..TOLD }, ..STEP },
+                Step { name: "", call: "permit", now: 60000000, transport: "udp", to: "198.51.100.2:9001", want: Told { answer: "TURN_ALREADY_EXISTS", ..TOLD }, ..STEP },
+                Step { name: "", call: "draw", now: 100000000, want: Told { answer: "TURN_OK", bytes: TEXT_230, transport: "udp", from: "192.0.2.1:5000", to: "192.0.2.2:3478", size: 124, ..TOLD }, ..STEP },
+                Step { name: "", call: "draw", now: 100000000, want: Told { answer: "TURN_NOTHING", ..TOLD }, ..STEP },
+                Step { name: "", call: "permissions", now: 100000000, number: 0, transport: "udp", to: "203.0.113.5:50000", want: Told { answer: "0", ..TOLD }, ..STEP },
+                Step { name: "", call: "feed", now: 120000000, from: "192.0.2.2:3478", to: "192.0.2.1:5000", bytes: TEXT_8, want: Told { answer: "TURN_OK", ..TOLD }, ..STEP },
+                Step { name: "", call: "event", now: 120000000, want: Told { answer: "TURN_OK", kind: "TURN_PERMISSION_CREATED", transport: "udp", peer: "198.51.100.1:0", ..TOLD }, ..STEP },
+                Step { name: "", call: "event", now: 120000000, want: Told { answer: "TURN_OK", kind: "TURN_PERMISSION_CREATED", transport: "udp", peer: "198.51.100.2:0", ..TOLD }, ..STEP },
+                Step { name: "", call: "event", now: 120000000, want: Told { answer: "TURN_NOTHING", ..TOLD }, ..STEP },
+                Step { name: "", call: "permissions", now: 120000000, number: 0, transport: "udp", to: "203.0.113.5:50000", want: Told { answer: "2", peer: "198.51.100.1:0", ..TOLD }, ..STEP },
+                Step { name: "", call: "permissions", now: 120000000, number: 1, transport: "udp", to: "203.0.113.5:50000", want: Told { answer: "2", peer: "198.51.100.2:0", ..TOLD }, ..STEP },
+                Step { name: "one stands", call: "permit_several", now: 120000000, transport: "udp", bytes: TEXT_231, want: Told { answer: "TURN_ALREADY_EXISTS", ..TOLD }, ..STEP },
+                Step { name: "", call: "is_permitted", now: 120000000, transport: "udp", to: "198.51.100.9:9000", want: Told { answer: "0", ..TOLD }, ..STEP },
+                Step { name: "", call: "feed", now: 120000000, from: "192.0.2.2:3478", to: "192.0.2.1:5000", bytes: TEXT_232, want: Told { answer: "TURN_PAYLOAD", transport: "udp", peer: "198.51.100.2:9001", bytes: TEXT_0, start: 36, size: 5, ..TOLD }, ..STEP },
+            ]),
+            ("permissions of several peers: challenged, made again, and rejected", &[
+                Step { name: "", call: "permit_several", now: 150000000, transport: "udp", bytes: TEXT_233, want: Told { answer: "TURN_OK", ..TOLD }, ..STEP },
+                Step { name: "", call: "draw", now: 150000000, want: Told { answer: "TURN_OK", bytes: TEXT_234, transport: "udp", from: "192.0.2.1:5000", to: "192.0.2.2:3478", size: 148, ..TOLD }, ..STEP },
+                Step { name: "", call: "feed", now: 150000000, from: "192.0.2.2:3478", to: "192.0.2.1:5000", bytes: TEXT_235, want: Told { answer: "TURN_OK", ..TOLD }, ..STEP },
+                Step { name: "", call: "event", now: 150000000, want: Told { answer: "TURN_NOTHING", ..TOLD }, ..STEP },
+                Step { name: "", call: "draw", now: 200000000, want: Told { answer: "TURN_OK", bytes: TEXT_236, transport: "udp", from: "192.0.2.1:5000", to: "192.0.2.2:3478", size: 140, ..TOLD }, ..STEP },
+                Step { name: "", call: "feed", now: 200000000, from: "192.0.2.2:3478", to: "192.0.2.1:5000", bytes: TEXT_237, want: Told { answer: "TURN_OK", ..TOLD }, ..STEP },
+                Step { name: "", call: "event", now: 200000000, want: Told { answer: "TURN_OK", kind: "TURN_PERMISSION_FAILED", transport: "udp", peer: "[2001:db8::7]:0", ..TOLD }, ..STEP },
+                Step { name: "", call: "cause", now: 200000000, want: Told { answer: "TURN_OK", kind: "TURN_REJECTED", code: 403, is_signed: true, size: 9, ..TOLD }, ..STEP },
+                Step { name: "", call: "reason", now: 200000000, want: Told { answer: "TURN_OK", bytes: TEXT_121, size: 9, ..TOLD }, ..STEP },
+                Step { name: "", call: "domain", now: 200000000, want: Told { answer: "TURN_NOTHING", ..TOLD }, ..STEP },
+                Step { name: "", call: "event", now: 200000000, want: Told { answer: "TURN_OK", kind: "TURN_PERMISSION_FAILED", transport: "udp", peer: "[2001:db8::8]:0", ..TOLD }, ..STEP },
+                Step { name: "", call: "cause", now: 200000000, want: Told { answer: "TURN_OK", kind: "TURN_REJECTED", code: 403, is_signed: true, size: 9, ..TOLD }, ..STEP },
+                Step { name: "", call: "reason", now: 200000000, want: Told { answer: "TURN_OK", bytes: TEXT_121, size: 9, ..TOLD }, ..STEP },
+                Step { name: "", call: "domain", now: 200000000, want: Told { answer: "TURN_NOTHING", ..TOLD }, ..STEP },
+                Step { name: "", call: "event", now: 200000000, want: Told { answer: "TURN_NOTHING", ..TOLD }, ..STEP },
+                Step { name: "", call: "permissions", now: 200000000, number: 0, transport: "udp", to: "[2001:db8::5]:50001", want: Told { answer: "0", ..TOLD }, ..STEP },
+                Step { name: "one alone", call: "permit_several", now: 200000000, transport: "udp", bytes: TEXT_238, want: Told { answer: "TURN_OK", ..TOLD }, ..STEP },
+                Step { name: "", call: "draw", now: 250000000, want: Told { answer: "TURN_OK", bytes: TEXT_239, transport: "udp", from: "192.0.2.1:5000", to: "192.0.2.2:3478", size: 116, ..TOLD }, ..STEP },
+                Step { name: "", call: "feed", now: 250000000, from: "192.0.2.2:3478", to: "192.0.2.1:5000", bytes: TEXT_179, want: Told { answer: "TURN_OK", ..TOLD }, ..STEP },
+                Step { name: "", call: "event", now: 250000000, want: Told { answer: "TURN_OK", kind: "TURN_PERMISSION_CREATED", transport: "udp", peer: "[2001:db8::7]:0", ..TOLD }, ..STEP },
+                Step { name: "", call: "event", now: 250000000, want: Told { answer: "TURN_NOTHING", ..TOLD }, ..STEP },
+            ]),
+            ("permissions of several peers: 32 peers, and no answer", &[
+                Step { name: "", call: "permit_several", now: 300000000, transport: "udp", bytes: TEXT_240, want: Told { answer: "TURN_OK", ..TOLD }, ..STEP },
+                Step { name: "", call: "draw", now: 300000000, want: Told { answer: "TURN_OK", bytes: TEXT_241, transport: "udp", from: "192.0.2.1:5000", to: "192.0.2.2:3478", size: 476, ..TOLD }, ..STEP },
+                Step { name: "the same request again", call: "draw", now: 800000000, want: Told { answer: "TURN_OK", bytes: TEXT_241, transport: "udp", from: "192.0.2.1:5000", to: "192.0.2.2:3478", size: 476, ..TOLD }, ..STEP },
+                Step { name: "", call: "poll", now: 800000000, want: Told { answer: "TURN_OK", until: 1800000000, ..TOLD }, ..STEP },
+                Step { name: "", call: "event", now: 1799000000, want: Told { answer: "TURN_NOTHING", ..TOLD }, ..STEP },
+                Step { name: "", call: "permit", now: 1799000000, transport: "udp", to: "10.0.0.31:9000", want: Told { answer: "TURN_ALREADY_EXISTS", ..TOLD }, ..STEP },
+                Step { name: "", call: "poll", now: 1800000000, want: Told { answer: "TURN_OK", until: 1800000000, ..TOLD }, ..STEP },
+                Step { name: "", call: "event", now: 1800000000, want: Told { answer: "TURN_OK", kind: "TURN_PERMISSION_FAILED", transport: "udp", peer: "10.0.0.0:0", ..TOLD }, ..STEP },
+                Step { name: "", call: "event", now: 1800000000, want: Told { answer: "TURN_OK", kind: "TURN_PERMISSION_FAILED", transport: "udp", peer: "10.0.0.1:0", ..TOLD }, ..STEP },
+                Step { name: "", call: "event", now: 1800000000, want: Told { answer: "TURN_OK", kind: "TURN_PERMISSION_FAILED", transport: "udp", peer: "10.0.0.2:0", ..TOLD }, ..STEP },
+                Step { name: "", call: "event", now: 1800000000, want: Told { answer: "TURN_OK", kind: "TURN_PERMISSION_FAILED", transport: "udp", peer: "10.0.0.3:0", ..TOLD }, ..STEP },
+                Step { name: "", call: "event", now: 1800000000, want: Told { answer: "TURN_OK", kind: "TURN_PERMISSION_FAILED", transport: "udp", peer: "10.0.0.4:0", ..TOLD }, ..STEP },
+                Step { name: "", call: "event", now: 1800000000, want: Told { answer: "TURN_OK", kind: "TURN_PERMISSION_FAILED", transport: "udp", peer: "10.0.0.5:0", ..TOLD }, ..STEP },
+                Step { name: "", call: "event", now: 1800000000, want: Told { answer: "TURN_OK", kind: "TURN_PERMISSION_FAILED", transport: "udp", peer: "10.0.0.6:0", ..TOLD }, ..STEP },
+                Step { name: "", call: "event", now: 1800000000, want: Told { answer: "TURN_OK", kind: "TURN_PERMISSION_FAILED", transport: "udp", peer: "10.0.0.7:0", ..TOLD }, ..STEP },
+                Step { name: "", call: "event", now: 1800000000, want: Told { answer: "TURN_OK", kind: "TURN_PERMISSION_FAILED", transport: "udp", peer: "10.0.0.8:0", ..TOLD }, ..STEP },
+                Step { name: "", call: "event", now: 1800000000, want: Told { answer: "TURN_OK", kind: "TURN_PERMISSION_FAILED", transport: "udp", peer: "10.0.0.9:0", ..TOLD }, ..STEP },
+                Step { name: "", call: "event", now: 1800000000, want: Told { answer: "TURN_OK", kind: "TURN_PERMISSION_FAILED", transport: "udp", peer: "10.0.0.10:0", ..TOLD }, ..STEP },
+                Step { name: "", call: "event", now: 1800000000, want: Told { answer: "TURN_OK", kind: "TURN_PERMISSION_FAILED", transport: "udp", peer: "10.0.0.11:0", ..TOLD }, ..STEP },
+                Step { name: "", call: "event", now: 1800000000, want: Told { answer: "TURN_OK", kind: "TURN_PERMISSION_FAILED", transport: "udp", peer: "10.0.0.12:0", ..TOLD }, ..STEP },
+                Step { name: "", call: "event", now: 1800000000, want: Told { answer: "TURN_OK", kind: "TURN_PERMISSION_FAILED", transport: "udp", peer: "10.0.0.13:0", ..TOLD }, ..STEP },
+                Step { name: "", call: "event", now: 1800000000, want: Told { answer: "TURN_OK", kind: "TURN_PERMISSION_FAILED", transport: "udp", peer: "10.0.0.14:0", ..TOLD }, ..STEP },
+                Step { name: "", call: "event", now: 1800000000, want: Told { answer: "TURN_OK", kind: "TURN_PERMISSION_FAILED", transport: "udp", peer: "10.0.0.15:0", ..TOLD }, ..STEP },
+                Step { name: "", call: "event", now: 1800000000, want: Told { answer: "TURN_OK", kind: "TURN_PERMISSION_FAILED", transport: "udp", peer: "10.0.0.16:0", ..TOLD }, ..STEP },
+                Step { name: "", call: "event", now: 1800000000, want: Told { answer: "TURN_OK", kind: "TURN_PERMISSION_FAILED", transport: "udp", peer: "10.0.0.17:0", ..TOLD }, ..STEP },
+                Step { name: "", call: "event", now: 1800000000, want: Told { answer: "TURN_OK", kind: "TURN_PERMISSION_FAILED", transport: "udp", peer: "10.0.0.18:0", ..TOLD }, ..STEP },
+                Step { name: "", call: "event", now: 1800000000, want: Told { answer: "TURN_OK", kind: "TURN_PERMISSION_FAILED", transport: "udp", peer: "10.0.0.19:0", ..TOLD }, ..STEP },
+                Step { name: "", call: "event", now: 1800000000, want: Told { answer: "TURN_OK", kind: "TURN_PERMISSION_FAILED", transport: "udp", peer: "10.0.0.20:0", ..TOLD }, ..STEP },
+                Step { name: "", call: "event", now: 1800000000, want: Told { answer: "TURN_OK", kind: "TURN_PERMISSION_FAILED", transport: "udp", peer: "10.0.0.21:0", ..TOLD }, ..STEP },
+                Step { name: "", call: "event", now: 1800000000, want: Told { answer: "TURN_OK", kind: "TURN_PERMISSION_FAILED", transport: "udp", peer: "10.0.0.22:0", ..TOLD }, ..STEP },
+                Step { name: "", call: "event", now: 1800000000, want: Told { answer: "TURN_OK", kind: "TURN_PERMISSION_FAILED", transport: "udp", peer: "10.0.0.23:0", ..TOLD }, ..STEP },
+                Step { name: "", call: "event", now: 1800000000, want: Told { answer: "TURN_OK", kind: "TURN_PERMISSION_FAILED", transport: "udp", peer: "10.0.0.24:0", ..TOLD }, ..STEP },
+                Step { name: "", call: "event", now: 1800000000, want: Told { answer: "TURN_OK", kind: "TURN_PERMISSION_FAILED", transport: "udp", peer: "10.0.0.25:0", ..TOLD }, ..STEP },
+                Step { name: "", call: "event", now: 1800000000, want: Told { answer: "TURN_OK", kind: "TURN_PERMISSION_FAILED", transport: "udp", peer: "10.0.0.26:0", ..TOLD }, ..STEP },
+                Step { name: "", call: "event", now: 1800000000, want: Told { answer: "TURN_OK", kind: "TURN_PERMISSION_FAILED", transport: "udp", peer: "10.0.0.27:0", ..TOLD }, ..STEP },
+                Step { name: "", call: "event", now: 1800000000, want: Told { answer: "TURN_OK", kind: "TURN_PERMISSION_FAILED", transport: "udp", peer: "10.0.0.28:0", ..TOLD }, ..STEP },
+                Step { name: "", call: "event", now: 1800000000, want: Told { answer: "TURN_OK", kind: "TURN_PERMISSION_FAILED", transport: "udp", peer: "10.0.0.29:0", ..TOLD }, ..STEP },
+                Step { name: "", call: "event", now: 1800000000, want: Told { answer: "TURN_OK", kind: "TURN_PERMISSION_FAILED", transport: "udp", peer: "10.0.0.30:0", ..TOLD }, ..STEP },
+                Step { name: "", call: "event", now: 1800000000, want: Told { answer: "TURN_OK", kind: "TURN_PERMISSION_FAILED", transport: "udp", peer: "10.0.0.31:0", ..TOLD }, ..STEP },
+                Step { name: "", call: "cause", now: 1800000000, want: Told { answer: "TURN_OK", kind: "TURN_UNANSWERED", ..TOLD }, ..STEP },
+                Step { name: "", call: "reason", now: 1800000000, want: Told { answer: "TURN_NOTHING", ..TOLD }, ..STEP },
+                Step { name: "", call: "domain", now: 1800000000, want: Told { answer: "TURN_NOTHING", ..TOLD }, ..STEP },
+                Step { name: "", call: "event", now: 1800000000, want: Told { answer: "TURN_NOTHING", ..TOLD }, ..STEP },
+                Step { name: "", call: "permissions", now: 1800000000, number: 0, transport: "udp", to: "203.0.113.5:50000", want: Told { answer: "2", peer: "198.51.100.1:0", ..TOLD }, ..STEP },
+                Step { name: "", call: "permissions", now: 1800000000, number: 1, transport: "udp", to: "203.0.113.5:50000", want: Told { answer: "2", peer: "198.51.100.2:0", ..TOLD }, ..STEP },
+            ]),
+            ("permissions of several peers: each is renewed by itself", &[
+                Step { name: "", call: "poll", now: 2000000000, want: Told { answer: "TURN_OK", until: 240120000000, ..TOLD }, ..STEP },
+                Step { name: "", call: "draw", now: 240119999999, want: Told { answer: "TURN_NOTHING", ..TOLD }, ..STEP },
+                Step { name: "", call: "draw", now: 240120000000, want: Told { answer: "TURN_OK", bytes: TEXT_26, transport: "udp", from: "192.0.2.1:5000", to: "192.0.2.2:3478", size: 104, ..TOLD }, ..STEP },
+                Step { name: "", call: "feed", now: 240120000000, from: "192.0.2.2:3478", to: "192.0.2.1:5000", bytes: TEXT_27, want: Told { answer: "TURN_OK", ..TOLD }, ..STEP },
+                Step { name: "", call: "event", now: 240120000000, want: Told { answer: "TURN_NOTHING", ..TOLD }, ..STEP },
+                Step { name: "", call: "draw", now: 240170000000, want: Told { answer: "TURN_OK", bytes: TEXT_28, transport: "udp", from: "192.0.2.1:5000", to: "192.0.2.2:3478", size: 104, ..TOLD }, ..STEP },
+                Step { name: "", call: "feed", now: 240170000000, from: "192.0.2.2:3478", to: "192.0.2.1:5000", bytes: TEXT_29, want: Told { answer: "TURN_OK", ..TOLD }, ..STEP },
+                Step { name: "", call: "event", now: 240170000000, want: Told { answer: "TURN_NOTHING", ..TOLD }, ..STEP },
+                Step { name: "", call: "draw", now: 240250000000, want: Told { answer: "TURN_OK", bytes: TEXT_242, transport: "udp", from: "192.0.2.1:5000", to: "192.0.2.2:3478", size: 116, ..TOLD }, ..STEP },
+                Step { name: "", call: "feed", now: 240250000000, from: "192.0.2.2:3478", to: "192.0.2.1:5000", bytes: TEXT_243, want: Told { answer: "TURN_OK", ..TOLD }, ..STEP },
+                Step { name: "", call: "event", now: 240250000000, want: Told { answer: "TURN_NOTHING", ..TOLD }, ..STEP },
+                Step { name: "", call: "permissions", now: 240250000000, number: 0, transport: "udp", to: "203.0.113.5:50000", want: Told { answer: "2", peer: "198.51.100.1:0", ..TOLD }, ..STEP },
+                Step { name: "", call: "permissions", now: 240250000000, number: 1, transport: "udp", to: "203.0.113.5:50000", want: Told { answer: "2", peer: "198.51.100.2:0", ..TOLD }, ..STEP },
+            ]),
+            ("permissions of several peers: the end", &[
+                Step { name: "", call: "delete", now: 241000000000, want: Told { answer: "TURN_OK", ..TOLD }, ..STEP },
+                Step { name: "", call: "relayed", now: 241000000000, number: 0, want: Told { answer: "0", ..TOLD }, ..STEP },
+                Step { name: "", call: "draw", now: 241000000000, want: Told { answer: "TURN_OK", bytes: TEXT_244, transport: "udp", from: "192.0.2.1:5000", to: "192.0.2.2:3478", size: 100, ..TOLD }, ..STEP },
+                Step { name: "", call: "feed", now: 241000000000, from: "192.0.2.2:3478", to: "192.0.2.1:5000", bytes: TEXT_245, want: Told { answer: "TURN_OK", ..TOLD }, ..STEP },
+                Step { name: "", call: "pull", now: 241000000000, want: Told { answer: "TURN_NOTHING", ..TOLD }, ..STEP },
+                Step { name: "", call: "poll", now: 241000000000, want: Told { answer: "TURN_CLOSED", ..TOLD }, ..STEP },
+                Step { name: "", call: "event", now: 241000000000, want: Told { answer: "TURN_NOTHING", ..TOLD }, ..STEP },
+                Step { name: "", call: "expired", now: 241000000000, want: Told { answer: "TURN_NOTHING", ..TOLD }, ..STEP },
+                Step { name: "", call: "draw", now: 241000000000, want: Told { answer: "TURN_NOTHING", ..TOLD }, ..STEP },
+                Step { name: "", call: "permit_several", now: 241000000000, transport: "udp", bytes: TEXT_222, want: Told { answer: "TURN_NO_ALLOCATION", ..TOLD }, ..STEP },
+                Step { name: "", call: "close", now: 241000000000, want: Told { answer: "TURN_OK", ..TOLD }, ..STEP },
             ]),
         ],
         ..EXCHANGE

@@ -3,7 +3,7 @@
 
 use std::borrow::Cow;
 use std::fmt::{Debug, Display};
-use std::net::SocketAddr;
+use std::net::{IpAddr, SocketAddr};
 use std::time::Duration;
 
 use turn_client::{
@@ -33,6 +33,20 @@ pub fn address(text: &str) -> SocketAddr {
         .unwrap_or_else(|_| panic!("no address: {text:?}"))
 }
 
+/// The IP addresses of peers: of each its family, and its octets.
+fn peers(mut bytes: &[u8]) -> Vec<IpAddr> {
+    let mut all = Vec::new();
+    while let Some((family, rest)) = bytes.split_first() {
+        let (octets, others) = rest.split_at(if *family == 6 { 16 } else { 4 });
+        all.push(match <[u8; 4]>::try_from(octets) {
+            Ok(v4) => IpAddr::from(v4),
+            Err(_) => IpAddr::from(<[u8; 16]>::try_from(octets).unwrap()),
+        });
+        bytes = others;
+    }
+    all
+}
+
 pub fn transport(text: &str) -> TransportType {
     match text {
         "udp" => TransportType::Udp,
@@ -60,6 +74,7 @@ fn refused(error: impl Debug) -> Told {
         "NoPermission" => "TURN_NO_PERMISSION",
         "NoTcpSocket" => "TURN_NO_SOCKET",
         "TooLarge" => "TURN_TOO_LARGE",
+        "InvalidAddresses" => "TURN_BAD_ADDRESSES",
         other => panic!("an unexpected refusal: {other}"),
     })
 }
@@ -502,6 +517,11 @@ impl Walker {
                 self.client()
                     .create_permission(by(), address(step.to).ip(), now),
             ),
+            "permit_several" => done(self.client().create_permissions(
+                by(),
+                &peers(step.bytes),
+                now,
+            )),
             "bind" => self.bind(step, now),
             "connect" => done(self.client().tcp_connect(address(step.to), now)),
             "socket" => {

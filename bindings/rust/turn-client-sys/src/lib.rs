@@ -72,7 +72,7 @@ pub const TURN_LONG_NAME: i32 = -5;
 /// Joined bytes are to be read first, by turn_client_read.
 pub const TURN_UNREAD: i32 = -8;
 /// No allocation can serve this: it was never made, the client has ended, or it has expired. Then
-/// permit, bind and connect mark it so that it is not listed any more.
+/// permit, permit_several, bind and connect mark it so that it is not listed any more.
 pub const TURN_NO_ALLOCATION: i32 = -9;
 /// It exists already, or was requested.
 pub const TURN_ALREADY_EXISTS: i32 = -10;
@@ -91,6 +91,8 @@ pub const TURN_TOO_LARGE: i32 = -15;
 pub const TURN_NO_MEMORY: i32 = -16;
 /// All bytes of the seed are zero: it was not filled.
 pub const TURN_ZERO_SEED: i32 = -17;
+/// There is no address, or more than TURN_PERMIT_MAX, or they are of two families.
+pub const TURN_BAD_ADDRESSES: i32 = -19;
 
 /// Bytes of a user's name.
 pub const TURN_NAME_MAX: usize = 513;
@@ -102,6 +104,8 @@ pub const TURN_MESSAGE_MAX: usize = 65555;
 pub const TURN_SEND_EXTRA: usize = 64;
 /// Bytes of a payload over UDP between server and peers.
 pub const TURN_PAYLOAD_MAX: usize = 65504;
+/// Peers of turn_client_permit_several.
+pub const TURN_PERMIT_MAX: usize = 32;
 /// The latest time, in nanoseconds.
 pub const TURN_MOMENT_MAX: u64 = 1 << 62;
 
@@ -519,6 +523,18 @@ extern "C" {
         client: *mut turn_client,
         transport: u32,
         peer: *const turn_address,
+        now: u64,
+    ) -> i32;
+    /// Requests permissions for the addresses of several peers, whose ports do not count, by one
+    /// request (RFC 8656, section 10.1), which names each address once. The server grants all or
+    /// none. Each address gets an event of its own, in the order in which they are given. Each
+    /// permission is valid for 300 seconds, and the client renews it by a request of its own.
+    /// `peers_len` counts elements.
+    pub fn turn_client_permit_several(
+        client: *mut turn_client,
+        transport: u32,
+        peers: *const turn_address,
+        peers_len: usize,
         now: u64,
     ) -> i32;
     /// Requests a channel to a peer (RFC 8656, section 12), and a permission for its address if
