@@ -8,7 +8,8 @@
  *     It is not null, except beside a length of 0, which is then no bytes. What a call writes does not overlap anything
  *     else that the call is given.
  *   - The `out_len` of the calls that list what the client holds counts elements: together they are at most PTRDIFF_MAX
- *     bytes, as any object is. In bytes a length is checked: see TURN_BAD_LENGTH.
+ *     bytes, as any object is. In bytes a length is checked: see TURN_BAD_LENGTH. So is the number of peers of
+ *     turn_client_permit_several.
  *   - A handle is all zero before it is opened for the first time (TURN_CLIENT_INIT). A bool is true or false.
  *   - malloc and free come from one allocator. No call is made from a signal handler.
  *   - Times are nanoseconds since any start, as those of CLOCK_MONOTONIC: none earlier than one before, none after
@@ -141,10 +142,12 @@ enum turn_status {
     TURN_UNREAD = -8,        /* joined bytes are to be read first, by turn_client_read */
     TURN_ZERO_SEED = -17,    /* all bytes of the seed are zero: it was not filled */
     TURN_BAD_LENGTH = -18,   /* a length in bytes is more than PTRDIFF_MAX, as the -1 of a recv that failed */
+    TURN_BAD_ADDRESSES = -19, /* there is no address, or more than TURN_PERMIT_MAX, or they are of two families */
 
     /* The client cannot do this. After these nothing has changed, except for what the call says. */
     TURN_NO_ALLOCATION = -9, /* no allocation can serve this: it was never made, the client has ended, or it has
-                              * expired. Then permit, bind and connect mark it so that it is not listed any more */
+                              * expired. Then permit, permit_several, bind and connect mark it so that it is not
+                              * listed any more */
     TURN_ALREADY_EXISTS = -10, /* it exists already, or was requested */
     TURN_NO_PERMISSION = -11, /* there is no permission for the peer's address */
     TURN_NO_CHANNEL = -12,   /* no channel number is free */
@@ -162,6 +165,7 @@ enum turn_status {
 #define TURN_MESSAGE_MAX 65555                /* bytes of any message: the size of the buffer of turn_client_draw */
 #define TURN_SEND_EXTRA 64                    /* bytes of the buffer of turn_client_send beside the payload */
 #define TURN_PAYLOAD_MAX 65504                /* bytes of a payload over UDP between server and peers */
+#define TURN_PERMIT_MAX 32                    /* peers of turn_client_permit_several */
 #define TURN_MOMENT_MAX (UINT64_C(1) << 62)   /* the latest time, in nanoseconds */
 #define TURN_NO_PACE UINT32_MAX               /* no time between two messages */
 
@@ -640,6 +644,27 @@ int32_t turn_client_reservation(turn_client *client, uint64_t *token);
  *   TURN_NO_ALLOCATION    the client has ended
  *   TURN_NO_MEMORY        malloc failed */
 int32_t turn_client_permit(turn_client *client, uint32_t transport, const turn_address *peer, uint64_t now);
+
+/* Requests permissions for the addresses of several peers, whose ports do not count, by one request (RFC 8656, section
+ * 10.1), which names each address once. The server grants all or none. Each address gets an event of its own, in the
+ * order in which they are given. Each permission is valid for 300 seconds, and the client renews it by a request of its
+ * own. `peers_len` counts elements.
+ *
+ *   TURN_OK               the permissions are requested
+ *
+ *   Refused:
+ *   TURN_BAD_SETTING      `transport` is neither TURN_UDP nor TURN_TCP
+ *   TURN_BAD_ADDRESSES    `peers_len` is more than TURN_PERMIT_MAX
+ *   TURN_BAD_FAMILY       the family of a peer is neither 4 nor 6
+ *   TURN_NO_CLIENT        the handle is not open
+ *   TURN_BAD_ADDRESSES    there is no peer, or the peers are of two families
+ *   TURN_NO_ALLOCATION    no allocation of this transport and family, or it has expired
+ *   TURN_ALREADY_EXISTS   there is a permission for one of the addresses, or one was requested: none is requested for
+ *                         the others either
+ *   TURN_NO_ALLOCATION    the client has ended
+ *   TURN_NO_MEMORY        malloc failed */
+int32_t turn_client_permit_several(turn_client *client, uint32_t transport, const turn_address *peers,
+                                   size_t peers_len, uint64_t now);
 
 /* Requests a channel to a peer (RFC 8656, section 12), and a permission for its address if there is none and none was
  * requested. The channel is valid for 600 seconds, and the client renews it.
