@@ -11,7 +11,8 @@ Here are the handshake, renewal and end of an allocation, each pair of settings,
 `traces_payloads.py`, TCP in `traces_tcp.py`, connections in `traces_connections.py`, their sockets in
 `traces_connection_sockets.py`, what comes over these in `traces_bound_connections.py`, connections that peers begin in
 `traces_attempt_timing.py`, one that nobody answers in `traces_unanswered.py`, a hardened one in `traces_hardened.py`,
-and why events happened in `traces_causes.py`.
+why events happened in `traces_causes.py`, and permissions of several addresses by one request in
+`traces_several_permissions.py`.
 """
 
 import hashlib
@@ -577,6 +578,7 @@ def good_traces():
     from traces_each_method import method_traces
     from traces_payloads import payload_traces
     from traces_permissions import permission_traces
+    from traces_several_permissions import several_traces
     from traces_short_lifetimes import short_traces
     from traces_connections import connection_traces
     from traces_connection_sockets import socket_traces
@@ -598,7 +600,7 @@ def good_traces():
         *permission_traces(), *channel_traces(), *payload_traces(), *stream_traces(), *connection_traces(),
         *socket_traces(), *bound_traces(), *attempt_traces(), *limited_traces(), *announced_traces(),
         *good_words(), *unanswered_traces(),
-        *hardened_traces(honest_traces()), *cause_traces(),
+        *hardened_traces(honest_traces()), *cause_traces(), *several_traces(),
     )
 
 
@@ -694,6 +696,16 @@ def bad_traces():
         A permission for a port: permission 0 udp 10.0.0.1:0
         A permission for an address in brackets: permission 0 udp [::1]
         A bad peer, at a moment out of range: permission {2**62 + 1} udp x
+        Permissions of no peer: permit 0 udp
+        Permissions, and no transport: permit 0 10.0.0.1,10.0.0.2
+        Permissions over another transport: permit 0 sctp 10.0.0.1,10.0.0.2
+        Permissions of an empty list: permit 0 udp ,
+        Permissions of a list that ends in a comma: permit 0 udp 10.0.0.1,
+        Permissions of a list that begins with a comma: permit 0 udp ,10.0.0.1
+        Permissions of a port among others: permit 0 udp 10.0.0.1,10.0.0.2:0
+        Permissions of two words: permit 0 udp 10.0.0.1 10.0.0.2
+        Permissions of what no event answered: permit 0 udp @1
+        A bad peer among others, at a moment out of range: permit {2**62 + 1} udp 10.0.0.1,x
         A permission is looked for at a moment: have 0 udp 10.0.0.1
         Permissions of an address without a port: permissions udp 203.0.113.5
         A channel to no peer: bind 0 udp

@@ -149,9 +149,11 @@ def refresh(k, seconds, credentials):
     return message(REFRESH, number(k), [lifetime(seconds), *credentials], SHA1)
 
 
-def create_permission(k, ip, credentials=HASHED):
-    peer = xored(f"[{ip}]:0" if ":" in ip else f"{ip}:0", number(k))
-    return message(CREATE_PERMISSION, number(k), [(PEER, peer), *credentials], SHA1)
+def create_permission(k, ips, credentials=HASHED):
+    """A request for one address, or for several, each in an XOR-PEER-ADDRESS of its own."""
+    ips = [ips] if isinstance(ips, str) else ips
+    peers = [(PEER, xored(f"[{ip}]:0" if ":" in ip else f"{ip}:0", number(k))) for ip in ips]
+    return message(CREATE_PERMISSION, number(k), [*peers, *credentials], SHA1)
 
 
 def channel_bind(k, channel, peer, credentials=HASHED, by=SHA1):
@@ -265,6 +267,9 @@ class Trace:
 
     def permission(self, now, ip, answer="ok", transport="udp"):
         return self.say(f"permission {now} {transport} {ip}", answer)
+
+    def permit(self, now, ips, answer="ok", transport="udp"):
+        return self.say(f"permit {now} {transport} {','.join(ips)}", answer)
 
     def has(self, ip, answer="yes", transport="udp"):
         return self.say(f"have {transport} {ip}", answer)

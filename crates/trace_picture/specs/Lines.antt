@@ -18,9 +18,9 @@ IsKind word Drawing = word ≡ codes "draw"
 IsKind word Sending = word ≡ codes "send"
 IsKind word Looking = (word ≡ codes "cause") ⊎ (word ≡ codes "mapped") ⊎ (word ≡ codes "alternate")
 IsKind word Calling = (word ≡ codes "recv") ⊎ (word ≡ codes "poll") ⊎ (word ≡ codes "event") ⊎ (word ≡ codes "delete")
-    ⊎ (word ≡ codes "permission") ⊎ (word ≡ codes "have") ⊎ (word ≡ codes "permissions") ⊎ (word ≡ codes "bind")
-    ⊎ (word ≡ codes "channels") ⊎ (word ≡ codes "connect") ⊎ (word ≡ codes "socket") ⊎ (word ≡ codes "closed")
-    ⊎ (word ≡ codes "connections") ⊎ (word ≡ codes "error") ⊎ (word ≡ codes "relayed")
+    ⊎ (word ≡ codes "permission") ⊎ (word ≡ codes "permit") ⊎ (word ≡ codes "have") ⊎ (word ≡ codes "permissions")
+    ⊎ (word ≡ codes "bind") ⊎ (word ≡ codes "channels") ⊎ (word ≡ codes "connect") ⊎ (word ≡ codes "socket")
+    ⊎ (word ≡ codes "closed") ⊎ (word ≡ codes "connections") ⊎ (word ≡ codes "error") ⊎ (word ≡ codes "relayed")
 
 -- Whether a result with these words has bytes that enter the network.
 abbrev pub carries : List (List ℕ) → Bool

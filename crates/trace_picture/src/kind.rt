@@ -54,6 +54,7 @@ fn kind_of_word(word: &str) -> Option<Kind>
         | "event"
         | "delete"
         | "permission"
+        | "permit"
         | "have"
         | "permissions"
         | "bind"

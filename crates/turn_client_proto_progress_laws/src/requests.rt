@@ -35,6 +35,8 @@ ghost use Rattle.turn_client_proto_messages.specs.Api.declared.error.BindChannel
 ghost use Rattle.turn_client_proto_messages.specs.Api.declared.error.BindChannelError.TheVariants as not_bound;
 ghost use Rattle.turn_client_proto_messages.specs.Api.declared.error.CreatePermissionError.{CreatePermissionError};
 ghost use Rattle.turn_client_proto_messages.specs.Api.declared.error.CreatePermissionError.TheVariants as not_permitted;
+ghost use Rattle.turn_client_proto_messages.specs.Api.declared.error.CreatePermissionsError.{CreatePermissionsError};
+ghost use Rattle.turn_client_proto_messages.specs.Api.declared.error.CreatePermissionsError.TheVariants as none_permitted;
 ghost use Rattle.turn_client_proto_messages.specs.Api.declared.error.DeleteError.{DeleteError};
 ghost use Rattle.turn_client_proto_messages.specs.Api.declared.error.DeleteError.TheVariants as not_deleted;
 ghost use Rattle.turn_client_proto_messages.specs.Api.declared.error.SendError.{SendError};
@@ -50,7 +52,7 @@ ghost use Rattle.turn_client_proto_step_laws.specs.Recv.Control.{Datagrams};
 ghost use Rattle.turn_client_proto_handshake_laws.specs.Core.Binding.{IsBindAnswered};
 ghost use Rattle.turn_client_proto_handshake_laws.specs.Core.Deleting.{IsDeleteAnswered};
 ghost use Rattle.turn_client_proto_handshake_laws.specs.Core.Ending.{ended};
-ghost use Rattle.turn_client_proto_handshake_laws.specs.Core.Permitting.{IsPermissionAnswered};
+ghost use Rattle.turn_client_proto_handshake_laws.specs.Core.Permitting.{ArePermissionsAnswered, IsPermissionAnswered};
 ghost use Rattle.turn_client_proto_handshake_laws.specs.Core.Receiving.{IsProcessed};
 ghost use Rattle.turn_client_proto_messages.specs.Waiting.{Queued};
 ghost use Rattle.turn_client_proto_handshake_laws.specs.Core.declared.protocol.Protocol.{Protocol};
@@ -93,8 +95,8 @@ pub fn holders_speak()
     signed_allocates_answer();
 }
 
-/// An established client stays so in `poll_transmit`, `poll`, `poll_event`, `create_permission` and
-/// `bind_channel`, unless memory runs out.
+/// An established client stays so in `poll_transmit`, `poll`, `poll_event`, `create_permission`,
+/// `create_permissions` and `bind_channel`, unless memory runs out.
 pub fn speakers_go_on()
     ensures transmitted { (b : Beginning) (realm : List ℕ) (address : SocketAddr) (old new :
         Protocol)
@@ -119,6 +121,13 @@ pub fn speakers_go_on()
         → Speaks b realm address old
         → ret ≢ Err not_permitted.NoMemory
         → IsPermissionAnswered old transport ip now ret new
+        → Speaks b realm address new }
+    ensures several { (b : Beginning) (realm : List ℕ) (address : SocketAddr) (old new : Protocol)
+        (transport : TransportType) (ips : List IpAddr) (now : ℕ)
+        (ret : Result (Unit {0}) CreatePermissionsError)
+        → Speaks b realm address old
+        → ret ≢ Err (none_permitted.Refused not_permitted.NoMemory)
+        → ArePermissionsAnswered old transport ips now ret new
         → Speaks b realm address new }
     ensures channel { (b : Beginning) (realm : List ℕ) (address : SocketAddr) (old new : Protocol)
         (transport : TransportType) (peer : SocketAddr) (now : ℕ)

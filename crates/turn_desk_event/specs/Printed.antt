@@ -21,6 +21,8 @@ use Rattle.turn_client_proto_api.specs.declared.error.TcpConnectError.{TcpConnec
 use Rattle.turn_client_proto_api.specs.declared.error.TcpConnectError.TheVariants as Connects
 use Rattle.turn_client_proto_api.specs.declared.error.CreatePermissionError.{CreatePermissionError}
 use Rattle.turn_client_proto_api.specs.declared.error.CreatePermissionError.TheVariants as Permits
+use Rattle.turn_client_proto_api.specs.declared.error.CreatePermissionsError.{CreatePermissionsError}
+use Rattle.turn_client_proto_api.specs.declared.error.CreatePermissionsError.TheVariants as Several
 use Rattle.turn_client_proto_api.specs.declared.error.DeleteError.{DeleteError}
 use Rattle.turn_client_proto_api.specs.declared.error.DeleteError.TheVariants as Deletes
 use Rattle.turn_client_proto_api.specs.declared.error.SendError.{SendError}
@@ -30,7 +32,7 @@ use Rattle.turn_client_proto_api.specs.declared.event.TurnEvent.TheVariants as E
 use Rattle.turn_desk_event.specs.declared.answer.Answer.{Answer}
 use Rattle.turn_desk_event.specs.declared.answer.Answer.TheVariants as Answers
 use Rattle.turn_desk_event.specs.declared.answer.Refusal.{Refusal}
-use Rattle.turn_desk_event.specs.declared.answer.Refusal.TheVariants.{BindChannel, CreatePermission, Delete, Send, TcpAllocate, TcpConnect}
+use Rattle.turn_desk_event.specs.declared.answer.Refusal.TheVariants.{BindChannel, CreatePermission, CreatePermissions, Delete, Send, TcpAllocate, TcpConnect}
 
 -- The word for a transport.
 abbrev pub transport_word : TransportType → List ℕ
@@ -68,6 +70,11 @@ permission_error_text Permits.AlreadyExists = codes "AlreadyExists"
 permission_error_text Permits.NoAllocation = codes "NoAllocation"
 permission_error_text Permits.NoMemory = codes "NoMemory"
 
+-- The name of a `CreatePermissionsError`; of `Refused`, that of its reason.
+abbrev pub permissions_error_text : CreatePermissionsError → List ℕ
+permissions_error_text Several.InvalidAddresses = codes "InvalidAddresses"
+permissions_error_text (Several.Refused error) = permission_error_text error
+
 -- The name of a `BindChannelError`. For an expired channel it is followed by the time until which no channel
 -- can be bound to that peer, that time included.
 abbrev pub bind_error_text : BindChannelError → List ℕ
@@ -102,6 +109,7 @@ send_error_text Sends.NoMemory = codes "NoMemory"
 abbrev pub refusal_text : Refusal → List ℕ
 refusal_text (Delete error) = delete_error_text error
 refusal_text (CreatePermission error) = permission_error_text error
+refusal_text (CreatePermissions error) = permissions_error_text error
 refusal_text (BindChannel error) = bind_error_text error
 refusal_text (TcpConnect error) = connect_error_text error
 refusal_text (TcpAllocate error) = socket_error_text error

@@ -8,8 +8,8 @@ use stun_types_base::transport::TransportType;
 use turn_client_proto_api::answer::Socket5Tuple;
 use turn_client_proto_api::data::TurnPeerData;
 use turn_client_proto_api::error::{
-    BindChannelError, CreatePermissionError, DeleteError, SendError, TcpAllocateError,
-    TcpConnectError,
+    BindChannelError, CreatePermissionError, CreatePermissionsError, DeleteError, SendError,
+    TcpAllocateError, TcpConnectError,
 };
 use turn_client_proto_api::event::TurnEvent;
 
@@ -20,6 +20,8 @@ pub enum Refusal {
     Delete(DeleteError),
     /// Why `create_permission` was refused.
     CreatePermission(CreatePermissionError),
+    /// Why `create_permissions` was refused.
+    CreatePermissions(CreatePermissionsError),
     /// Why `bind_channel` was refused.
     BindChannel(BindChannelError),
     /// Why `tcp_connect` was refused.

@@ -16,6 +16,8 @@ pub enum ClientCall {
     Delete,
     /// `create_permission`.
     CreatePermission(TransportType, IpAddr),
+    /// `create_permissions` for these IP addresses.
+    CreatePermissions(TransportType, Vec<IpAddr>),
     /// `have_permission`.
     HavePermission(TransportType, IpAddr),
     /// `permissions` of the allocation with this transport and relayed address.

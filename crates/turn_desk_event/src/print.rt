@@ -5,7 +5,7 @@ ghost use Rattle.std.specs.List.{flat_map};
 ghost use Rattle.std.specs.Option.{option_map};
 ghost use Rattle.std.specs.Net.Text.{socket_text};
 ghost use Rattle.line_io.specs.LowerHex.{hex_text};
-ghost use Rattle.turn_desk_event.specs.Printed.{address_text, alternate_line, answer_text, answer_words, between_text, bind_error_text, cause_line, cause_text, channel_text, connection_text, delete_error_text, domain_text, event_text, family_word, have_text, icmp_text, mapped_line, permission_error_text, permitted_text, placed_text, refusal_text, relayed_text, send_error_text, signed_text, socket_error_text, transport_word, bound_text, connect_error_text};
+ghost use Rattle.turn_desk_event.specs.Printed.{address_text, alternate_line, answer_text, answer_words, between_text, bind_error_text, cause_line, cause_text, channel_text, connection_text, delete_error_text, domain_text, event_text, family_word, have_text, icmp_text, mapped_line, permission_error_text, permissions_error_text, permitted_text, placed_text, refusal_text, relayed_text, send_error_text, signed_text, socket_error_text, transport_word, bound_text, connect_error_text};
 
 use crate::answer::{Answer, Refusal};
 use line_io::lower_hex::write_hex;
@@ -16,8 +16,8 @@ use stun_types_base::transport::TransportType;
 use turn_client_proto_api::answer::Socket5Tuple;
 use turn_client_proto_api::cause::TurnCause;
 use turn_client_proto_api::error::{
-    BindChannelError, CreatePermissionError, DeleteError, SendError, TcpAllocateError,
-    TcpConnectError,
+    BindChannelError, CreatePermissionError, CreatePermissionsError, DeleteError, SendError,
+    TcpAllocateError, TcpConnectError,
 };
 use turn_client_proto_api::event::TurnEvent;
 
@@ -352,6 +352,9 @@ fn print_refusal(alloc: Global, refusal: Refusal) -> Result<String, AllocError>
         Refusal::CreatePermission(error) => {
             format!(in alloc; "refused {}", name_of_permission_error(error))
         }
+        Refusal::CreatePermissions(error) => {
+            format!(in alloc; "refused {}", name_of_permissions_error(error))
+        }
         Refusal::BindChannel(error) => print_bind_refusal(alloc, error),
         Refusal::TcpConnect(error) => format!(in alloc; "refused {}", name_of_connect_error(error)),
         Refusal::TcpAllocate(error) => format!(in alloc; "refused {}", name_of_socket_error(error)),
@@ -456,6 +459,16 @@ fn name_of_permission_error(error: CreatePermissionError) -> &'static str
         CreatePermissionError::AlreadyExists => "AlreadyExists",
         CreatePermissionError::NoAllocation => "NoAllocation",
         _ => "NoMemory",
+    }
+}
+
+/// Returns the name of a `CreatePermissionsError`; of `Refused`, that of its reason.
+fn name_of_permissions_error(error: CreatePermissionsError) -> &'static str
+    ensures { result.now ≡ permissions_error_text error }
+{
+    match error {
+        CreatePermissionsError::Refused(error) => name_of_permission_error(error),
+        _ => "InvalidAddresses",
     }
 }
 

@@ -27,14 +27,14 @@ use Rattle.turn_client_proto_progress_laws.proofs.Asking.Between as requested
 use Rattle.turn_client_proto_progress_laws.proofs.Asking.Others as others
 use Rattle.turn_client_proto_progress_laws.proofs.Asking.Speaking as speaking
 use Rattle.turn_client_proto_handshake_laws.specs.Core.Permitting.{IsPermissionAnswered}
-use Rattle.turn_desk_world_laws.specs.World.Calls.{AreChannelsReported, AreConnectionsReported, ArePermissionsReported, IsBindReported, IsCallReported, IsCalled, IsClosedReported, IsConnectReported, IsDeleteReported, IsTransmittedAs, IsEndReported, IsEventReported, IsHaveReported, IsPermissionReported, IsPolledAs, IsRelayedReported, IsSendReported, IsSocketTaken, IsWaitingReported, own_tuple}
+use Rattle.turn_desk_world_laws.specs.World.Calls.{AreChannelsReported, AreConnectionsReported, ArePermissionsAnsweredAs, ArePermissionsReported, IsBindReported, IsCallReported, IsCalled, IsClosedReported, IsConnectReported, IsDeleteReported, IsTransmittedAs, IsEndReported, IsEventReported, IsHaveReported, IsPermissionReported, IsPolledAs, IsRelayedReported, IsSendReported, IsSocketTaken, IsWaitingReported, own_tuple}
 use Rattle.turn_client_proto_step_laws.specs.Recv.Control.{Control}
 use Rattle.turn_client_proto_step_laws.specs.Recv.ClientState.{ClientState, Protocol}
 use Rattle.turn_desk_world_laws.specs.World.Model.{World}
 use Rattle.turn_desk_world_laws.specs.World.Runs.{IsOfClient, IsStep}
 use Rattle.turn_desk_event.specs.declared.answer.Answer.{Answer}
 use Rattle.turn_desk_event.specs.declared.answer.Answer.TheVariants as answer
-use Rattle.turn_desk_event.specs.declared.answer.Refusal.TheVariants.{BindChannel as BindRefused, CreatePermission as PermissionRefused, Delete as DeleteRefused, Send as SendRefused, TcpAllocate as SocketRefused, TcpConnect as ConnectRefused}
+use Rattle.turn_desk_event.specs.declared.answer.Refusal.TheVariants.{BindChannel as BindRefused, CreatePermission as PermissionRefused, CreatePermissions as PermissionsRefused, Delete as DeleteRefused, Send as SendRefused, TcpAllocate as SocketRefused, TcpConnect as ConnectRefused}
 use Rattle.turn_desk_event.specs.declared.event.ClientCall.{ClientCall}
 use Rattle.turn_desk_event.specs.declared.event.ClientCall.TheVariants as call
 use Rattle.turn_desk_event.specs.declared.event.Event.TheVariants.{Call, Draw}
@@ -149,6 +149,11 @@ module _ (p q : Protocol) (b : Beginning) (realm : List ℕ) (address : SocketAd
   delete_so (answer.Refused (DeleteRefused error)) at is = others.delete_speaks b realm address p speaks at (Err error) q (λ e. is.1 (Prim.cc e)) is.0
   delete_so _ at is = absurd is
 
+  several_so : (ret : Answer) (transport : TransportType) (ips : List IpAddr) (at : ℕ) → ArePermissionsAnsweredAs ret transport ips p at q → After
+  several_so answer.Done transport ips at is = speaking.permissions_speak b realm address p speaks transport ips at (Ok tt) q (λ e. Prim.cc e) is
+  several_so (answer.Refused (PermissionsRefused error)) transport ips at is = speaking.permissions_speak b realm address p speaks transport ips at (Err error) q (λ e. is.1 (Prim.cc e)) is.0
+  several_so _ transport ips at is = absurd is
+
   have_so : (ret : Answer) (transport : TransportType) (ip : IpAddr) → IsHaveReported ret transport ip p q → After
   have_so (answer.Have has) transport ip is = same_so is.1
   have_so _ transport ip is = absurd is
@@ -223,6 +228,7 @@ module _ (c : Control) (p : Protocol) (b : Beginning) (realm : List ℕ) (addres
   any_reported call.PollEvent q at ret socket is = (acted_speaks b realm address p q.core at speaks (event_as p q.core at ret is.0), is.1)
   any_reported call.Delete q at ret socket is = (delete_so p q.core b realm address speaks ret at is.0, is.1)
   any_reported (call.CreatePermission transport ip) q at ret socket is = (acted_speaks b realm address p q.core at speaks (permission_as transport ip p q.core at ret is.0), is.1)
+  any_reported (call.CreatePermissions transport ips) q at ret socket is = (several_so p q.core b realm address speaks ret transport ips.items at is.0, is.1)
   any_reported (call.HavePermission transport ip) q at ret socket is = (have_so p q.core b realm address speaks ret transport ip is.0, is.1)
   any_reported (call.Permissions transport relayed) q at ret socket is = (permissions_so p q.core b realm address speaks ret transport relayed is.0, is.1)
   any_reported (call.BindChannel transport peer) q at ret socket is = (acted_speaks b realm address p q.core at speaks (bound_as transport peer p q.core at ret is.0), is.1)

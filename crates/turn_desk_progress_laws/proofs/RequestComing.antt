@@ -294,6 +294,7 @@ socket_stays plan transport head p call.Poll own other = tt
 socket_stays plan transport head p call.PollEvent own other = tt
 socket_stays plan transport head p call.Delete own other = tt
 socket_stays plan transport head p (call.CreatePermission t ip) own other = tt
+socket_stays plan transport head p (call.CreatePermissions t ips) own other = tt
 socket_stays plan transport head p (call.HavePermission t ip) own other = tt
 socket_stays plan transport head p (call.Permissions t relayed) own other = tt
 socket_stays plan transport head p (call.BindChannel t peer) own other = tt

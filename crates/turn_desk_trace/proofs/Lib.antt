@@ -1,3 +1,4 @@
+pub mod AddressLemmas
 pub mod AlgorithmLemmas
 pub mod BytesLemmas
 pub mod LineLemmas

@@ -1,14 +1,16 @@
 -- The event lines of a trace.
-use Rattle.std.specs.Prelude.{ℕ, ◌≡◌, List, [], ◌∷◌, ◌⊎◌, Option, Some, None, codes}
+use Rattle.std.specs.Prelude.{ℕ, ◌≡◌, ◌==◌, List, [], ◌∷◌, ◌⊎◌, Option, Some, None, codes}
+use Rattle.std.specs.List.{slice_split}
 use Rattle.std.specs.Net.Grammar.{IsIpText, IsSocketText}
 use Rattle.std.specs.declared.net.ip_addr.IpAddr.{IpAddr}
 use Rattle.std.specs.declared.net.socket_addr.SocketAddr.{SocketAddr}
 use Rattle.stun_types_base.specs.declared.transport.TransportType.{TransportType}
 use Rattle.turn_desk_event.specs.declared.event.ClientCall.{ClientCall}
-use Rattle.turn_desk_event.specs.declared.event.ClientCall.TheVariants.{Poll, PollEvent, Delete, CreatePermission, HavePermission, Permissions, BindChannel, Channels, SendTo, PollRecv, ProtocolError, RelayedAddresses, TcpConnect, AllocatedTcpSocket, TcpClosed, Connections}
+use Rattle.turn_desk_event.specs.declared.event.ClientCall.TheVariants.{Poll, PollEvent, Delete, CreatePermission, CreatePermissions, HavePermission, Permissions, BindChannel, Channels, SendTo, PollRecv, ProtocolError, RelayedAddresses, TcpConnect, AllocatedTcpSocket, TcpClosed, Connections}
 use Rattle.turn_desk_event.specs.declared.event.Event.{Event}
 use Rattle.turn_desk_event.specs.declared.event.Event.TheVariants.{Call, Draw, ToClient, ToDesk}
 use Rattle.turn_desk_event.specs.Printed.{transport_word}
+use Rattle.turn_desk_trace.specs.Address.{AreIps}
 use Rattle.turn_desk_trace.specs.Bytes.{named_bytes}
 use Rattle.turn_desk_trace.specs.Decision.{IsDecision, IsU32}
 use Rattle.turn_desk_trace.specs.TraceNumbers.{number, seed_of}
@@ -74,14 +76,15 @@ IsClosed (now ∷ local ∷ remote ∷ []) here there time =
     (number now ≡ Some time) × IsSocketText local here × IsSocketText remote there
 IsClosed words here there time = ⊥
 
--- The name and the words after it spell a call of the client at this time. `IsSend` defines this for the call
--- that sends bytes.
+-- The name and the words after it spell a call of the client at this time. `IsSend` and `IsPermit` define this for
+-- the calls that send bytes, and that name several addresses.
 abbrev pub IsCall : List ℕ → List (List ℕ) → ClientCall → ℕ → Type 0
 IsCall name rest Poll time = (name ≡ codes "poll") × IsTime rest time
 IsCall name rest PollEvent time = (name ≡ codes "event") × IsNoTime rest time
 IsCall name rest Delete time = (name ≡ codes "delete") × IsTime rest time
 IsCall name rest (CreatePermission transport ip) time =
     (name ≡ codes "permission") × IsPermission rest transport ip time
+IsCall name rest (CreatePermissions transport ips) time = ⊥
 IsCall name rest (HavePermission transport ip) time =
     (name ≡ codes "have") × IsPlacedIp rest transport ip × (time ≡ 0)
 IsCall name rest (Permissions transport socket) time =
@@ -149,10 +152,19 @@ IsSend answers (now ∷ name ∷ to ∷ bytes ∷ []) (SendTo transport peer sen
     × (named_bytes answers bytes ≡ Some sent.items)
 IsSend answers words call time = ⊥
 
+-- The words after `permit` spell the call that requests permissions for these IP addresses at this time. Commas
+-- separate the addresses.
+abbrev pub IsPermit : List (List ℕ) → ClientCall → ℕ → Type 0
+IsPermit (now ∷ name ∷ addresses ∷ []) (CreatePermissions transport ips) time =
+    (number now ≡ Some time) × (name ≡ transport_word transport)
+    × AreIps (slice_split (λ b. b == 44) addresses) ips.items
+IsPermit words call time = ⊥
+
 -- The name and the words after it spell the event, given these earlier results.
 abbrev pub IsEventOf : List (List ℕ) → List ℕ → List (List ℕ) → Event → Type 0
 IsEventOf answers name rest (Call call time) =
     IsCall name rest call time ⊎ ((name ≡ codes "send") × IsSend answers rest call time)
+    ⊎ ((name ≡ codes "permit") × IsPermit rest call time)
 IsEventOf answers name rest (Draw time) = (name ≡ codes "draw") × IsTime rest time
 IsEventOf answers name rest (ToClient b f t n) = (name ≡ codes "toclient") × IsToClient answers rest (ToClient b f t n)
 IsEventOf answers name rest (ToDesk b f n d s) = (name ≡ codes "todesk") × IsToDesk answers rest (ToDesk b f n d s)

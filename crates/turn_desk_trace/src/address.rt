@@ -6,7 +6,7 @@ ghost use Rattle.std.specs.Net.Grammar.{IsIpText, IsSocketText};
 ghost use Rattle.std.specs.declared.net.ip_addr.IpAddr.{IpAddr};
 ghost use Rattle.std.specs.declared.net.socket_addr.SocketAddr.{SocketAddr};
 ghost use Rattle.stun_types_base.specs.declared.transport.TransportType.{TransportType};
-ghost use Rattle.turn_desk_trace.specs.Address.{AreAddresses};
+ghost use Rattle.turn_desk_trace.specs.Address.{AreAddresses, AreIps};
 ghost use Rattle.turn_desk_event.specs.Printed.{transport_word};
 
 use line_io::refusal::LineError;
@@ -31,6 +31,37 @@ pub fn read_ip(word: &str) -> Option<IpAddr>
     ensures { MatchOption result ((a : IpAddr) → ¬ (IsIpText word.now a)) (IsIpText word.now) }
 {
     word.parse::<IpAddr>().ok()
+}
+
+/// Reads one or more IP addresses, separated by commas.
+///
+/// # Errors
+///
+/// - `Bad`: a part of the word is not an IP address.
+/// - `NoMemory`: an allocation failed.
+pub fn read_ips(alloc: Global, word: &str) -> Result<Vec<IpAddr>, LineError>
+    ensures ok { IfOk result (λ ips. AreIps (slice_split (λ b. b == 44) word.now) ips.items) }
+    ensures bad { result ≡ Err LineError.Bad → (ips : List IpAddr)
+        → ¬ (AreIps (slice_split (λ b. b == 44) word.now) ips) }
+{
+    let words = chunks(alloc, word, ',')?;
+    listed_ips(alloc, words.as_slice())
+}
+
+/// Reads a list of words, each an IP address.
+fn listed_ips(alloc: Global, words: &[&str]) -> Result<Vec<IpAddr>, LineError>
+    ensures ok { IfOk result (λ ips. AreIps (map (λ x. x.now) words.now) ips.items) }
+    ensures bad { result ≡ Err LineError.Bad → (ips : List IpAddr)
+        → ¬ (AreIps (map (λ x. x.now) words.now) ips) }
+{
+    let mut ips = Vec::new(alloc);
+    for word in words {
+        let Some(ip) = read_ip(word) else {
+            return Err(LineError::Bad);
+        };
+        ips.push(ip)?;
+    }
+    Ok(ips)
 }
 
 /// Reads the name of a transport. Returns `None` for any other word.

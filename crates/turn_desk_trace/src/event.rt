@@ -6,9 +6,9 @@ ghost use Rattle.std.specs.declared.net.socket_addr.SocketAddr.{SocketAddr};
 ghost use Rattle.stun_types_base.specs.declared.transport.TransportType.{TransportType};
 ghost use Rattle.turn_desk_event.specs.declared.event.ClientCall.{ClientCall};
 ghost use Rattle.turn_desk_event.specs.declared.event.Event.{Event};
-ghost use Rattle.turn_desk_trace.specs.Event.{IsBind, IsCall, IsEvent, IsTime, IsNoTime, IsPermission, IsPlacedIp, IsPlacedSocket, IsSend, IsToClient, IsToClientFrom, IsToClientOf, IsToDesk, IsToDeskFrom, IsToDeskOf, IsConnect, IsAllocated, IsClosed, IsSocket};
+ghost use Rattle.turn_desk_trace.specs.Event.{IsBind, IsCall, IsEvent, IsTime, IsNoTime, IsPermission, IsPermit, IsPlacedIp, IsPlacedSocket, IsSend, IsToClient, IsToClientFrom, IsToClientOf, IsToDesk, IsToDeskFrom, IsToDeskOf, IsConnect, IsAllocated, IsClosed, IsSocket};
 
-use crate::address::{read_address, read_ip, read_transport};
+use crate::address::{read_address, read_ip, read_ips, read_transport};
 use crate::bytes::read_bytes;
 use crate::decision::read_decision;
 use crate::named::Named;
@@ -35,6 +35,10 @@ pub fn read_event(alloc: Global, words: &[&str], answers: &[Named]) -> Result<Ev
         ["todesk", rest @ ..] => read_to_desk(alloc, rest, answers),
         ["toclient", rest @ ..] => read_to_client(alloc, rest, answers),
         ["send", rest @ ..] => match read_send(alloc, rest, answers) {
+            Ok((call, now)) => Ok(Event::Call(call, now)),
+            Err(error) => Err(error),
+        },
+        ["permit", rest @ ..] => match read_permit(alloc, rest) {
             Ok((call, now)) => Ok(Event::Call(call, now)),
             Err(error) => Err(error),
         },
@@ -220,8 +224,33 @@ fn read_send(
     }
 }
 
-/// Reads any call of the client except `send`, from its name and the words after it. Returns the
-/// call and its time.
+/// Reads the words after `permit`: a time, a transport, and IP addresses separated by commas.
+/// Returns the call and its time.
+fn read_permit(alloc: Global, words: &[&str]) -> Result<(ClientCall, Instant), LineError>
+    ensures ok { IfOk result (λ called. IsPermit (map (λ x. x.now) words.now) called.0 called.1) }
+    ensures bad { result ≡ Err LineError.Bad → (call : ClientCall) (time : ℕ)
+        → ¬ (IsPermit (map (λ x. x.now) words.now) call time) }
+{
+    let [now, transport, ips] = words else {
+        return Err(LineError::Bad);
+    };
+    let Some(now) = read_u64(now) else {
+        return Err(LineError::Bad);
+    };
+    let Some(transport) = read_transport(transport) else {
+        return Err(LineError::Bad);
+    };
+    match read_ips(alloc, ips) {
+        Ok(ips) => Ok((
+            ClientCall::CreatePermissions(transport, ips),
+            Instant::from_nanos(now),
+        )),
+        Err(error) => Err(error),
+    }
+}
+
+/// Reads any call of the client except `send` and `permit`, from its name and the words after it.
+/// Returns the call and its time.
 fn read_call(name: &str, words: &[&str]) -> Option<(ClientCall, Instant)>
     ensures { MatchOption result ((call : ClientCall) (time : ℕ)
         → ¬ (IsCall name.now (map (λ x. x.now) words.now) call time))

@@ -15,7 +15,7 @@ use Rattle.turn_desk_trace.specs.declared.look.Look.TheVariants.{Cause, Mapped, 
 use Rattle.turn_desk_trace.specs.declared.setup.Setup.{Setup as SettingUp}
 use Rattle.turn_desk_trace.specs.declared.setup.Setup.TheVariants.{Desk, User, Rto, Client}
 use Rattle.turn_desk_event.specs.declared.event.ClientCall.{ClientCall}
-use Rattle.turn_desk_event.specs.declared.event.ClientCall.TheVariants.{Poll, PollEvent, Delete, CreatePermission, HavePermission, Permissions, BindChannel, Channels, SendTo, PollRecv, ProtocolError, RelayedAddresses, TcpConnect, AllocatedTcpSocket, TcpClosed, Connections}
+use Rattle.turn_desk_event.specs.declared.event.ClientCall.TheVariants.{Poll, PollEvent, Delete, CreatePermission, CreatePermissions, HavePermission, Permissions, BindChannel, Channels, SendTo, PollRecv, ProtocolError, RelayedAddresses, TcpConnect, AllocatedTcpSocket, TcpClosed, Connections}
 use Rattle.turn_desk_event.specs.declared.event.Event.{Event as Happening}
 use Rattle.turn_desk_event.specs.declared.event.Event.TheVariants.{Call, Draw, ToClient, ToDesk}
 use Rattle.turn_desk_world.specs.Model.{World}
@@ -67,6 +67,7 @@ call_name name rest Poll time is = (ap begins_no_event is.0, ap is_client is.0)
 call_name name rest PollEvent time is = (ap begins_no_event is.0, ap is_client is.0)
 call_name name rest Delete time is = (ap begins_no_event is.0, ap is_client is.0)
 call_name name rest (CreatePermission transport ip) time is = (ap begins_no_event is.0, ap is_client is.0)
+call_name name rest (CreatePermissions transport ips) time is = absurd is
 call_name name rest (HavePermission transport ip) time is = (ap begins_no_event is.0, ap is_client is.0)
 call_name name rest (Permissions transport socket) time is = (ap begins_no_event is.0, ap is_client is.0)
 call_name name rest (BindChannel transport peer) time is = (ap begins_no_event is.0, ap is_client is.0)
@@ -84,7 +85,10 @@ event_name : (answers : List (List ℕ)) (name : List ℕ) (rest : List (List �
     → IsEventOf answers name rest event → (begins_no_event name ≡ false) × (is_client name ≡ is_of_client event)
 event_name answers name rest (Call call time) is = elim is [
   | inl plain ↦ call_name name rest call time plain
-  | inr send ↦ (ap begins_no_event send.0, ap is_client send.0)
+  | inr named ↦ elim named [
+    | inl send ↦ (ap begins_no_event send.0, ap is_client send.0)
+    | inr permit ↦ (ap begins_no_event permit.0, ap is_client permit.0)
+  ]
 ]
 event_name answers name rest (Draw time) is = (ap begins_no_event is.0, ap is_client is.0)
 event_name answers name rest (ToClient b f t n) is = (ap begins_no_event is.0, ap is_client is.0)

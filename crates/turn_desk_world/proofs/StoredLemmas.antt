@@ -131,7 +131,10 @@ same_event : (some others words : List (List ℕ)) (event : Happening) → AreNa
 same_event some others [] event alike is = is
 same_event some others (name ∷ rest) (Call call time) alike is = elim is [
   | inl plain ↦ inl plain
-  | inr send ↦ inr (send.0, same_send some others rest call time (All-tail (λ word. named_bytes some word ≡ named_bytes others word) name rest alike) send.1)
+  | inr named ↦ elim named [
+    | inl send ↦ inr (inl (send.0, same_send some others rest call time (All-tail (λ word. named_bytes some word ≡ named_bytes others word) name rest alike) send.1))
+    | inr permit ↦ inr (inr permit)
+  ]
 ]
 same_event some others (name ∷ rest) (Draw time) alike is = is
 same_event some others (name ∷ rest) (ToClient t f g n) alike is =

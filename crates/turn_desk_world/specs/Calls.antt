@@ -11,6 +11,7 @@ use Rattle.turn_client_proto_api.specs.declared.answer.TurnRecvRet.{TurnRecvRet}
 use Rattle.turn_client_proto_api.specs.declared.answer.TurnRecvRet.TheVariants as recv
 use Rattle.turn_client_proto_api.specs.declared.error.BindChannelError.TheVariants as not_bound
 use Rattle.turn_client_proto_api.specs.declared.error.CreatePermissionError.TheVariants as not_permitted
+use Rattle.turn_client_proto_api.specs.declared.error.CreatePermissionsError.TheVariants as none_permitted
 use Rattle.turn_client_proto_api.specs.declared.error.DeleteError.TheVariants as not_deleted
 use Rattle.turn_client_proto_api.specs.declared.error.SendError.TheVariants as not_sent
 use Rattle.turn_client_proto_api.specs.declared.answer.Socket5Tuple.{Socket5Tuple}
@@ -25,16 +26,16 @@ use Rattle.turn_client_proto.specs.Core.Deleting.{IsDeleteAnswered}
 use Rattle.turn_client_proto.specs.Timers.Drawing.{IsTransmitted}
 use Rattle.turn_client_proto_api.specs.Sent.{sent_of}
 use Rattle.turn_client_proto.specs.Core.Ending.{ended}
-use Rattle.turn_client_proto.specs.Core.Permitting.{IsPermissionAnswered}
+use Rattle.turn_client_proto.specs.Core.Permitting.{ArePermissionsAnswered, IsPermissionAnswered}
 use Rattle.turn_client_proto.specs.Timers.Polling.{IsPolled}
 use Rattle.turn_client_proto.specs.Recv.ClientState.{ClientState, Leaves, Protocol}
 use Rattle.turn_client_proto.specs.PayloadPart.Sending.{IsSendAnswered}
 use Rattle.turn_client_proto.specs.SocketsReported.{IsSocketReported}
 use Rattle.turn_desk_event.specs.declared.answer.Answer.{Answer}
 use Rattle.turn_desk_event.specs.declared.answer.Answer.TheVariants as answer
-use Rattle.turn_desk_event.specs.declared.answer.Refusal.TheVariants.{BindChannel as BindRefused, CreatePermission as PermissionRefused, Delete as DeleteRefused, Send as SendRefused, TcpAllocate as SocketRefused, TcpConnect as ConnectRefused}
+use Rattle.turn_desk_event.specs.declared.answer.Refusal.TheVariants.{BindChannel as BindRefused, CreatePermission as PermissionRefused, CreatePermissions as PermissionsRefused, Delete as DeleteRefused, Send as SendRefused, TcpAllocate as SocketRefused, TcpConnect as ConnectRefused}
 use Rattle.turn_desk_event.specs.declared.event.ClientCall.{ClientCall}
-use Rattle.turn_desk_event.specs.declared.event.ClientCall.TheVariants.{Poll, PollEvent, Delete, CreatePermission, HavePermission, Permissions, BindChannel, Channels, SendTo, PollRecv, ProtocolError, RelayedAddresses, TcpConnect, AllocatedTcpSocket, TcpClosed, Connections}
+use Rattle.turn_desk_event.specs.declared.event.ClientCall.TheVariants.{Poll, PollEvent, Delete, CreatePermission, CreatePermissions, HavePermission, Permissions, BindChannel, Channels, SendTo, PollRecv, ProtocolError, RelayedAddresses, TcpConnect, AllocatedTcpSocket, TcpClosed, Connections}
 
 -- ---- calls
 
@@ -66,6 +67,15 @@ IsPermissionReported answer.Done transport ip old now new = IsPermissionAnswered
 IsPermissionReported (answer.Refused (PermissionRefused error)) transport ip old now new =
     IsPermissionAnswered old transport ip now (Err error) new × (error ≢ not_permitted.NoMemory)
 IsPermissionReported _ transport ip old now new = ⊥
+
+-- `create_permissions`. Out of memory is not a result.
+abbrev pub ArePermissionsAnsweredAs : Answer → TransportType → List IpAddr → Protocol → ℕ → Protocol → Type 0
+ArePermissionsAnsweredAs answer.Done transport ips old now new =
+    ArePermissionsAnswered old transport ips now (Ok tt) new
+ArePermissionsAnsweredAs (answer.Refused (PermissionsRefused error)) transport ips old now new =
+    ArePermissionsAnswered old transport ips now (Err error) new
+    × (error ≢ none_permitted.Refused not_permitted.NoMemory)
+ArePermissionsAnsweredAs _ transport ips old now new = ⊥
 
 -- `have_permission`.
 abbrev pub IsHaveReported : Answer → TransportType → IpAddr → Protocol → Protocol → Type 0
@@ -131,6 +141,8 @@ IsCalled Poll answer old now new = IsPolledAs answer old now new
 IsCalled PollEvent answer old now new = IsEventReported answer old new
 IsCalled Delete answer old now new = IsDeleteReported answer old now new
 IsCalled (CreatePermission transport ip) answer old now new = IsPermissionReported answer transport ip old now new
+IsCalled (CreatePermissions transport ips) answer old now new =
+    ArePermissionsAnsweredAs answer transport ips.items old now new
 IsCalled (HavePermission transport ip) answer old now new = IsHaveReported answer transport ip old new
 IsCalled (Permissions transport relayed) answer old now new = ArePermissionsReported answer transport relayed old new
 IsCalled (BindChannel transport peer) answer old now new = IsBindReported answer transport peer old now new

@@ -3,7 +3,7 @@
 ghost use Rattle.std.specs.Prelude.{◌≡◌, IfOk};
 ghost use Rattle.turn_client_proto.specs.Clients.{stored_of};
 ghost use Rattle.turn_client_proto.specs.Recv.ClientState.{Leaves};
-ghost use Rattle.turn_desk_world.specs.Calls.{AreChannelsReported, ArePermissionsReported, IsBindReported, IsCallReported, IsDeleteReported, IsTransmittedAs, IsEventReported, IsFed, IsPermissionReported, IsPolledAs, IsRelayedReported, IsSendReported, IsWaitingReported, IsConnectReported, AreConnectionsReported, IsClosedReported, IsSocketTaken};
+ghost use Rattle.turn_desk_world.specs.Calls.{AreChannelsReported, ArePermissionsAnsweredAs, ArePermissionsReported, IsBindReported, IsCallReported, IsDeleteReported, IsTransmittedAs, IsEventReported, IsFed, IsPermissionReported, IsPolledAs, IsRelayedReported, IsSendReported, IsWaitingReported, IsConnectReported, AreConnectionsReported, IsClosedReported, IsSocketTaken};
 ghost use Rattle.turn_desk_world.specs.Runs.{IsAtClient, IsInRange, is_in_range};
 
 use crate::typed::proof_are_bytes;
@@ -19,8 +19,8 @@ use turn_client_proto::api::{CLIENT_END, TurnClientApi};
 use turn_client_proto::client::TurnClient;
 use turn_client_proto_api::answer::{Socket5Tuple, TurnPollRet, TurnRecvRet};
 use turn_client_proto_api::error::{
-    BindChannelError, CreatePermissionError, DeleteError, SendError, TcpAllocateError,
-    TcpConnectError,
+    BindChannelError, CreatePermissionError, CreatePermissionsError, DeleteError, SendError,
+    TcpAllocateError, TcpConnectError,
 };
 use turn_desk_event::answer::{Answer, Refusal};
 use turn_desk_event::event::ClientCall;
@@ -42,6 +42,9 @@ fn call(
         ClientCall::Delete => delete(client, now),
         ClientCall::CreatePermission(transport, ip) => {
             create_permission(client, *transport, *ip, now)
+        }
+        ClientCall::CreatePermissions(transport, ips) => {
+            create_permissions(client, *transport, ips.as_slice(), now)
         }
         ClientCall::HavePermission(transport, ip) => {
             Ok(Answer::Have(client.have_permission(*transport, *ip)))
@@ -135,6 +138,24 @@ fn create_permission(
         Ok(()) => Ok(Answer::Done),
         Err(CreatePermissionError::NoMemory) => Err(NoMemory),
         Err(error) => Ok(Answer::Refused(Refusal::CreatePermission(error))),
+    }
+}
+
+/// Calls `create_permissions`.
+fn create_permissions(
+    client: &mut TurnClient,
+    transport: TransportType,
+    ips: &[IpAddr],
+    now: Instant,
+) -> Result<Answer, NoMemory>
+    ensures { IfOk result (λ answer.
+        Leaves (λ p q. ArePermissionsAnsweredAs answer transport ips.now p now q)
+        (stored_of client.old) (stored_of client.new)) }
+{
+    match client.create_permissions(transport, ips, now) {
+        Ok(()) => Ok(Answer::Done),
+        Err(CreatePermissionsError::Refused(CreatePermissionError::NoMemory)) => Err(NoMemory),
+        Err(error) => Ok(Answer::Refused(Refusal::CreatePermissions(error))),
     }
 }
 

@@ -40,19 +40,19 @@ use Rattle.turn_client_proto_step_laws.proofs.Giving.{giving_step}
 use Rattle.turn_client_proto_step_laws.proofs.Polling.{poll_step}
 use Rattle.turn_client_proto_step_laws.proofs.Receiving.{receive_step}
 use Rattle.turn_client_proto_step_laws.proofs.Refreshing.{delete_step}
-use Rattle.turn_client_proto_step_laws.proofs.Requesting.{permission_step}
+use Rattle.turn_client_proto_step_laws.proofs.Requesting.{permission_step, permissions_step}
 use Rattle.turn_client_proto_step_laws.proofs.RequestingChannels.{bind_step}
 use Rattle.turn_client_proto_step_laws.proofs.Connecting.{connect_step}
 use Rattle.turn_client_proto_step_laws.proofs.Socketing.{close_step, socket_step}
 use Rattle.turn_client_proto_step_laws.proofs.Sending.{send_step}
 use Rattle.turn_desk_event.specs.declared.answer.Answer.{Answer}
 use Rattle.turn_desk_event.specs.declared.answer.Answer.TheVariants as answer
-use Rattle.turn_desk_event.specs.declared.answer.Refusal.TheVariants.{BindChannel as BindRefused, CreatePermission as PermissionRefused, Delete as DeleteRefused, Send as SendRefused, TcpConnect as ConnectRefused}
+use Rattle.turn_desk_event.specs.declared.answer.Refusal.TheVariants.{BindChannel as BindRefused, CreatePermission as PermissionRefused, CreatePermissions as PermissionsRefused, Delete as DeleteRefused, Send as SendRefused, TcpConnect as ConnectRefused}
 use Rattle.turn_desk_event.specs.declared.event.ClientCall.{ClientCall}
 use Rattle.turn_desk_event.specs.declared.event.ClientCall.TheVariants as call
 use Rattle.turn_desk_event.specs.declared.event.Event.{Event}
 use Rattle.turn_desk_event.specs.declared.event.Event.TheVariants as event
-use Rattle.turn_desk_world.specs.Calls.{AreChannelsReported, ArePermissionsReported, IsBindReported, IsCalled, IsDeleteReported, IsTransmittedAs, IsEndReported, IsEventReported, IsFed, IsHaveReported, IsPermissionReported, IsPolledAs, IsRelayedReported, IsSendReported, IsReported, IsConnectReported, AreConnectionsReported, IsClosedReported}
+use Rattle.turn_desk_world.specs.Calls.{AreChannelsReported, ArePermissionsAnsweredAs, ArePermissionsReported, IsBindReported, IsCalled, IsDeleteReported, IsTransmittedAs, IsEndReported, IsEventReported, IsFed, IsHaveReported, IsPermissionReported, IsPolledAs, IsRelayedReported, IsSendReported, IsReported, IsConnectReported, AreConnectionsReported, IsClosedReported}
 use Rattle.turn_desk_world_laws.specs.Reported.{IsFairEvent, arriving, bytes_transmitted, data_of, given_by, given_of, notices_in, payloads_in}
 use Rattle.turn_desk_world_laws.proofs.Delivered.{delivered}
 use Rattle.turn_desk_world_laws.proofs.Visible.{AreHeld, channels_held, connections_held, had_is_held, permissions_held, relayed_held}
@@ -102,6 +102,11 @@ module _ (what : ClientCall) (c : Client) (sound : IsSound c) (now : ℕ) (new :
   permission_reported transport ip answer.Done is = by_call answer.Done (permission_step c transport ip now (Ok tt) new sound is) (λ h i. absurd i)
   permission_reported transport ip (answer.Refused (PermissionRefused error)) is = by_call (answer.Refused (PermissionRefused error)) (permission_step c transport ip now (Err error) new sound is.0) (λ h i. absurd i)
   permission_reported transport ip _ is = absurd is
+
+  permissions_answered : (transport : TransportType) (ips : List IpAddr) (ret : Answer) → ArePermissionsAnsweredAs ret transport ips c.core now new → IsAnswered happening c ret new
+  permissions_answered transport ips answer.Done is = by_call answer.Done (permissions_step c transport ips now (Ok tt) new sound is) (λ h i. absurd i)
+  permissions_answered transport ips (answer.Refused (PermissionsRefused error)) is = by_call (answer.Refused (PermissionsRefused error)) (permissions_step c transport ips now (Err error) new sound is.0) (λ h i. absurd i)
+  permissions_answered transport ips _ is = absurd is
 
   bind_reported : (transport : TransportType) (peer : SocketAddr) → IsWhole peer → (ret : Answer) → IsBindReported ret transport peer c.core now new → IsAnswered happening c ret new
   bind_reported transport peer whole answer.Done is = by_call answer.Done (bind_step c transport peer now whole (Ok tt) new sound is) (λ h i. absurd i)
@@ -168,6 +173,7 @@ module _ (c : Client) (sound : IsSound c) (now : ℕ) (new : Protocol) where
   called call.PollEvent ret fair is = event_reported call.PollEvent c sound now new ret is
   called call.Delete ret fair is = delete_reported call.Delete c sound now new ret is
   called (call.CreatePermission transport ip) ret fair is = permission_reported (call.CreatePermission transport ip) c sound now new transport ip ret is
+  called (call.CreatePermissions transport ips) ret fair is = permissions_answered (call.CreatePermissions transport ips) c sound now new transport ips.items ret is
   called (call.HavePermission transport ip) ret fair is = have_reported transport ip ret is
   called (call.Permissions transport relayed) ret fair is = permissions_reported transport relayed ret is
   called (call.BindChannel transport peer) ret fair is = bind_reported (call.BindChannel transport peer) c sound now new transport peer fair ret is

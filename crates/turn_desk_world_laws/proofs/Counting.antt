@@ -310,6 +310,7 @@ module _ (stored : ClientState) (ret : Answer) (first first' last last' : Client
   call_alike call.PollEvent now a b = one_alike (Call call.PollEvent now) a b
   call_alike call.Delete now a b = one_alike (Call call.Delete now) a b
   call_alike (call.CreatePermission transport ip) now a b = one_alike (Call (call.CreatePermission transport ip) now) a b
+  call_alike (call.CreatePermissions transport ips) now a b = one_alike (Call (call.CreatePermissions transport ips) now) a b
   call_alike (call.HavePermission transport ip) now a b = one_alike (Call (call.HavePermission transport ip) now) a b
   call_alike (call.Permissions transport relayed) now a b = one_alike (Call (call.Permissions transport relayed) now) a b
   call_alike (call.BindChannel transport peer) now a b = one_alike (Call (call.BindChannel transport peer) now) a b

@@ -19,6 +19,8 @@ use Rattle.turn_desk_event.specs.TurnClientProtoApi.declared.error.TcpConnectErr
 use Rattle.turn_desk_event.specs.TurnClientProtoApi.declared.error.BindChannelError.TheVariants as not_bound
 use Rattle.turn_desk_event.specs.TurnClientProtoApi.declared.error.CreatePermissionError.{CreatePermissionError}
 use Rattle.turn_desk_event.specs.TurnClientProtoApi.declared.error.CreatePermissionError.TheVariants as not_permitted
+use Rattle.turn_desk_event.specs.TurnClientProtoApi.declared.error.CreatePermissionsError.{CreatePermissionsError}
+use Rattle.turn_desk_event.specs.TurnClientProtoApi.declared.error.CreatePermissionsError.TheVariants as none_permitted
 use Rattle.turn_desk_event.specs.TurnClientProtoApi.declared.error.DeleteError.{DeleteError}
 use Rattle.turn_desk_event.specs.TurnClientProtoApi.declared.error.DeleteError.TheVariants as not_deleted
 use Rattle.turn_desk_event.specs.TurnClientProtoApi.declared.error.SendError.{SendError}
@@ -34,11 +36,11 @@ use Rattle.turn_client_proto_step_laws.specs.Recv.ClientState.{ClientState, Leav
 use Rattle.turn_client_proto_step_laws.specs.Recv.Receipts.{IsFirstGiven, IsGivenBy, IsStreamRequested}
 use Rattle.turn_client_proto_step_laws.specs.Recv.SocketChunks.{raw_waiting}
 use Rattle.turn_client_proto_step_laws.proofs.OneReading.{pulled_same}
-use Rattle.turn_desk_world.specs.TurnClientProtoCore.Permitting.{IsPermissionAnswered}
+use Rattle.turn_desk_world.specs.TurnClientProtoCore.Permitting.{ArePermissionsAnswered, IsPermissionAnswered}
 use Rattle.turn_client_proto_step_laws.specs.Timers.Polling.{IsPolled}
 use Rattle.turn_desk_world_laws.specs.Copies.{AreAlike, BothData, BothGivenBack, BothHandled, BothReports, IsCopy}
 use Rattle.turn_client_proto_step_laws.proofs.Lists.{inside}
-use Rattle.turn_client_proto_step_laws.proofs.Once.Calling.{delete_same, permission_same}
+use Rattle.turn_client_proto_step_laws.proofs.Once.Calling.{delete_same, permission_same, permissions_same}
 use Rattle.turn_client_proto_step_laws.proofs.Once.Channels.{bind_same}
 use Rattle.turn_client_proto_step_laws.proofs.Once.Connecting.{connect_same}
 use Rattle.turn_client_proto_step_laws.proofs.Once.Drawing.{draw_same}
@@ -48,10 +50,10 @@ use Rattle.turn_client_proto_step_laws.proofs.Once.Sockets.{socket_same}
 use Rattle.turn_desk_world_laws.proofs.Receiving.{stored_same, received_same}
 use Rattle.turn_desk_event.specs.declared.answer.Answer.{Answer}
 use Rattle.turn_desk_event.specs.declared.answer.Answer.TheVariants as answer
-use Rattle.turn_desk_event.specs.declared.answer.Refusal.TheVariants.{BindChannel as BindRefused, CreatePermission as PermissionRefused, Delete as DeleteRefused, Send as SendRefused, TcpAllocate as SocketRefused, TcpConnect as ConnectRefused}
+use Rattle.turn_desk_event.specs.declared.answer.Refusal.TheVariants.{BindChannel as BindRefused, CreatePermission as PermissionRefused, CreatePermissions as PermissionsRefused, Delete as DeleteRefused, Send as SendRefused, TcpAllocate as SocketRefused, TcpConnect as ConnectRefused}
 use Rattle.turn_desk_event.specs.declared.event.ClientCall.{ClientCall}
 use Rattle.turn_desk_event.specs.declared.event.ClientCall.TheVariants as call
-use Rattle.turn_desk_world.specs.Calls.{AreChannelsReported, ArePermissionsReported, IsBindReported, IsCallReported, IsCalled, IsDeleteReported, IsTransmittedAs, IsEndReported, IsEventReported, IsFed, IsHaveReported, IsPermissionReported, IsPolledAs, IsRelayedReported, IsSendReported, IsReported, IsWaitingReported, IsConnectReported, AreConnectionsReported, IsClosedReported, IsSocketTaken, own_tuple}
+use Rattle.turn_desk_world.specs.Calls.{AreChannelsReported, ArePermissionsAnsweredAs, ArePermissionsReported, IsBindReported, IsCallReported, IsCalled, IsDeleteReported, IsTransmittedAs, IsEndReported, IsEventReported, IsFed, IsHaveReported, IsPermissionReported, IsPolledAs, IsRelayedReported, IsSendReported, IsReported, IsWaitingReported, IsConnectReported, AreConnectionsReported, IsClosedReported, IsSocketTaken, own_tuple}
 use Rattle.turn_desk_world.specs.Determined.{IsSame}
 use Rattle.turn_desk_world.specs.Runs.{IsAtClient, IsInRange, is_in_range}
 
@@ -130,6 +132,10 @@ abbrev answer_of_permission : Result (Unit {0}) CreatePermissionError → Answer
 answer_of_permission (Ok x) = answer.Done
 answer_of_permission (Err error) = answer.Refused (PermissionRefused error)
 
+abbrev answer_of_permissions : Result (Unit {0}) CreatePermissionsError → Answer
+answer_of_permissions (Ok x) = answer.Done
+answer_of_permissions (Err error) = answer.Refused (PermissionsRefused error)
+
 abbrev answer_of_binding : Result (Unit {0}) BindChannelError → Answer
 answer_of_binding (Ok x) = answer.Done
 answer_of_binding (Err error) = answer.Refused (BindRefused error)
@@ -166,6 +172,23 @@ module _ (old : Protocol) (now : ℕ) where
     permits : IsDefinite Permits
     unfolding IsDefinite
     permits one other new left a b = permission_same old transport ip now one other new left a.0 b.0 a.1 b.1
+
+  module _ (transport : TransportType) (ips : List IpAddr) where
+    abbrev Allows : Result (Unit {0}) CreatePermissionsError → Protocol → Type 0
+    Allows ret new = (ret ≢ Err (none_permitted.Refused not_permitted.NoMemory)) × ArePermissionsAnswered old transport ips now ret new
+
+    by_permissions : (ret : Answer) (new : Protocol) → ArePermissionsAnsweredAs ret transport ips old now new → IsBy answer_of_permissions Allows ret new
+    by_permissions answer.Done new is = record { given = Ok tt; gives = ((λ e. Prim.cc e), is); reported = refl }
+    by_permissions (answer.Refused (PermissionsRefused error)) new is = record {
+      given = Err error;
+      gives = ((λ e. is.1 (inside_err error (none_permitted.Refused not_permitted.NoMemory) (Err error) (Err (none_permitted.Refused not_permitted.NoMemory)) refl refl e)), is.0);
+      reported = refl;
+    }
+    by_permissions _ new is = absurd is
+
+    allows : IsDefinite Allows
+    unfolding IsDefinite
+    allows one other new left a b = permissions_same old transport ips now one other new left a.0 b.0 a.1 b.1
 
   module _ (transport : TransportType) (peer : SocketAddr) where
     abbrev Binds : Result (Unit {0}) BindChannelError → Protocol → Type 0
@@ -270,6 +293,8 @@ called call.PollEvent old now ret again new other a b = event_reported old ret a
 called call.Delete old now ret again new other a b = by_definite answer_of_deletion (Deletes old now) (deletes old now) ret again new other (by_deletion old now ret new a) (by_deletion old now again other b)
 called (call.CreatePermission transport ip) old now ret again new other a b =
     by_definite answer_of_permission (Permits old now transport ip) (permits old now transport ip) ret again new other (by_permission old now transport ip ret new a) (by_permission old now transport ip again other b)
+called (call.CreatePermissions transport ips) old now ret again new other a b =
+    by_definite answer_of_permissions (Allows old now transport ips.items) (allows old now transport ips.items) ret again new other (by_permissions old now transport ips.items ret new a) (by_permissions old now transport ips.items again other b)
 called (call.HavePermission transport ip) old now ret again new other a b = have_reported transport ip old ret again new other a b
 called (call.Permissions transport relayed) old now ret again new other a b = permissions_reported transport relayed old ret again new other a b
 called (call.BindChannel transport peer) old now ret again new other a b =
@@ -365,6 +390,7 @@ called_once call.Poll old now ret again new other a b = left_once call.Poll old 
 called_once call.PollEvent old now ret again new other a b = left_once call.PollEvent old now ret again new other a b
 called_once call.Delete old now ret again new other a b = left_once call.Delete old now ret again new other a b
 called_once (call.CreatePermission transport ip) old now ret again new other a b = left_once (call.CreatePermission transport ip) old now ret again new other a b
+called_once (call.CreatePermissions transport ips) old now ret again new other a b = left_once (call.CreatePermissions transport ips) old now ret again new other a b
 called_once (call.HavePermission transport ip) old now ret again new other a b = left_once (call.HavePermission transport ip) old now ret again new other a b
 called_once (call.Permissions transport relayed) old now ret again new other a b = left_once (call.Permissions transport relayed) old now ret again new other a b
 called_once (call.BindChannel transport peer) old now ret again new other a b = left_once (call.BindChannel transport peer) old now ret again new other a b

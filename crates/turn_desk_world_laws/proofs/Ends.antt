@@ -92,6 +92,7 @@ module _ (stored : ClientState) (ret : Answer) (first last : Client) (calls : Li
   call_ends call.PollEvent now is = one_ends first last _ calls is
   call_ends call.Delete now is = one_ends first last _ calls is
   call_ends (call.CreatePermission transport ip) now is = one_ends first last _ calls is
+  call_ends (call.CreatePermissions transport ips) now is = one_ends first last _ calls is
   call_ends (call.HavePermission transport ip) now is = one_ends first last _ calls is
   call_ends (call.Permissions transport relayed) now is = one_ends first last _ calls is
   call_ends (call.BindChannel transport peer) now is = one_ends first last _ calls is

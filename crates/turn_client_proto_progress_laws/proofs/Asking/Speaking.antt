@@ -1,6 +1,6 @@
 -- An established client stays so in `poll_transmit`, `poll` and other calls.
-use Rattle.std.proofs.Common.{◌≡◌, ◌≢◌, ℕ, Bool, List, [], ◌∷◌, ◌++◌, map, Option, Some, None, refl, sym, ap, ◌∙◌, subst, inl, inr}
-use Rattle.std.specs.Prelude.{MatchOption, MatchResult, IfNone, IfSome, Result, Ok, Err, find, filter}
+use Rattle.std.proofs.Common.{◌≡◌, ◌≢◌, ℕ, Bool, true, false, List, [], ◌∷◌, ◌++◌, map, Option, Some, None, refl, sym, ap, ◌∙◌, subst, inl, inr}
+use Rattle.std.specs.Prelude.{MatchBool, MatchOption, MatchResult, IfNone, IfSome, Result, Ok, Err, find, filter}
 use Rattle.std.specs.List.{list_any}
 use Rattle.std.specs.Net.Socket.{socket_ip}
 use Rattle.std.specs.declared.net.ip_addr.IpAddr.{IpAddr}
@@ -21,6 +21,8 @@ use Rattle.turn_client_proto_messages.specs.Api.declared.error.BindChannelError.
 use Rattle.turn_client_proto_messages.specs.Api.declared.error.BindChannelError.TheVariants as not_bound
 use Rattle.turn_client_proto_messages.specs.Api.declared.error.CreatePermissionError.{CreatePermissionError}
 use Rattle.turn_client_proto_messages.specs.Api.declared.error.CreatePermissionError.TheVariants as not_permitted
+use Rattle.turn_client_proto_messages.specs.Api.declared.error.CreatePermissionsError.{CreatePermissionsError}
+use Rattle.turn_client_proto_messages.specs.Api.declared.error.CreatePermissionsError.TheVariants as none_permitted
 use Rattle.turn_client_proto_messages.specs.Api.declared.event.TurnEvent.{TurnEvent}
 use Rattle.turn_client_proto_step_laws.specs.Peers.Channel.Binding as channel_asking
 use Rattle.turn_client_proto_step_laws.specs.Peers.Channel.Expiring as channels
@@ -33,7 +35,7 @@ use Rattle.turn_client_proto_messages.specs.StunProtoAgent.declared.agent.StunAg
 use Rattle.turn_client_proto_handshake_laws.specs.Core.Asking.{requested}
 use Rattle.turn_client_proto_handshake_laws.specs.Core.Binding.{IsBindAnswered, IsBindTried, IsChannelRequested, after_binding, allocation_to, asking_channel, bind_refusal, bind_refused_in, permission_beside}
 use Rattle.turn_client_proto_handshake_laws.specs.Core.Numbering.{after_number}
-use Rattle.turn_client_proto_handshake_laws.specs.Core.Permitting.{IsPermissionAnswered, IsPermissionRequested, after_asking as after_permission, allocation_for, permission_refusal, refused_in}
+use Rattle.turn_client_proto_handshake_laws.specs.Core.Permitting.{AreAnsweredAmong, AreInvalid, ArePermissionsAnswered, IsAnsweredAmong, IsPermissionAnswered, IsPermissionRequested, after_asking as after_permission, allocation_for, as_several, may_name, permissions_refusal, refused_in}
 use Rattle.turn_client_proto_messages.specs.Waiting.{Queued, is_answer}
 use Rattle.turn_client_proto_handshake_laws.specs.Core.declared.protocol.Phase.{Phase}
 use Rattle.turn_client_proto_handshake_laws.specs.Core.declared.protocol.Phase.TheVariants.{Initial, InitialSent, Authenticating, Authenticated, Ended}
@@ -272,21 +274,34 @@ module _ (b : Beginning) (realm : List ℕ) (address : SocketAddr) (p : Protocol
     | inr not ↦ rw not is
   ]
 
-  permission_made : (transport : TransportType) (ip : IpAddr) (at : ℕ) (q : Protocol) → IsPermissionRequested p transport ip [] at q → Speaking q
-  unfolding after_permission requested
-  permission_made transport ip at q r = subst (λ (y : Protocol). Speaking y) (sym r.after)
-      (made_so (after_permission transport ip [] r.number at p) at (is_of transport (family_of_ip ip)) (permission_asking.asking (record { ip = ip; others = []; numbers = r.number ∷ [] })) (λ a. record { transport = refl; address = refl })
-      (record { remote = refl; transport = refl; here = refl; waits = refl }) refl refl refl refl refl refl)
+  module _ (transport : TransportType) (ip : IpAddr) (others : List IpAddr) (at : ℕ) where
+    permissions_made : (q : Protocol) → IsPermissionRequested p transport ip others at q → Speaking q
+    unfolding after_permission requested
+    permissions_made q r = subst (λ (y : Protocol). Speaking y) (sym r.after)
+        (made_so (after_permission transport ip others r.number at p) at (is_of transport (family_of_ip ip)) (permission_asking.asking (record { ip = ip; others = others; numbers = r.number ∷ [] })) (λ a. record { transport = refl; address = refl })
+        (record { remote = refl; transport = refl; here = refl; waits = refl }) refl refl refl refl refl refl)
 
-  permission_by : (transport : TransportType) (ip : IpAddr) (at : ℕ) (ret : Result (Unit {0}) CreatePermissionError) (q : Protocol) (refusal : Option CreatePermissionError) → ret ≢ Err not_permitted.NoMemory
-      → IfSome refusal (λ error. (ret ≡ Err error) × (q ≡ refused_in (allocation_for transport ip p) transport ip at p))
-      → IfNone refusal (MatchResult ret (λ _. IsPermissionRequested p transport ip [] at q) (λ error. (error ≡ not_permitted.NoMemory) × (q ≡ after_number p))) → Speaking q
-  permission_by transport ip at ret q (Some error) ample refused made = subst (λ (y : Protocol). Speaking y) (sym refused.1) (refused_so transport ip at (allocation_for transport ip p))
-  permission_by transport ip at (Ok done) q None ample refused made = permission_made transport ip at q made
-  permission_by transport ip at (Err error) q None ample refused made = absurd (ample (ap Err made.0))
+    permissions_by : (ret : Result (Unit {0}) CreatePermissionError) (q : Protocol) (refusal : Option CreatePermissionError) → ret ≢ Err not_permitted.NoMemory
+        → IfSome refusal (λ error. (ret ≡ Err error) × (q ≡ refused_in (allocation_for transport ip p) transport ip at p))
+        → IfNone refusal (MatchResult ret (λ _. IsPermissionRequested p transport ip others at q) (λ error. (error ≡ not_permitted.NoMemory) × (q ≡ after_number p))) → Speaking q
+    permissions_by ret q (Some error) ample refused made = subst (λ (y : Protocol). Speaking y) (sym refused.1) (refused_so transport ip at (allocation_for transport ip p))
+    permissions_by (Ok done) q None ample refused made = permissions_made q made
+    permissions_by (Err error) q None ample refused made = absurd (ample (ap Err made.0))
+
+    among_speaks : (ret : Result (Unit {0}) CreatePermissionError) (q : Protocol) → ret ≢ Err not_permitted.NoMemory → IsAnsweredAmong p transport ip others at ret q → Speaking q
+    among_speaks ret q ample r = permissions_by ret q (permissions_refusal p transport ip others at) ample r.refused r.requested
+
+    several_speaks : (may : Bool) (ret : Result (Unit {0}) CreatePermissionsError) (q : Protocol) → ret ≢ Err (none_permitted.Refused not_permitted.NoMemory)
+        → MatchBool may (AreAnsweredAmong p transport ip others at ret q) (AreInvalid p ret q) → Speaking q
+    several_speaks true ret q ample r = among_speaks r.among q (λ e. ample (r.is ∙ ap as_several e)) r.answered
+    several_speaks false ret q ample r = unchanged q r.1
 
   pub permission_speaks : (transport : TransportType) (ip : IpAddr) (at : ℕ) (ret : Result (Unit {0}) CreatePermissionError) (q : Protocol) → ret ≢ Err not_permitted.NoMemory → IsPermissionAnswered p transport ip at ret q → Speaking q
-  permission_speaks transport ip at ret q ample r = permission_by transport ip at ret q (permission_refusal p transport ip at) ample r.refused r.requested
+  permission_speaks transport ip at ret q ample r = among_speaks transport ip [] at ret q ample r
+
+  pub permissions_speak : (transport : TransportType) (ips : List IpAddr) (at : ℕ) (ret : Result (Unit {0}) CreatePermissionsError) (q : Protocol) → ret ≢ Err (none_permitted.Refused not_permitted.NoMemory) → ArePermissionsAnswered p transport ips at ret q → Speaking q
+  permissions_speak transport [] at ret q ample r = unchanged q r.1
+  permissions_speak transport (ip ∷ others) at ret q ample r = several_speaks transport ip others at (may_name ip others) ret q ample r
 
   bind_refused_so : (transport : TransportType) (peer : SocketAddr) (at : ℕ) (found : Option Allocation) → Speaking (bind_refused_in found transport peer at p)
   bind_refused_so transport peer at None = is
