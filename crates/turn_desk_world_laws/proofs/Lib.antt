@@ -15,6 +15,11 @@ pub mod Delivered
 pub mod Once
 pub mod Receiving
 pub mod Safe
+pub mod SendsGranted
+pub mod SendsMeant
+pub mod SendsOne
+pub mod SendsRead
+pub mod SendsStored
 pub mod Visible
 pub mod Sides
 pub mod SocketOnce

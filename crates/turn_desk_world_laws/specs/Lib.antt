@@ -3,6 +3,7 @@ pub mod Copies
 pub mod Ends
 pub mod Numbers
 pub mod Safety
+pub mod Sending
 pub mod SocketCalls
 pub mod Reported
 -- Crates that build on this one reach these definitions through it.
