@@ -178,7 +178,9 @@ class Course:
         t, peer, now = self.transport, self.peer, self.now
         host = peer.rsplit(":", 1)[0].strip("[]")
         if self.aim in ("permission", "connection") and self.steps % 4 == 0:
-            self.say(f"permission {now} {t} {host}")
+            others = self.dice.sample(HOSTS, 2) if self.dice.random() < 0.4 else []
+            same = [it for it in others if (":" in it) == (":" in host)]
+            self.say(f"permit {now} {t} {','.join([host, *same])}" if others else f"permission {now} {t} {host}")
         elif self.aim == "channel" and self.steps % 4 == 0:
             self.say(f"bind {now} {t} {peer}")
         elif self.aim == "connection":
@@ -235,7 +237,10 @@ class Course:
         t = t if dice.random() < 0.97 else "udp"
         word = dice.choice(("permission", "bind", "connect", "send", "send", "other"))
         peer = self.peer if dice.random() < 0.5 else dice.choice(PEERS)
-        if word == "permission":
+        if word == "permission" and dice.random() < 0.5:
+            hosts = dice.choices(HOSTS, k=dice.choice((1, 2, 2, 3, 33)))
+            self.say(f"permit {now} {t} {','.join(hosts)}")
+        elif word == "permission":
             self.say(f"permission {now} {t} {dice.choice(HOSTS)}")
         elif word == "bind":
             self.say(f"bind {now} {t} {peer}")

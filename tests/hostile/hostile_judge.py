@@ -30,6 +30,7 @@ BAD = "# The last line is bad"
 REFUSED = {
     "delete": "NoAllocation",
     "permission": "NoAllocation|AlreadyExists",
+    "permit": "InvalidAddresses|NoAllocation|AlreadyExists",
     "bind": r"NoAllocation|AlreadyExists|ExpiredChannelExists \d+|NoChannel",
     "send": "NoPermission|NoTcpSocket|TooLarge",
     "connect": "NoAllocation|NoPermission|AlreadyExists",
@@ -336,7 +337,7 @@ class Judge:
     def nothing(self, words, told, value):
         """Any answer of a lawful form will do."""
 
-    on_permission = on_bind = on_connect = on_delete = on_closed = nothing
+    on_permission = on_permit = on_bind = on_connect = on_delete = on_closed = nothing
 
 
 def fault(trace, answers, status):
