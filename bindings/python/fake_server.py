@@ -13,7 +13,7 @@ import importlib
 import socket
 import struct
 import sys
-from collections.abc import Callable
+from collections.abc import Callable, Iterator
 from pathlib import Path
 from ssl import SSLContext
 from typing import Any
@@ -26,14 +26,18 @@ HEADER = 20
 Send = Callable[[bytes], None]
 
 
-def attributes(text: bytes) -> dict[int, tuple[int, bytes]]:
-    """Where each attribute of a message stands, and its value, by its type."""
-    at, found = HEADER, {}
+def in_order(text: bytes) -> Iterator[tuple[int, int, bytes]]:
+    """The type of each attribute of a message, where it stands, and its value."""
+    at = HEADER
     while at + 4 <= len(text):
         kind, size = struct.unpack_from(">HH", text, at)
-        found[kind] = at, text[at + 4 : at + 4 + size]
+        yield kind, at, text[at + 4 : at + 4 + size]
         at += 4 + size + -size % 4
-    return found
+
+
+def attributes(text: bytes) -> dict[int, tuple[int, bytes]]:
+    """Where each attribute of a message stands, and its value, by its type."""
+    return {kind: (at, value) for kind, at, value in in_order(text)}
 
 
 def is_signed(text: bytes, told: dict[int, tuple[int, bytes]]) -> bool:
@@ -56,18 +60,27 @@ def address(value: bytes, transaction: bytes) -> str:
     return f"{socket.inet_ntop(socket.AF_INET, octets)}:{port}"
 
 
+def hosts(text: bytes) -> list[str]:
+    """What each XOR-PEER-ADDRESS of a message says, without the port."""
+    peers = [value for kind, _, value in in_order(text) if kind == base.PEER]
+    return [address(it, text[8:HEADER]).rpartition(":")[0] for it in peers]
+
+
 class FakeServer:
     """What is set decides what it answers: `rejects` names an error code by the method of the requests that get it
-    (401 as to a wrong password), `silent` the methods whose requests get nothing, `elsewhere` the server that it names by a response 300."""
+    (401 as to a wrong password), `denies` hosts for which a CREATE_PERMISSION gets a 403, `silent` the methods whose
+    requests get nothing, `elsewhere` the server that it names by a response 300."""
 
     def __init__(self) -> None:
         self.rejects: dict[int, int] = {}
+        self.denies: set[str] = set()
         self.silent: set[int] = set()
         self.elsewhere: str | None = None
         self.echoes = True
         self.chunk = 0                                    # bytes that are written at once over TCP; 0: all
         self.greeting = b""                               # what a peer sends as soon as its connection is bound
         self.requests: list[int] = []                     # the methods of signed requests
+        self.permissions: list[list[str]] = []            # the hosts of signed CREATE_PERMISSIONs
         self.lifetimes: list[int] = []                    # of signed REFRESHs
         self.unsigned = 0                                 # requests that weren't signed
         self.payloads: list[tuple[str, bytes, bool]] = []  # peer, data, and whether by a channel
@@ -141,6 +154,8 @@ class FakeServer:
             self._challenges(kind, transaction, send)
         elif kind not in self.silent:
             self.requests.append(kind)
+            if kind == base.CREATE_PERMISSION:
+                self.permissions.append(hosts(text))
             self._answers(kind, transaction, told, send, source)
 
     def _challenges(self, method: int, transaction: bytes, send: Send) -> None:
@@ -156,8 +171,9 @@ class FakeServer:
         if self.rejects.get(method) == 401:
             self._challenges(method, transaction, send)
             return
-        if method in self.rejects:
-            rejection = [base.code(self.rejects[method], b"No\tway")]
+        is_denied = method == base.CREATE_PERMISSION and not self.denies.isdisjoint(self.permissions[-1])
+        if method in self.rejects or is_denied:
+            rejection = [base.code(self.rejects.get(method, 403), b"No\tway")]
             send(base.message(method | base.ERROR, transaction, rejection, base.BY_SHA1))
             return
         given: list[tuple[int, bytes]] = []

@@ -100,6 +100,11 @@ class Case(unittest.IsolatedAsyncioTestCase):
         return transport, protocol
 
 
+def several(*last: int) -> list[str]:
+    """Hosts 198.51.100.K."""
+    return [f"198.51.100.{it}" for it in last]
+
+
 async def comes(protocol: Notes, data: bytes) -> None:
     """Waits until the last payload that came is this one, of the peer."""
     await until(lambda: protocol.came and protocol.came[-1] == (data, PEER))
@@ -180,6 +185,53 @@ class Datagrams(Case):
         await transport.permit("198.51.100.1")
         self.assertEqual(self.server.count(base.CREATE_PERMISSION), 1)
 
+    async def test_permit_several(self) -> None:
+        """Those that are permitted already aren't asked for again."""
+        for is_stream in (False, True):
+            self.server.permissions.clear()
+            transport, protocol = await self.endpoint(is_stream=is_stream)
+            await transport.permit("198.51.100.2")
+            for _ in range(2):
+                await asyncio.wait_for(transport.permit_several(iter(several(1, 2, 1, 3, 2))), PATIENCE)
+            await transport.permit("198.51.100.3")
+            self.server.brings(base.data("198.51.100.3:9000", b"hello"))
+            await until(lambda: protocol.came)
+            self.assertEqual(self.server.permissions, [several(2), several(1, 3)])
+
+    async def test_permit_as_many_as_may_be(self) -> None:
+        transport, _ = await self.endpoint()
+        hosts = several(*range(turn.PERMIT_MAX))
+        await transport.permit_several(hosts + hosts)
+        self.assertEqual(self.server.permissions, [hosts])
+
+    async def test_permit_several_that_others_wait_for(self) -> None:
+        """A permission that a datagram or another task waits for isn't asked for again."""
+        transport, protocol = await self.endpoint()
+        transport.sendto(b"one", PEER)
+        waiting = asyncio.gather(transport.permit("198.51.100.2"), transport.permit_several(several(3, 1, 2, 4)),
+                                 transport.permit_several(several(4, 5, 6)))
+        await asyncio.wait_for(waiting, PATIENCE)
+        self.assertEqual(self.server.permissions, [several(1), several(2), several(3, 4), several(5, 6)])
+        await comes(protocol, b"one")
+
+    async def test_permit_several_of_which_one_is_not_noted(self) -> None:
+        """It is asked for after a response that rejects it, and before what that causes is followed."""
+        self.server.denies.add(PEER[0])
+        transport, _ = await self.endpoint()
+        follow = transport._follow
+
+        def asks_again(event: Any, cause: Any) -> None:
+            if isinstance(event, turn.PermissionCreateFailed):
+                self.server.denies.clear()
+                transport._client.create_permission(turn.Transport.UDP, PEER[0], time.monotonic_ns())
+            follow(event, cause)
+
+        with mock.patch.object(transport, "_follow", asks_again):
+            with self.assertRaises(over.PeerRefused):
+                await transport.permit(PEER[0])
+        await asyncio.wait_for(transport.permit_several(several(1, 2)), PATIENCE)
+        self.assertEqual(self.server.permissions, [several(1), several(1), several(2)])
+
     async def test_an_icmp_report(self) -> None:
         transport, protocol = await self.endpoint()
         await transport.permit(PEER[0])
@@ -196,6 +248,17 @@ class Datagrams(Case):
                 transport.sendto(b"", addr)
         with self.assertRaises(TypeError):
             transport.sendto("text", PEER)
+        for hosts in (["198.51.100.1", "example.org"], "198.51.100.1"):
+            with self.assertRaises(ValueError):
+                await transport.permit_several(hosts)
+        for hosts in ([], several(*range(turn.PERMIT_MAX + 1)), [PEER[0], "2001:db8::7"]):
+            with self.assertRaises(turn.InvalidAddresses):
+                await transport.permit_several(hosts)
+        with self.assertRaises(over.PeerRefused) as refused:  # there is no relayed address of IPv6
+            await transport.permit_several(["2001:db8::7", "2001:db8::8"])
+        self.assertEqual((refused.exception.peer, refused.exception.cause), ("2001:db8::7", None))
+        await asyncio.sleep(0.1)
+        self.assertEqual(self.server.permissions, [])
         await transport.permit(PEER[0])
         transport.sendto(bytes(turn.PAYLOAD_MAX + 1), PEER)
         self.assertEqual([getattr(it, "errno", None) for it in protocol.errors], [errno.EMSGSIZE])
@@ -329,6 +392,19 @@ class Failures(Case):
         await until(lambda: protocol.came)
         self.assertEqual(protocol.came, [(b"three", PEER)])
 
+    async def test_several_of_which_one_is_denied(self) -> None:
+        """The server rejects what is asked for with it."""
+        self.server.denies.add("198.51.100.3")
+        transport, protocol = await self.endpoint()
+        await transport.permit(PEER[0])
+        with self.assertRaises(over.PeerRefused) as refused:
+            await transport.permit_several(several(1, 2, 3))
+        self.assertEqual((refused.exception.peer, refused.exception.cause),
+                         ("198.51.100.2", turn.Rejected(403, "No\tway", True)))
+        self.assertEqual([getattr(it, "peer", None) for it in protocol.errors], several(2, 3))
+        await transport.permit_several(several(2, 1))
+        self.assertEqual(self.server.permissions, [several(1), several(2, 3), several(2)])
+
     async def test_given_up(self) -> None:
         """Who waits no longer leaves nothing behind."""
         self.server.silent.add(base.ALLOCATE)
@@ -404,6 +480,8 @@ class Ends(Case):
         self.assertEqual(self.server.lifetimes, [0, 0])
         with self.assertRaises(over.PeerRefused):
             await transport.permit(PEER[0])
+        with self.assertRaisesRegex(over.PeerRefused, "198.51.100.1: the endpoint is closed"):
+            await transport.permit_several(several(1, 2))
 
     async def test_closed_and_unanswered(self) -> None:
         self.server.silent.add(base.REFRESH)
@@ -417,13 +495,15 @@ class Ends(Case):
         self.server.silent.add(base.CREATE_PERMISSION)
         transport, protocol = await self.endpoint()
         waiting = asyncio.ensure_future(transport.permit(PEER[0]))
+        several_waiting = asyncio.ensure_future(transport.permit_several(several(1, 2)))
         await asyncio.sleep(0.01)
         transport.abort()
         self.assertEqual(protocol.lost, [])
         await transport.wait_closed()
         self.assertEqual((protocol.lost, self.server.lifetimes), ([None], []))
-        with self.assertRaises(over.PeerRefused):
-            await waiting
+        for it in (waiting, several_waiting):
+            with self.assertRaises(over.PeerRefused):
+                await asyncio.wait_for(it, PATIENCE)
 
     async def test_aborted_by_what_comes(self) -> None:
         transport, protocol = await self.endpoint(PEER, is_stream=True)

@@ -28,6 +28,8 @@ static size_t len;
 
 /* 198.51.100.1:9000 is a peer, 203.0.113.5:50000 the address that the server gives. */
 static const turn_address peer = {{198, 51, 100, 1}, 9000, 4}, nobody = {{0}, 9000, 5};
+static const turn_address other = {{198, 51, 100, 2}, 9000, 4}, third = {{198, 51, 100, 3}, 0, 4};
+static const turn_address six = {{0x20, 1, 0xd, 0xb8}, 1, 6};
 
 #define SHOULD(it) should(it, #it, __LINE__)
 
@@ -142,6 +144,21 @@ static void take_course_of_datagrams(void)
 static void refused_memory(void)
 {
     refuse_each(take_course_of_datagrams);
+}
+
+/* Two peers are permitted. A request that had no memory may be made again. */
+static void take_course_of_permissions(void)
+{
+    const turn_address both[] = {peer, other};
+    const int32_t status = turn_driver_permit_several(driver, both, 2, PATIENCE_MS);
+    SHOULD(is_ample_or_refused(status));
+    if (status == TURN_DRIVER_NO_MEMORY && turn_driver_run(driver) == TURN_DRIVER_OK)
+        SHOULD(turn_driver_permit_several(driver, both, 2, PATIENCE_MS) == TURN_DRIVER_OK);
+}
+
+static void refused_memory_of_permissions(void)
+{
+    refuse_each(take_course_of_permissions);
 }
 
 /* Bytes go over a connection and come back. */
@@ -297,10 +314,34 @@ static void arguments(void)
     SHOULD(turn_driver_write(driver, bytes, 1, &done, 0) == TURN_DRIVER_BAD_KIND);
     SHOULD(turn_driver_credentials(driver, "\xff", "p") == TURN_DRIVER_BAD_CREDENTIALS);
     SHOULD(turn_driver_credentials(driver, "bob", "p") == TURN_DRIVER_OK);
-    const turn_address six = {{0x20, 1, 0xd, 0xb8}, 1, 6};
     SHOULD(turn_driver_send_to(driver, &six, "a", 1) == TURN_DRIVER_PEER_REFUSED);
     SHOULD(turn_driver_last_failure(driver)->peer.family == 6);
     SHOULD(turn_driver_permit(driver, &six, 0) == TURN_DRIVER_PEER_REFUSED);
+}
+
+/* So many addresses, all different. */
+static const turn_address *many(size_t count)
+{
+    static turn_address all[2 * TURN_PERMIT_MAX];
+    for (size_t i = 0; i < count; i++)
+        all[i] = (turn_address){{198, 51, 101, (uint8_t)i}, 9000, 4};
+    return all;
+}
+
+static void arguments_of_several(void)
+{
+    const turn_address bad[] = {peer, nobody}, families[] = {peer, six}, sixes[] = {six, six};
+    if (!opens())
+        return;
+    const turn_driver_failure *last = turn_driver_last_failure(driver);
+    SHOULD(turn_driver_permit_several(driver, NULL, 0, 0) == TURN_DRIVER_BAD_ADDRESSES);
+    SHOULD(turn_driver_permit_several(driver, families, 2, 0) == TURN_DRIVER_BAD_ADDRESSES);
+    SHOULD(turn_driver_permit_several(driver, many(TURN_PERMIT_MAX + 1), TURN_PERMIT_MAX + 1, 0)
+           == TURN_DRIVER_BAD_ADDRESSES);
+    SHOULD(turn_driver_permit_several(driver, bad, 2, 0) == TURN_DRIVER_BAD_PEER);
+    SHOULD(turn_driver_permit_several(driver, sixes, 2, 0) == TURN_DRIVER_PEER_REFUSED);
+    SHOULD(last->peer.family == 6 && strstr(last->text, "no relayed address of IPv6") != NULL);
+    SHOULD(turn_driver_run(driver) == TURN_DRIVER_OK);
 }
 
 static void permits(void)
@@ -310,6 +351,60 @@ static void permits(void)
     SHOULD(turn_driver_permit(driver, &peer, PATIENCE_MS) == TURN_DRIVER_OK);
     SHOULD(turn_driver_permit(driver, &peer, 0) == TURN_DRIVER_OK);
     SHOULD(turn_driver_send_to(driver, &peer, "one", 3) == TURN_DRIVER_OK && came("one"));
+}
+
+/* Those that are permitted already are not requested again. */
+static void permits_several(void)
+{
+    turn_address peers[] = {peer, other, {{198, 51, 100, 1}, 9001, 4}, third, other};
+    if (!opens())
+        return;
+    SHOULD(turn_driver_permit(driver, &other, PATIENCE_MS) == TURN_DRIVER_OK);
+    SHOULD(turn_driver_permit_several(driver, peers, 5, PATIENCE_MS) == TURN_DRIVER_OK);
+    SHOULD(turn_driver_permit_several(driver, peers, 5, 0) == TURN_DRIVER_OK);
+    SHOULD(turn_driver_permit(driver, &third, 0) == TURN_DRIVER_OK);
+    SHOULD(turn_driver_send_to(driver, &peer, "one", 3) == TURN_DRIVER_OK && came("one"));
+}
+
+/* As many as may be, each named twice. */
+static void permits_many(void)
+{
+    turn_address peers[2 * TURN_PERMIT_MAX];
+    const size_t size = sizeof peers / 2;
+    memcpy(peers, many(TURN_PERMIT_MAX), size);
+    memcpy(peers + TURN_PERMIT_MAX, peers, size);
+    if (!opens())
+        return;
+    SHOULD(turn_driver_permit_several(driver, peers, 2 * TURN_PERMIT_MAX, PATIENCE_MS)
+           == TURN_DRIVER_OK);
+}
+
+/* A datagram waits for the permission of one of the peers, which is not requested again. */
+static void permits_beside_a_send(void)
+{
+    const turn_address peers[] = {peer, other, third};
+    if (!opens())
+        return;
+    SHOULD(turn_driver_send_to(driver, &peer, "one", 3) == TURN_DRIVER_OK);
+    SHOULD(turn_driver_permit_several(driver, peers, 3, PATIENCE_MS) == TURN_DRIVER_OK);
+    SHOULD(turn_driver_permit_several(driver, peers, 3, 0) == TURN_DRIVER_OK);
+    SHOULD(came("one"));
+}
+
+/* The server denies the third peer: so it rejects what is requested for several. */
+static void rejected_peers(void)
+{
+    const turn_address peers[] = {peer, other, third};
+    if (!opens())
+        return;
+    const turn_driver_failure *last = turn_driver_last_failure(driver);
+    SHOULD(turn_driver_permit(driver, &peer, PATIENCE_MS) == TURN_DRIVER_OK);
+    SHOULD(turn_driver_permit_several(driver, peers, 3, PATIENCE_MS) == TURN_DRIVER_PEER_REFUSED);
+    SHOULD(last->cause.kind == TURN_REJECTED && last->cause.code == 403);
+    SHOULD(strcmp(last->text, "no permission for 198.51.100.2: rejected 403 signed Noway") == 0);
+    SHOULD(last->peer.ip[3] == 2 && last->peer.port == 0);
+    SHOULD(receive(100) == TURN_DRIVER_TIMEOUT); /* nothing is reported beside */
+    SHOULD(turn_driver_permit_several(driver, peers, 2, PATIENCE_MS) == TURN_DRIVER_OK);
 }
 
 /* The server rejects permissions by 403. */
@@ -332,7 +427,10 @@ static void waiting(void)
 {
     if (!opens())
         return;
+    const turn_address both[] = {peer, other};
     SHOULD(turn_driver_permit(driver, &peer, 0) == TURN_DRIVER_TIMEOUT);
+    SHOULD(turn_driver_permit_several(driver, both, 2, 0) == TURN_DRIVER_TIMEOUT);
+    SHOULD(turn_driver_permit_several(driver, both, 2, 0) == TURN_DRIVER_TIMEOUT);
     for (int i = 0; i < TURN_DRIVER_WAITING_MAX; i++)
         SHOULD(turn_driver_send_to(driver, &peer, "a", 1) == TURN_DRIVER_OK);
     SHOULD(turn_driver_send_to(driver, &peer, "a", 1) == TURN_DRIVER_FULL);
@@ -439,6 +537,7 @@ static void lost(void)
     SHOULD(receive(PATIENCE_MS) == TURN_DRIVER_LOST);
     SHOULD(turn_driver_send_to(driver, &peer, "a", 1) == TURN_DRIVER_LOST);
     SHOULD(turn_driver_permit(driver, &peer, -1) == TURN_DRIVER_LOST);
+    SHOULD(turn_driver_permit_several(driver, &peer, 1, -1) == TURN_DRIVER_LOST);
     SHOULD(turn_driver_run(driver) == TURN_DRIVER_LOST);
     SHOULD(turn_driver_credentials(driver, "a", "b") == TURN_DRIVER_LOST);
     SHOULD(turn_driver_pollfds(driver, fds, TURN_DRIVER_FDS_MAX) == 0);
@@ -498,11 +597,12 @@ static void connection(void)
     }
     SHOULD(at == ALL && got == ALL && memcmp(sent, back, ALL) == 0);
     SHOULD(turn_driver_connect(driver, &peer, 0) == TURN_DRIVER_OK);
-    const turn_address other = {{198, 51, 100, 1}, 9001, 4};
-    SHOULD(turn_driver_connect(driver, &other, 0) == TURN_DRIVER_PEER_REFUSED);
+    const turn_address elsewhere = {{198, 51, 100, 1}, 9001, 4};
+    SHOULD(turn_driver_connect(driver, &elsewhere, 0) == TURN_DRIVER_PEER_REFUSED);
     SHOULD(turn_driver_send_to(driver, &peer, "a", 1) == TURN_DRIVER_BAD_KIND);
     SHOULD(receive(0) == TURN_DRIVER_BAD_KIND);
     SHOULD(turn_driver_permit(driver, &peer, 0) == TURN_DRIVER_BAD_KIND);
+    SHOULD(turn_driver_permit_several(driver, &peer, 1, 0) == TURN_DRIVER_BAD_KIND);
 }
 
 /* Nobody reads: the peer has to wait, and nothing is lost. The server greets with 2,000,000
@@ -624,6 +724,10 @@ static const struct {
     {"wrong_password", wrong_password}, {"late", late}, {"redirected", redirected},
     {"redirected_in_a_circle", redirected_in_a_circle}, {"datagrams", datagrams},
     {"indications", indications}, {"arguments", arguments}, {"permits", permits},
+    {"arguments_of_several", arguments_of_several}, {"permits_several", permits_several},
+    {"permits_many", permits_many}, {"permits_beside_a_send", permits_beside_a_send},
+    {"rejected_peers", rejected_peers},
+    {"refused_memory_of_permissions", refused_memory_of_permissions},
     {"rejected_peer", rejected_peer}, {"waiting", waiting}, {"waiting_bytes", waiting_bytes},
     {"small_buffer", small_buffer}, {"received", received}, {"unreachable", unreachable},
     {"own_loop", own_loop}, {"idle", idle}, {"lost", lost}, {"silent_end", silent_end},

@@ -176,6 +176,32 @@ class Datagrams(Course):
         await self.course("permits")
         self.assertEqual(self.server.count(base.CREATE_PERMISSION), 1)
 
+    async def test_permissions_of_several(self):
+        for is_stream in (False, True):
+            self.server.permissions.clear()
+            await self.course("permits_several", is_stream)
+            self.assertEqual(self.server.permissions, [["198.51.100.2"],
+                                                       ["198.51.100.1", "198.51.100.3"]])
+
+    async def test_permissions_of_as_many_as_may_be(self):
+        await self.course("permits_many")
+        self.assertEqual(self.server.permissions, [[f"198.51.101.{it}" for it in range(32)]])
+
+    async def test_permissions_of_which_one_is_requested(self):
+        await self.course("permits_beside_a_send")
+        self.assertEqual(self.server.permissions, [["198.51.100.1"],
+                                                   ["198.51.100.2", "198.51.100.3"]])
+
+    async def test_rejected_permissions_of_several(self):
+        self.server.denies.add("198.51.100.3")
+        await self.course("rejected_peers")
+        self.assertEqual(self.server.permissions, [
+            ["198.51.100.1"], ["198.51.100.2", "198.51.100.3"], ["198.51.100.2"]])
+
+    async def test_what_is_refused_of_several(self):
+        await self.course("arguments_of_several")
+        self.assertEqual(self.server.permissions, [])
+
     async def test_a_rejected_permission(self):
         self.server.rejects[base.CREATE_PERMISSION] = 403
         await self.course("rejected_peer", is_stream=True)
@@ -229,6 +255,9 @@ class Memory(Course):
 
     async def test_datagrams_over_tcp(self):
         await self.course("refused_memory", is_stream=True)
+
+    async def test_permissions(self):
+        await self.course("refused_memory_of_permissions", is_stream=True)
 
     async def test_a_connection(self):
         await self.course("refused_memory_of_connection", is_stream=True)

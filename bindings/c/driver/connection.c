@@ -197,14 +197,15 @@ int32_t turn_driver_connect(turn_driver *driver, const turn_address *peer, int t
     if (driver->peer.family != 0 && !is_same(&driver->peer, peer))
         return refuses(driver, TURN_DRIVER_PEER_REFUSED,
                        "a connection to another peer was requested before");
-    driver->peer = driver->awaited = *peer;
+    driver->peer = driver->awaited[0] = *peer;
+    driver->awaited_count = 1;
     for (;;) {
         status = connect_on(driver);
         if (status != TURN_DRIVER_TIMEOUT || !wait_for_more(driver, until))
             break;
         go_on(driver, false);
     }
-    driver->awaited.family = 0;
+    driver->awaited_count = 0;
     if (status == TURN_DRIVER_PEER_REFUSED) { /* the next call may try again */
         driver->peer.family = 0;
         driver->is_requested = driver->has_refusal = false;

@@ -93,6 +93,37 @@ void follow_channel(turn_driver *driver, const turn_event *event)
         note_channel(driver, &event->address, clock_now() + CHANNEL_REST);
 }
 
+/* ---- permissions that are requested or awaited */
+
+static bool is_permitted(turn_driver *driver, const turn_address *host)
+{
+    return turn_client_is_permitted(&driver->client, driver->settings.peers, host);
+}
+
+static bool is_requested(const turn_driver *driver, const turn_address *host)
+{
+    const struct datagram *it = driver->requested.first;
+    while (it != NULL && !is_same_host(&it->peer, host))
+        it = it->next;
+    return it != NULL;
+}
+
+static bool is_awaited(const turn_driver *driver, const turn_address *host)
+{
+    size_t at = 0;
+    while (at < driver->awaited_count && !is_same_host(&driver->awaited[at], host))
+        at++;
+    return at < driver->awaited_count;
+}
+
+static bool are_awaited_permitted(turn_driver *driver)
+{
+    size_t at = 0;
+    while (at < driver->awaited_count && is_permitted(driver, &driver->awaited[at]))
+        at++;
+    return at == driver->awaited_count;
+}
+
 /* ---- to peers */
 
 /* Sends a datagram to a peer that is permitted: a status of the client, or TURN_NOTHING if the line
@@ -114,13 +145,13 @@ static int32_t send_now(turn_driver *driver, const turn_address *peer, const voi
     return TURN_OK;
 }
 
-/* Sends what waits for a host, or drops it. */
-static void release(turn_driver *driver, const turn_address *host, bool sends)
+/* Removes what a queue has for a host, and may send it. */
+static void release(turn_driver *driver, struct queue *queue, const turn_address *host, bool sends)
 {
-    for (size_t left = driver->waiting.count; left > 0; left--) {
-        struct datagram *first = queue_take(&driver->waiting);
+    for (size_t left = queue->count; left > 0; left--) {
+        struct datagram *first = queue_take(queue);
         if (!is_same_host(&first->peer, host)) {
-            queue_put(&driver->waiting, first);
+            queue_put(queue, first);
             continue;
         }
         if (sends)
@@ -133,64 +164,139 @@ void follow_permission(turn_driver *driver, const turn_event *event)
 {
     turn_driver_failure failure;
     char host[TURN_ADDRESS_TEXT_MAX], what[TURN_ADDRESS_TEXT_MAX + 32] = "no permission for ";
-    release(driver, &event->address, event->kind == TURN_PERMISSION_CREATED && !driver->is_closing);
-    if (event->kind == TURN_PERMISSION_CREATED || driver->is_closing)
+    const bool is_granted = event->kind == TURN_PERMISSION_CREATED;
+    release(driver, &driver->requested, &event->address, false);
+    release(driver, &driver->waiting, &event->address, is_granted && !driver->is_closing);
+    if (is_granted || driver->is_closing)
         return;
     strcat(what, turn_address_text(&event->address, host));
     fail_of_event(driver, &failure, TURN_DRIVER_PEER_REFUSED, what);
     failure.peer = event->address;
-    if (is_same_host(&driver->awaited, &event->address)) {
+    if (!is_awaited(driver, &event->address)) {
+        report(driver, &failure);
+    } else if (!driver->has_refusal) { /* of several that a call waits for the first counts */
         driver->refusal = failure;
         driver->has_refusal = true;
-    } else {
-        report(driver, &failure);
     }
 }
 
-int32_t request_permission(turn_driver *driver, const turn_address *peer)
+/* Requests permissions for hosts by one request: TURN_DRIVER_TIMEOUT, or a failure. */
+static int32_t request(turn_driver *driver, const turn_address *hosts, size_t count)
 {
-    const uint32_t transport = driver->settings.peers;
+    struct queue added = {.first = NULL};
     turn_driver_failure failure;
-    if (driver->is_over)
-        return fails(driver, &driver->fatal);
-    if (turn_client_is_permitted(&driver->client, transport, peer))
-        return TURN_DRIVER_OK;
-    const int32_t status = turn_client_permit(&driver->client, transport, peer, clock_now());
+    int32_t status = TURN_OK;
+    for (size_t i = 0; i < count && status == TURN_OK; i++)
+        status = queue_add(&added, &hosts[i], NULL, 0) ? TURN_OK : TURN_NO_MEMORY;
+    if (status == TURN_OK)
+        status = turn_client_permit_several(&driver->client, driver->settings.peers, hosts, count,
+                                            clock_now());
+    while (status == TURN_OK && added.count > 0)
+        queue_put(&driver->requested, queue_take(&added));
+    queue_clear(&added);
     if (status == TURN_OK || status == TURN_ALREADY_EXISTS) {
         take_turns(driver);
         return TURN_DRIVER_TIMEOUT;
     }
     if (status == TURN_NO_ALLOCATION)
         fail_with(&failure, TURN_DRIVER_PEER_REFUSED, "there is no relayed address of IPv%u",
-                  (unsigned)peer->family);
+                  (unsigned)hosts[0].family);
     else
         fail_of_status(&failure, status);
-    failure.peer = *peer;
+    failure.peer = hosts[0];
     return fails(driver, &failure);
 }
 
-int32_t turn_driver_permit(turn_driver *driver, const turn_address *peer, int timeout_ms)
+int32_t request_permission(turn_driver *driver, const turn_address *peer)
 {
-    const uint64_t until = deadline_of(timeout_ms);
-    int32_t status = check(driver, peer);
-    if (status != TURN_DRIVER_OK)
-        return status;
-    driver->awaited = *peer;
-    driver->has_refusal = false;
-    status = request_permission(driver, peer);
+    if (driver->is_over)
+        return fails(driver, &driver->fatal);
+    return is_permitted(driver, peer) ? TURN_DRIVER_OK : request(driver, peer, 1);
+}
+
+/* Requests the permissions that a call awaits, but for those that are requested, and has it await
+ * none that is there: as request_permission. */
+static int32_t request_awaited(turn_driver *driver)
+{
+    turn_address hosts[TURN_PERMIT_MAX];
+    size_t count = 0, left = 0;
+    if (driver->is_over)
+        return fails(driver, &driver->fatal);
+    for (size_t i = 0; i < driver->awaited_count; i++) {
+        const turn_address host = driver->awaited[i];
+        if (is_permitted(driver, &host))
+            continue;
+        driver->awaited[left++] = host;
+        if (!is_requested(driver, &host))
+            hosts[count++] = host;
+    }
+    driver->awaited_count = left;
+    if (count > 0)
+        return request(driver, hosts, count);
+    return left > 0 ? TURN_DRIVER_TIMEOUT : TURN_DRIVER_OK;
+}
+
+/* Waits for the permissions that a call awaits, whose request came to this status. */
+static int32_t wait_for_awaited(turn_driver *driver, int32_t status, uint64_t until)
+{
     while (status == TURN_DRIVER_TIMEOUT) {
         go_on(driver, false);
         if (driver->is_over)
             status = fails(driver, &driver->fatal);
         else if (driver->has_refusal)
             status = fails(driver, &driver->refusal);
-        else if (turn_client_is_permitted(&driver->client, driver->settings.peers, peer))
+        else if (are_awaited_permitted(driver))
             status = TURN_DRIVER_OK;
         else if (!wait_for_more(driver, until))
             break;
     }
-    driver->awaited.family = 0;
+    driver->awaited_count = 0;
     return status;
+}
+
+int32_t turn_driver_permit(turn_driver *driver, const turn_address *peer, int timeout_ms)
+{
+    const uint64_t until = deadline_of(timeout_ms);
+    const int32_t status = check(driver, peer);
+    if (status != TURN_DRIVER_OK)
+        return status;
+    driver->awaited[0] = *peer;
+    driver->awaited_count = 1;
+    driver->has_refusal = false;
+    return wait_for_awaited(driver, request_permission(driver, peer), until);
+}
+
+/* Has a call await each of the hosts once: false if there is none, or more than may be, or they are
+ * of two families. */
+static bool await_each(turn_driver *driver, const turn_address *peers, size_t count)
+{
+    driver->awaited_count = 0;
+    for (size_t i = 0; i < count; i++) {
+        if (is_awaited(driver, &peers[i]))
+            continue;
+        if (peers[i].family != peers[0].family || driver->awaited_count == TURN_PERMIT_MAX)
+            return false;
+        driver->awaited[driver->awaited_count++] = peers[i];
+    }
+    return count > 0;
+}
+
+int32_t turn_driver_permit_several(turn_driver *driver, const turn_address *peers, size_t count,
+                                   int timeout_ms)
+{
+    const uint64_t until = deadline_of(timeout_ms);
+    int32_t status = check(driver, NULL);
+    for (size_t i = 0; i < count && status == TURN_DRIVER_OK; i++)
+        status = check(driver, &peers[i]);
+    if (status != TURN_DRIVER_OK)
+        return status;
+    if (!await_each(driver, peers, count)) {
+        driver->awaited_count = 0;
+        return refuses(driver, TURN_DRIVER_BAD_ADDRESSES,
+                       "there is no address, or more than 32, or they are of two families");
+    }
+    driver->has_refusal = false;
+    return wait_for_awaited(driver, request_awaited(driver), until);
 }
 
 /* Has a datagram wait for the permission, which is requested. */
@@ -203,7 +309,7 @@ static int32_t wait_for_permission(turn_driver *driver, const turn_address *peer
         return refuses(driver, TURN_DRIVER_NO_MEMORY, "out of memory");
     const int32_t status = request_permission(driver, peer);
     if (status < 0 && !driver->is_over)
-        release(driver, peer, false);
+        release(driver, &driver->waiting, peer, false);
     return status < 0 ? status : TURN_DRIVER_OK;
 }
 

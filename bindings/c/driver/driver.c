@@ -287,6 +287,7 @@ static void free_driver(turn_driver *driver)
     line_close(&driver->data);
     queue_clear(&driver->waiting);
     queue_clear(&driver->received);
+    queue_clear(&driver->requested);
     buffer_close(&driver->unread);
     free(driver->channels);
     explicit_bzero(driver, sizeof *driver);

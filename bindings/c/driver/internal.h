@@ -130,13 +130,15 @@ struct turn_driver {
     uint64_t due;                        /* when the next turn is due */
     bool is_ready, is_closing, is_over;  /* has an address; gives it back; has ended */
     struct queue waiting, received;
+    struct queue requested;              /* hosts whose permissions are requested, without bytes */
     uint64_t dropped;
     turn_driver_failure last, fatal;     /* of the last call; why it is over */
     turn_driver_failure lost;            /* why the last allocation failed or ended */
     char domain[TURN_URI_HOST_MAX + 1];  /* of the server that a response 300 named, or empty */
     turn_driver_failure notices[TURN_DRIVER_NOTICES_MAX];
     size_t notice_first, notice_count;
-    turn_address awaited;                /* whose permission a call waits for; family 0 if none */
+    turn_address awaited[TURN_PERMIT_MAX]; /* whose permissions a call waits for */
+    size_t awaited_count;
     struct channel_note *channels;
     turn_address peer;                   /* of the connection; family 0 if none was requested */
     uint32_t data_id;                    /* by which the client knows its socket */

@@ -177,6 +177,8 @@ enum turn_driver_status {
     TURN_DRIVER_FULL = -8,            /* as many bytes wait already as may (see BOUNDS), or the
                                        * socket takes none */
     TURN_DRIVER_NO_CONNECTION = -9,   /* turn_driver_connect has made none */
+    TURN_DRIVER_BAD_ADDRESSES = -18,  /* there is no address, or more than TURN_PERMIT_MAX, or they
+                                       * are of two families */
 
     /* The server or a peer cannot be reached that way. The driver goes on. */
     TURN_DRIVER_PEER_REFUSED = -10,   /* the server gives no permission for the peer, or no
@@ -354,6 +356,22 @@ int32_t turn_driver_credentials(turn_driver *driver, const char *user, const cha
  *   TURN_DRIVER_PEER_REFUSED  the server rejected it, or there is no relayed address of that family
  *   TURN_DRIVER_LOST, TURN_DRIVER_NO_MEMORY */
 int32_t turn_driver_permit(turn_driver *driver, const turn_address *peer, int timeout_ms);
+
+/* Lets the IP addresses of several peers send to the relayed address, as turn_driver_permit does
+ * for one. All that are neither permitted nor requested yet are requested by one request, which the
+ * server grants or rejects as a whole. An address that is named twice counts once.
+ *
+ *   peers, count  at most TURN_PERMIT_MAX different addresses, all of one family; the ports do not
+ *                 count
+ *
+ *   TURN_DRIVER_OK            each is permitted
+ *   TURN_DRIVER_TIMEOUT       all are requested, and the server has not responded for all yet
+ *   TURN_DRIVER_BAD_KIND, TURN_DRIVER_BAD_PEER, TURN_DRIVER_BAD_ADDRESSES
+ *   TURN_DRIVER_PEER_REFUSED  the server rejected one or several: failure.peer is the first of
+ *                             them. Or there is no relayed address of that family
+ *   TURN_DRIVER_LOST, TURN_DRIVER_NO_MEMORY */
+int32_t turn_driver_permit_several(turn_driver *driver, const turn_address *peers, size_t count,
+                                   int timeout_ms);
 
 /* Sends a datagram to a peer. It does not wait. A permission for the peer is requested if there is
  * none, and the datagram waits for it; then a channel. Both are renewed until the driver is closed.

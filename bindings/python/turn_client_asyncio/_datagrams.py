@@ -4,15 +4,15 @@ from __future__ import annotations
 
 import asyncio
 import errno
-from collections.abc import Callable
+from collections.abc import Callable, Iterable
 from ssl import SSLContext
 from time import monotonic_ns
 from typing import Any, TypeVar
 
 from turn_client import (
-    PAYLOAD_MAX, Address, AlreadyExists, Buffer, ChannelCreated, ChannelCreateFailed, ExpiredChannelExists,
-    NoChannel, NoPermission, PeerData, PeerIcmp, PermissionCreated, PermissionCreateFailed, TooLarge, Transport,
-    TurnCause, TurnConfig, TurnError, TurnEvent, TurnRecvRet,
+    PAYLOAD_MAX, PERMIT_MAX, Address, AlreadyExists, Buffer, ChannelCreated, ChannelCreateFailed,
+    ExpiredChannelExists, InvalidAddresses, NoChannel, NoPermission, PeerData, PeerIcmp, PermissionCreated,
+    PermissionCreateFailed, TooLarge, Transport, TurnCause, TurnConfig, TurnError, TurnEvent, TurnRecvRet,
 )
 
 from ._driver import SECOND, Credentials, Driver, reached, settings
@@ -138,35 +138,54 @@ class TurnTransport(Driver, asyncio.DatagramTransport):
 
     async def permit(self, host: str) -> None:
         """Lets an IP address send to this endpoint, to whom nothing was sent, and waits until it may. PeerRefused."""
-        host, _ = normal(host, 0)
+        await self._permits([normal(host, 0)[0]])
+
+    async def permit_several(self, hosts: Iterable[str]) -> None:
+        """Lets several IP addresses send to this endpoint, as permit does for one, and waits until all may. Those that
+        are neither permitted nor asked for yet are asked for by one request, which the server grants or rejects as a
+        whole. At most PERMIT_MAX, of one family; one that is named twice counts once. PeerRefused names the first that
+        was refused. InvalidAddresses of turn_client: there is none, or more than PERMIT_MAX, or they are of two
+        families. ValueError: one is no IP address."""
+        different = list(dict.fromkeys(normal(host, 0)[0] for host in hosts))
+        if not 1 <= len(different) <= PERMIT_MAX or len({":" in host for host in different}) > 1:
+            raise InvalidAddresses
+        await self._permits(different)
+
+    async def _permits(self, hosts: list[str]) -> None:
         if self._is_closing:
-            raise PeerRefused(host, "the endpoint is closed")
-        if not self._client.have_permission(Transport.UDP, host):
-            if host not in self._asked:
-                self._requests(host)
-            waiting: asyncio.Future[None] = self._loop.create_future()
-            self._asked[host].append(waiting)
-            await waiting
+            raise PeerRefused(hosts[0], "the endpoint is closed")
+        missing = [host for host in hosts if not self._client.have_permission(Transport.UDP, host)]
+        if unasked := [host for host in missing if host not in self._asked]:
+            self._requests(unasked)
+        waiting: list[asyncio.Future[None]] = [self._loop.create_future() for _ in missing]
+        for host, future in zip(missing, waiting):
+            self._asked[host].append(future)
+        await asyncio.gather(*waiting)
 
     def set_credentials(self, username: str, password: str) -> None:
         """Sets the credentials that replace the present ones with the next challenge: for passwords that expire. Call
         it before they do. BadText, LongName, NoMemory of turn_client."""
         self._client.set_credentials(username, password)
 
-    def _requests(self, host: str) -> None:
+    def _requests(self, hosts: list[str]) -> None:
+        """Asks for permissions by one request."""
         try:
-            self._client.create_permission(Transport.UDP, host, monotonic_ns())
+            self._client.create_permissions(Transport.UDP, hosts, monotonic_ns())
         except AlreadyExists:
-            pass
+            if len(hosts) > 1:  # one was asked for just before the refusal of an older request was followed
+                for host in hosts:
+                    self._requests([host])
+                return
         except TurnError as error:
-            raise PeerRefused(host, str(error)) from error
-        self._asked[host] = []
+            raise PeerRefused(hosts[0], str(error)) from error
+        for host in hosts:
+            self._asked[host] = []
         self._wake()
 
     def _asks(self, host: str) -> bool:
         """Whether a permission could be asked for; if not that is reported."""
         try:
-            self._requests(host)
+            self._requests([host])
         except PeerRefused as error:
             self._call("error_received", error)
             return False
@@ -235,7 +254,7 @@ class TurnTransport(Driver, asyncio.DatagramTransport):
             self._makes()
             return
         try:
-            self._requests(self._peer[0])
+            self._requests([self._peer[0]])
         except PeerRefused as error:
             self._fails_to_start(error)
 

@@ -3,15 +3,17 @@
 mod server;
 
 use std::io::{self, ErrorKind};
-use std::net::{IpAddr, SocketAddr, TcpStream};
+use std::net::{IpAddr, SocketAddr, TcpStream, UdpSocket};
 use std::thread;
 use std::time::{Duration, Instant};
 
 use server::{config, Server, ALLOCATE, CHANNEL_BIND, CREATE_PERMISSION, MAPPED, REFRESH, RELAYED};
-use turn_client::driver::{ConnectOptions, StreamConnection, INCOMING_MAX};
+use turn_client::driver::{
+    ConnectOptions, Permission, SessionState, StreamConnection, TurnSession, INCOMING_MAX,
+};
 use turn_client::{
     AllocateError, ConnectError, SocketError, TransportType, TurnCause, TurnConfig,
-    TurnCredentials, TurnSocket, PAYLOAD_MAX,
+    TurnCredentials, TurnSocket, PAYLOAD_MAX, PERMIT_MAX,
 };
 
 const BOTH: [TransportType; 2] = [TransportType::Udp, TransportType::Tcp];
@@ -25,6 +27,11 @@ fn peer() -> SocketAddr {
 
 fn other_peer() -> SocketAddr {
     SocketAddr::from(([198, 51, 100, 2], 9001))
+}
+
+/// The hosts 198.51.100.K.
+fn hosts<const COUNT: usize>(last: [u8; COUNT]) -> [IpAddr; COUNT] {
+    last.map(|it| IpAddr::from([198, 51, 100, it]))
 }
 
 fn connect(server: &Server) -> TurnSocket {
@@ -243,6 +250,119 @@ fn a_peer_of_another_family_is_refused() {
     assert!(matches!(error, SocketError::PeerRefused { peer: it, cause: None } if it == peer));
 }
 
+/// Those that are permitted already are not requested again.
+#[test]
+fn several_are_permitted_by_one_request() {
+    for transport in BOTH {
+        let mut server = Server::start(transport);
+        let socket = connect(&server);
+        socket.permit(other_peer().ip()).unwrap();
+        for _ in 0..2 {
+            socket.permit_several(&hosts([1, 2, 1, 3, 2])).unwrap();
+        }
+        socket.permit(hosts([3])[0]).unwrap();
+        let requested = "198.51.100.2 198.51.100.1,198.51.100.3";
+        assert_eq!(server.tell("permissions"), requested);
+        server.does("data 198.51.100.3:9000 n 1");
+        assert_eq!(received(&socket).unwrap().0, "n0");
+    }
+}
+
+#[test]
+fn as_many_are_permitted_as_may_be() {
+    let mut server = Server::start(TransportType::Udp);
+    let socket = connect(&server);
+    let many: Vec<IpAddr> = (0..PERMIT_MAX as u8).flat_map(|it| hosts([it])).collect();
+    let twice = [many.clone(), many.clone()].concat();
+    socket.permit_several(&twice).unwrap();
+    let wanted: Vec<String> = many.iter().map(IpAddr::to_string).collect();
+    assert_eq!(server.tell("permissions"), wanted.join(","));
+}
+
+#[test]
+fn addresses_that_cannot_stand_in_one_request_are_refused() {
+    let mut server = Server::start(TransportType::Udp);
+    let socket = connect(&server);
+    let six: IpAddr = "2001:db8::7".parse().unwrap();
+    let too_many: Vec<IpAddr> = (0..=PERMIT_MAX as u8).flat_map(|it| hosts([it])).collect();
+    for refused in [&[][..], &too_many, &[peer().ip(), six], &[six, peer().ip()]] {
+        let error = socket.permit_several(refused).unwrap_err();
+        assert!(matches!(error, SocketError::InvalidAddresses), "{error}");
+        assert_eq!(error.kind(), ErrorKind::InvalidInput);
+    }
+    let error = socket.permit_several(&[six, six]).unwrap_err();
+    assert!(matches!(error, SocketError::PeerRefused { peer: it, cause: None } if it == six));
+    socket.serve(SOON).unwrap();
+    assert_eq!(server.tell("permissions"), "");
+}
+
+/// The server denies one of them, and so rejects the request.
+#[test]
+fn rejected_permissions_of_several_are_told_by_the_first() {
+    for transport in BOTH {
+        let mut server = Server::start(transport);
+        let socket = connect(&server);
+        server.does("denies 198.51.100.3");
+        socket.permit(peer().ip()).unwrap();
+        let error = socket.permit_several(&hosts([1, 2, 3])).unwrap_err();
+        assert!(is_rejected(error.cause(), 403, true), "{error}");
+        assert_eq!(
+            error.to_string(),
+            "no permission for 198.51.100.2: rejected 403 signed Noway"
+        );
+        socket.permit_several(&hosts([2, 1])).unwrap();
+        let requested = "198.51.100.1 198.51.100.2,198.51.100.3 198.51.100.2";
+        assert_eq!(server.tell("permissions"), requested);
+        socket.set_read_timeout(Some(SOON)).unwrap();
+        assert!(matches!(received(&socket), Err(SocketError::TimedOut)));
+    }
+}
+
+/// Takes a session's turn, and waits shortly for what comes, which waits for the next turn: whether
+/// something came.
+fn goes_on(session: &mut TurnSession, line: &UdpSocket) -> bool {
+    let mut bytes = [0; 1500];
+    session.turn(&mut |message| assert!(line.send(message).is_ok()));
+    line.set_read_timeout(Some(Duration::from_millis(10)))
+        .unwrap();
+    let came = line.recv(&mut bytes);
+    if let Ok(size) = came {
+        session.handle_received(&bytes[..size]);
+    }
+    came.is_ok()
+}
+
+/// A peer is requested after a response that rejects it, and before the event of that.
+#[test]
+fn a_session_requests_the_others_beside_one_that_it_has_not_noted() {
+    let mut server = Server::start(TransportType::Udp);
+    let line = UdpSocket::bind("127.0.0.1:0").unwrap();
+    line.connect(server.address).unwrap();
+    let local = line.local_addr().unwrap();
+    let made = TurnSession::new(TransportType::Udp, local, server.address, config(), true);
+    let mut session = made.unwrap();
+    while *session.state() == SessionState::Allocating {
+        goes_on(&mut session, &line);
+    }
+    let [first, second] = hosts([1, 2]);
+    server.does("denies 198.51.100.1");
+    session.request_permission(first).unwrap();
+    while !goes_on(&mut session, &line) {}
+    server.does("denies nobody");
+    session.request_permission(first).unwrap();
+    session.turn(&mut |_| ());
+    assert!(matches!(session.permission(first), Permission::Refused(_)));
+    let missing = session.request_permissions(&[first, second]).unwrap();
+    assert_eq!(missing, [first, second]);
+    let until = Instant::now() + PATIENCE;
+    while session.granted(&missing).is_none() && Instant::now() < until {
+        goes_on(&mut session, &line);
+    }
+    assert!(matches!(session.granted(&missing), Some(Ok(()))));
+    let requested = "198.51.100.1 198.51.100.1 198.51.100.2";
+    assert_eq!(server.tell("permissions"), requested);
+}
+
 #[test]
 fn a_rejected_channel_leaves_indications() {
     let mut server = Server::start(TransportType::Tcp);
@@ -312,6 +432,44 @@ fn threads_may_wait_for_one_permission() {
     assert_eq!(server.count(CREATE_PERMISSION), 1);
 }
 
+/// A permission that another thread waits for is not requested again.
+#[test]
+fn a_thread_requests_what_no_other_one_has() {
+    let mut server = Server::start(TransportType::Udp);
+    let socket = connect(&server);
+    server.does(&format!("silent {CREATE_PERMISSION}"));
+    thread::scope(|scope| {
+        let one = scope.spawn(|| socket.permit(peer().ip()));
+        thread::sleep(SOON);
+        let several = scope.spawn(|| socket.permit_several(&hosts([1, 2, 3])));
+        thread::sleep(SOON);
+        assert!(!several.is_finished());
+        server.does(&format!("silent {CREATE_PERMISSION} no"));
+        one.join().unwrap().unwrap();
+        several.join().unwrap().unwrap();
+    });
+    let told = server.tell("permissions");
+    let mut requested: Vec<_> = told.split(' ').collect();
+    requested.sort();
+    requested.dedup(); // one may be sent twice
+    assert_eq!(requested, ["198.51.100.1", "198.51.100.2,198.51.100.3"]);
+}
+
+#[test]
+fn a_thread_that_waits_for_permissions_sees_the_end() {
+    let mut server = Server::start(TransportType::Udp);
+    let socket = connect(&server);
+    server.does(&format!("silent {CREATE_PERMISSION}"));
+    thread::scope(|scope| {
+        let waiting = scope.spawn(|| socket.permit_several(&hosts([1, 2])));
+        thread::sleep(SOON);
+        socket.close().unwrap();
+        assert!(matches!(waiting.join().unwrap(), Err(SocketError::Closed)));
+    });
+    let late = socket.permit_several(&hosts([1, 2]));
+    assert!(matches!(late, Err(SocketError::Closed)));
+}
+
 #[test]
 fn a_thread_that_receives_sees_the_end() {
     for transport in BOTH {
@@ -361,6 +519,10 @@ fn a_closed_connection_to_the_server_is_the_end() {
     );
     assert!(matches!(
         socket.send_to(b"late", peer()),
+        Err(SocketError::Lost { cause: None })
+    ));
+    assert!(matches!(
+        socket.permit_several(&hosts([1, 2])),
         Err(SocketError::Lost { cause: None })
     ));
     assert_eq!(io::Error::from(error).kind(), ErrorKind::ConnectionAborted);

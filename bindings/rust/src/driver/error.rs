@@ -171,6 +171,9 @@ pub enum SocketError {
     TimedOut,
     /// The data has more than [`PAYLOAD_MAX`](crate::PAYLOAD_MAX) bytes. Nothing was sent.
     TooLarge,
+    /// There is no address, or more than [`PERMIT_MAX`](crate::PERMIT_MAX) different ones, or they
+    /// are of two families. Nothing was requested.
+    InvalidAddresses,
     /// There was no memory for the message. Nothing was sent, and the call may be made again.
     NoMemory,
     /// The socket was closed.
@@ -195,7 +198,7 @@ impl SocketError {
             Self::PeerRefused { .. } => ErrorKind::PermissionDenied,
             Self::PeerUnreachable { .. } => ErrorKind::ConnectionRefused,
             Self::TimedOut => ErrorKind::TimedOut,
-            Self::TooLarge => ErrorKind::InvalidInput,
+            Self::TooLarge | Self::InvalidAddresses => ErrorKind::InvalidInput,
             Self::NoMemory => ErrorKind::OutOfMemory,
             Self::Closed => ErrorKind::NotConnected,
             Self::Io(error) => error.kind(),
@@ -229,6 +232,11 @@ impl fmt::Display for SocketError {
             ),
             Self::TimedOut => f.write_str("the time is over"),
             Self::TooLarge => write!(f, "more than {} bytes", crate::PAYLOAD_MAX),
+            Self::InvalidAddresses => write!(
+                f,
+                "there is no address, or more than {} different ones, or they are of two families",
+                crate::PERMIT_MAX
+            ),
             Self::NoMemory => f.write_str("there is no memory for the message"),
             Self::Closed => f.write_str("the socket was closed"),
             Self::Io(error) => error.fmt(f),

@@ -13,8 +13,9 @@ use crate::api::{
 };
 use crate::client::{TurnClientApi, TurnClientTcp, TurnClientUdp};
 use crate::error::{
-    BindChannelError, CreatePermissionError, CredentialsError, PollError, RecvError, SendError,
+    BindChannelError, CreatePermissionsError, CredentialsError, PollError, RecvError, SendError,
 };
+use crate::PERMIT_MAX;
 
 /// How many datagrams of peers are stored while nobody receives, at most.
 pub const INCOMING_MAX: usize = 256;
@@ -28,8 +29,8 @@ const PAUSE: Duration = Duration::from_millis(10);
 const CHANNEL_REST: Duration = Duration::from_secs(300);
 /// How many peers are noted whose channel failed.
 const CHANNELS_NOTED: usize = 1024;
-/// How many refusals of requested permissions are noted.
-const REFUSALS_NOTED: usize = 64;
+/// How many refusals of requested permissions are noted: those of several requests.
+const REFUSALS_NOTED: usize = 8 * PERMIT_MAX;
 /// Between the server and peers.
 const TO_PEERS: TransportType = TransportType::Udp;
 
@@ -479,19 +480,56 @@ impl TurnSession {
         if let Some(error) = self.state.error() {
             return Err(error);
         }
+        self.request_each(&[peer])
+    }
+
+    /// Requests permissions for the IP addresses of several peers by one request, which the server
+    /// grants or rejects as a whole: for those that are neither permitted nor requested yet, each
+    /// once. They are renewed until the session ends. Returns those that aren't permitted yet, for
+    /// [`granted`](Self::granted).
+    ///
+    /// # Errors
+    ///
+    /// - `Closed`, `Lost`: the session is over.
+    /// - `InvalidAddresses`: there is no address, there are more than
+    ///   [`PERMIT_MAX`](crate::PERMIT_MAX) different ones, or they are of two families.
+    /// - `PeerRefused` without a cause: there is no relayed address of that family.
+    /// - `NoMemory`: the call may be made again.
+    pub fn request_permissions(&mut self, peers: &[IpAddr]) -> Result<Vec<IpAddr>, SocketError> {
+        if let Some(error) = self.state.error() {
+            return Err(error);
+        }
+        let mut missing = different(peers)?;
+        missing.retain(|it| !self.client.have_permission(TO_PEERS, *it));
+        let mut wanted = missing.clone();
+        wanted.retain(|it| !self.requested.contains(it));
+        self.request_each(&wanted)?;
+        Ok(missing)
+    }
+
+    /// Requests permissions by one request.
+    fn request_each(&mut self, peers: &[IpAddr]) -> Result<(), SocketError> {
+        let Some(peer) = peers.first().copied() else {
+            return Ok(());
+        };
         let now = self.now();
-        match self.client.create_permission(TO_PEERS, peer, now) {
+        match self.client.create_permissions(TO_PEERS, peers, now) {
             Ok(()) => {
-                self.requested.insert(peer);
+                self.requested.extend(peers);
                 Ok(())
             }
-            Err(CreatePermissionError::AlreadyExists) => {
+            Err(CreatePermissionsError::AlreadyExists) if peers.len() > 1 => {
+                // one was requested just before the refusal of an older request was handled, and
+                // isn't noted any more: each by itself
+                peers.iter().try_for_each(|it| self.request_each(&[*it]))
+            }
+            Err(CreatePermissionsError::AlreadyExists) => {
                 if !self.client.have_permission(TO_PEERS, peer) {
                     self.requested.insert(peer);
                 }
                 Ok(())
             }
-            Err(CreatePermissionError::NoMemory) => Err(SocketError::NoMemory),
+            Err(CreatePermissionsError::NoMemory) => Err(SocketError::NoMemory),
             Err(_) => Err(SocketError::PeerRefused { peer, cause: None }),
         }
     }
@@ -510,6 +548,30 @@ impl TurnSession {
             .rev()
             .find(|(refused, _)| *refused == peer);
         Permission::Refused(latest.and_then(|(_, cause)| cause.clone()))
+    }
+
+    /// Returns what became of permissions that were requested: `None` while the server has not
+    /// answered for one, and otherwise whether all are granted.
+    ///
+    /// # Errors
+    ///
+    /// - `Closed`, `Lost`: the session is over.
+    /// - `PeerRefused`: of the first of the peers whose permission isn't granted.
+    pub fn granted(&self, peers: &[IpAddr]) -> Option<Result<(), SocketError>> {
+        if let Some(error) = self.state.error() {
+            return Some(Err(error));
+        }
+        let mut outcome = Some(Ok(()));
+        for peer in peers.iter().copied() {
+            match self.permission(peer) {
+                Permission::Granted => {}
+                Permission::Requested => outcome = None,
+                Permission::Refused(cause) => {
+                    return Some(Err(SocketError::PeerRefused { peer, cause }));
+                }
+            }
+        }
+        outcome
     }
 
     /// Sets the credentials that replace the present ones with the server's next challenge: see
@@ -536,6 +598,27 @@ impl TurnSession {
         self.incoming_bytes = 0;
         self.requested.clear();
     }
+}
+
+/// The addresses, each once, that can stand in one request.
+fn different(peers: &[IpAddr]) -> Result<Vec<IpAddr>, SocketError> {
+    let mut different: Vec<IpAddr> = Vec::new();
+    for peer in peers.iter().copied() {
+        if different.contains(&peer) {
+            continue;
+        }
+        let is_of_two = different
+            .first()
+            .is_some_and(|it| it.is_ipv4() != peer.is_ipv4());
+        if is_of_two || different.len() == PERMIT_MAX {
+            return Err(SocketError::InvalidAddresses);
+        }
+        different.push(peer);
+    }
+    if different.is_empty() {
+        return Err(SocketError::InvalidAddresses);
+    }
+    Ok(different)
 }
 
 fn owned(data: TurnPeerData<'_>) -> (Vec<u8>, SocketAddr) {

@@ -51,9 +51,11 @@ const LONGEST_WAIT: Duration = Duration::from_secs(1);
 ///
 /// A peer may send only if its IP address has a permission. The first [`send_to`](Self::send_to) to
 /// an address requests it and waits for the server; [`permit`](Self::permit) does that for a peer
-/// to whom nothing is sent. Both are renewed until the socket is closed. After the first datagram a
-/// channel to the peer is requested, unless [`ConnectOptions::channels`] says otherwise. If the
-/// server rejects it, all goes in indications, and it is requested again after five minutes.
+/// to whom nothing is sent, and [`permit_several`](Self::permit_several) for up to
+/// [`PERMIT_MAX`](crate::PERMIT_MAX) by one request. All are renewed until the socket is closed.
+/// After the first datagram a channel to the peer is requested, unless [`ConnectOptions::channels`]
+/// says otherwise. If the server rejects it, all goes in indications, and it is requested again
+/// after five minutes.
 ///
 /// # Renewals
 ///
@@ -347,16 +349,29 @@ impl TurnSocket {
     /// - `NoMemory`; `Io`.
     pub fn permit(&self, peer: IpAddr) -> Result<(), SocketError> {
         self.lock().session.request_permission(peer)?;
-        let outcome = self.wait(Waits::Storing, None, |session| {
-            if let Some(error) = session.state().error() {
-                return Some(Err(error));
-            }
-            match session.permission(peer) {
-                Permission::Granted => Some(Ok(())),
-                Permission::Requested => None,
-                Permission::Refused(cause) => Some(Err(SocketError::PeerRefused { peer, cause })),
-            }
-        });
+        self.await_permissions(&[peer])
+    }
+
+    /// Lets the IP addresses of several peers send to the relayed address, and waits until all may.
+    /// Those that are neither permitted nor requested yet are requested by one request, which the
+    /// server grants or rejects as a whole. An address that is named twice counts once.
+    ///
+    /// # Errors
+    ///
+    /// - `Closed`, `Lost`: the socket is over.
+    /// - `InvalidAddresses`: there is no address, there are more than
+    ///   [`PERMIT_MAX`](crate::PERMIT_MAX) different ones, or they are of two families.
+    /// - `PeerRefused`: the server gives no permission for a peer, or for several that were
+    ///   requested together, of whom the error names the first; after 39.5 seconds, if it doesn't
+    ///   respond.
+    /// - `NoMemory`; `Io`.
+    pub fn permit_several(&self, peers: &[IpAddr]) -> Result<(), SocketError> {
+        let missing = self.lock().session.request_permissions(peers)?;
+        self.await_permissions(&missing)
+    }
+
+    fn await_permissions(&self, peers: &[IpAddr]) -> Result<(), SocketError> {
+        let outcome = self.wait(Waits::Storing, None, |session| session.granted(peers));
         outcome
             .map_err(SocketError::Io)?
             .unwrap_or(Err(SocketError::TimedOut))

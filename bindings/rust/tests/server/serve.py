@@ -4,6 +4,7 @@
 It prints its address, and then takes commands, a line each, to each of which it answers by a line:
 
     rejects METHOD CODE     requests of a method get this error response; 0 for none
+    denies HOST             requests of permissions for this host, and of no other one, get the error response 403
     silent METHOD [no]      requests of a method get no response; or they do
     elsewhere ADDRESS       a challenge names this server by a response 300
     chunk BYTES             how many bytes are written at once over TCP
@@ -11,7 +12,7 @@ It prints its address, and then takes commands, a line each, to each of which it
     icmp PEER               sends an indication with an ICMP report: type 3, code 3, data 5 (RFC 8656, section 18.13)
     hang up                 closes each connection
     greeting TEXT           what a peer sends as soon as its connection is bound
-    requests | lifetimes | unsigned | payloads | bound
+    requests | permissions | lifetimes | unsigned | payloads | bound
 
 It ends with its input.
 """
@@ -39,6 +40,8 @@ def follow(server, command, given):
     """Does what a command says. What there is to answer."""
     if command == "rejects":
         server.rejects = {} if given[1] == "0" else {int(given[0]): int(given[1])}
+    elif command == "denies":
+        server.denies = {given[0]}
     elif command == "silent":
         (server.silent.discard if given[1:] == ["no"] else server.silent.add)(int(given[0]))
     elif command == "elsewhere":
@@ -62,6 +65,8 @@ def follow(server, command, given):
         return bound_to_peer(server)
     elif command == "unsigned":
         return str(server.unsigned)
+    elif command == "permissions":
+        return " ".join(map(",".join, server.permissions))
     elif command in ("requests", "lifetimes"):
         return " ".join(map(str, getattr(server, command)))
     else:

@@ -10,7 +10,7 @@ use turn_client::{
     TurnUri, PAYLOAD_MAX,
 };
 
-use crate::line::{serve, Inner, Line, Shared};
+use crate::line::{serve, Line, Shared};
 use crate::options::ConnectOptions;
 
 /// How many bytes wait to be sent to the server before [`TurnSocket::send_to`] waits.
@@ -28,9 +28,10 @@ pub const UNSENT_MAX: usize = 256 * 1024;
 ///
 /// A peer may send only if its IP address has a permission. The first [`send_to`](Self::send_to) to
 /// an address requests it and waits for the server; [`permit`](Self::permit) does that for a peer
-/// to whom nothing is sent. After the first datagram a channel to the peer is requested, unless
-/// [`ConnectOptions::channels`] says otherwise. If the server rejects it, all goes in indications,
-/// and it is requested again after five minutes.
+/// to whom nothing is sent, and [`permit_several`](Self::permit_several) for up to
+/// [`PERMIT_MAX`](turn_client::PERMIT_MAX) by one request. After the first datagram a channel to the
+/// peer is requested, unless [`ConnectOptions::channels`] says otherwise. If the server rejects it,
+/// all goes in indications, and it is requested again after five minutes.
 ///
 /// # What is stored, and dropped
 ///
@@ -210,24 +211,40 @@ impl TurnSocket {
     /// - `PeerRefused`: the server gives no permission; after 39.5 seconds, if it doesn't respond.
     /// - `NoMemory`.
     pub async fn permit(&self, peer: IpAddr) -> Result<(), SocketError> {
-        let permission = |inner: &mut Inner| match inner.session.state().error() {
-            Some(error) => Err(error),
-            None => Ok(inner.session.permission(peer)),
-        };
         {
             let mut inner = self.shared.lock();
-            if permission(&mut inner)? == Permission::Granted {
+            if let Some(error) = inner.session.state().error() {
+                return Err(error);
+            }
+            if inner.session.permission(peer) == Permission::Granted {
                 return Ok(());
             }
             inner.session.request_permission(peer)?;
         }
+        self.await_permissions(&[peer]).await
+    }
+
+    /// Lets the IP addresses of several peers send to the relayed address, and waits until all may.
+    /// Those that are neither permitted nor requested yet are requested by one request, which the
+    /// server grants or rejects as a whole. An address that is named twice counts once.
+    ///
+    /// # Errors
+    ///
+    /// - `Closed`, `Lost`: the socket is over.
+    /// - `InvalidAddresses`: there is no address, there are more than
+    ///   [`PERMIT_MAX`](turn_client::PERMIT_MAX) different ones, or they are of two families.
+    /// - `PeerRefused`: the server gives no permission for a peer, or for several that were
+    ///   requested together, of whom the error names the first; after 39.5 seconds, if it doesn't
+    ///   respond.
+    /// - `NoMemory`.
+    pub async fn permit_several(&self, peers: &[IpAddr]) -> Result<(), SocketError> {
+        let missing = self.shared.lock().session.request_permissions(peers)?;
+        self.await_permissions(&missing).await
+    }
+
+    async fn await_permissions(&self, peers: &[IpAddr]) -> Result<(), SocketError> {
         self.shared.requested.notify_one();
-        let granted = self.shared.wait(|inner| match permission(inner) {
-            Err(error) => Some(Err(error)),
-            Ok(Permission::Granted) => Some(Ok(())),
-            Ok(Permission::Refused(cause)) => Some(Err(SocketError::PeerRefused { peer, cause })),
-            Ok(_) => None,
-        });
+        let granted = self.shared.wait(|inner| inner.session.granted(peers));
         granted.await
     }
 

@@ -3,7 +3,7 @@
 #[path = "../../tests/server/mod.rs"]
 mod server;
 
-use std::net::SocketAddr;
+use std::net::{IpAddr, SocketAddr};
 use std::sync::Arc;
 use std::time::{Duration, Instant};
 
@@ -22,6 +22,11 @@ const MANY: usize = 200;
 
 fn peer() -> SocketAddr {
     SocketAddr::from(([198, 51, 100, 1], 9000))
+}
+
+/// The hosts 198.51.100.K.
+fn hosts<const COUNT: usize>(last: [u8; COUNT]) -> [IpAddr; COUNT] {
+    last.map(|it| IpAddr::from([198, 51, 100, it]))
 }
 
 async fn connect(server: &Server) -> TurnSocket {
@@ -110,6 +115,89 @@ async fn a_rejected_permission_is_told_with_its_cause() {
     server.does(&format!("rejects {CREATE_PERMISSION} 0"));
     socket.send_to(b"two", peer()).await.unwrap();
     assert_eq!(received(&socket).await.unwrap().0, "two");
+}
+
+/// Those that are permitted already are not requested again.
+#[tokio::test]
+async fn several_are_permitted_by_one_request() {
+    for transport in BOTH {
+        let mut server = Server::start(transport);
+        let socket = connect(&server).await;
+        socket.permit(hosts([2])[0]).await.unwrap();
+        for _ in 0..2 {
+            socket
+                .permit_several(&hosts([1, 2, 1, 3, 2]))
+                .await
+                .unwrap();
+        }
+        let requested = "198.51.100.2 198.51.100.1,198.51.100.3";
+        assert_eq!(server.tell("permissions"), requested);
+        server.does("data 198.51.100.3:9000 n 1");
+        assert_eq!(received(&socket).await.unwrap().0, "n0");
+    }
+}
+
+#[tokio::test]
+async fn a_task_requests_what_no_other_one_has() {
+    let mut server = Server::start(TransportType::Tcp);
+    let socket = connect(&server).await;
+    let peers = hosts([1, 2, 3]);
+    let both = async { tokio::join!(socket.permit(peer().ip()), socket.permit_several(&peers)) };
+    let (one, several) = timeout(PATIENCE, both).await.unwrap();
+    one.unwrap();
+    several.unwrap();
+    let requested = "198.51.100.1 198.51.100.2,198.51.100.3";
+    assert_eq!(server.tell("permissions"), requested);
+}
+
+/// The server denies one of them, and so rejects the request.
+#[tokio::test]
+async fn rejected_permissions_of_several_are_told_by_the_first() {
+    let mut server = Server::start(TransportType::Udp);
+    let socket = connect(&server).await;
+    server.does("denies 198.51.100.3");
+    socket.permit(peer().ip()).await.unwrap();
+    let error = socket.permit_several(&hosts([1, 2, 3])).await.unwrap_err();
+    assert!(is_rejected(error.cause(), 403), "{error}");
+    assert_eq!(
+        error.to_string(),
+        "no permission for 198.51.100.2: rejected 403 signed Noway"
+    );
+    socket.permit_several(&hosts([2, 1])).await.unwrap();
+    let requested = "198.51.100.1 198.51.100.2,198.51.100.3 198.51.100.2";
+    assert_eq!(server.tell("permissions"), requested);
+}
+
+#[tokio::test]
+async fn addresses_that_cannot_stand_in_one_request_are_refused() {
+    let mut server = Server::start(TransportType::Udp);
+    let socket = connect(&server).await;
+    let six: IpAddr = "2001:db8::7".parse().unwrap();
+    let too_many: Vec<IpAddr> = (0..=32).flat_map(|it| hosts([it])).collect();
+    for refused in [&[][..], &too_many, &[peer().ip(), six]] {
+        let error = socket.permit_several(refused).await.unwrap_err();
+        assert!(matches!(error, SocketError::InvalidAddresses), "{error}");
+    }
+    sleep(SOON).await;
+    assert_eq!(server.tell("permissions"), "");
+}
+
+#[tokio::test]
+async fn a_task_that_waits_for_permissions_sees_the_end() {
+    let mut server = Server::start(TransportType::Udp);
+    let socket = connect(&server).await;
+    server.does(&format!("silent {CREATE_PERMISSION}"));
+    let peers = hosts([1, 2]);
+    let closing = async {
+        sleep(SOON).await;
+        socket.close().await
+    };
+    let both = async { tokio::join!(socket.permit_several(&peers), closing) };
+    let (waited, closed) = timeout(PATIENCE, both).await.unwrap();
+    assert!(matches!(waited, Err(SocketError::Closed)), "{waited:?}");
+    closed.unwrap();
+    let late = socket.permit_several(&peers).await;
+    assert!(matches!(late, Err(SocketError::Closed)), "{late:?}");
 }
 
 #[tokio::test]
