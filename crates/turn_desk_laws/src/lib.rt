@@ -2,8 +2,8 @@
 //! each under its own name.
 //!
 //! - Over any network: [`Runs`], whose `run` has the theorem on what a client holds
-//!   ([`runs_of_a_world_are_safe`]), and what follows from it; and [`sending`], on what a client
-//!   sends to a peer.
+//!   ([`runs_of_a_world_are_safe`]), and what follows from it; [`sending`], on what a client sends
+//!   to a peer, and [`ended`], on how its connections end.
 //! - Over an honest network, by a script: [`honest_runs_allocate`] and those after it.
 //! - As a driver's loop calls the client, over a network that takes time:
 //!   [`honest_loops_allocate`], and the modules of this crate.
@@ -29,7 +29,7 @@ pub use turn_desk_world_laws::laws::{
     relayed_addresses_are_reported, runs_are_determined, runs_of_a_world_are_safe,
 };
 pub use turn_desk_world_laws::running::Runs;
-pub use turn_desk_world_laws::sending;
+pub use turn_desk_world_laws::{ended, sending};
 
 pub mod beside;
 pub mod challenged_connects;

@@ -10,6 +10,12 @@ pub mod Chain
 pub mod Counting
 pub mod Determined
 pub mod Different
+pub mod EndedBindings
+pub mod EndedDeletions
+pub mod EndedReports
+pub mod EndedRuns
+pub mod EndedStreams
+pub mod EndedTimes
 pub mod Ends
 pub mod Delivered
 pub mod Once

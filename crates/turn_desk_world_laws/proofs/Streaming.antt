@@ -34,7 +34,7 @@ no_other old frame now payload taken new is takes = by (payload_of old frame) is
     by None is takes = absurd (Prim.cc is)
     by (Some found) is takes = takes.0 ∙ ap Given (Prim.cc is)
 
-not_garbled : (handled : Bool) → taken_as handled ≡ Garbled → ⊥
+pub not_garbled : (handled : Bool) → taken_as handled ≡ Garbled → ⊥
 not_garbled true is = Prim.cc is
 not_garbled false is = Prim.cc is
 

@@ -1,5 +1,6 @@
 pub mod AddressRuns
 pub mod Copies
+pub mod Ended
 pub mod Ends
 pub mod Numbers
 pub mod Safety
