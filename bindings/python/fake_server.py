@@ -80,7 +80,8 @@ class FakeServer:
         self.chunk = 0                                    # bytes that are written at once over TCP; 0: all
         self.greeting = b""                               # what a peer sends as soon as its connection is bound
         self.requests: list[int] = []                     # the methods of signed requests
-        self.permissions: list[list[str]] = []            # the hosts of signed CREATE_PERMISSIONs
+        self.permissions: list[list[str]] = []            # the hosts of signed CREATE_PERMISSIONs, each once
+        self._named: dict[bytes, list[str]] = {}          # the same by the transaction ID
         self.lifetimes: list[int] = []                    # of signed REFRESHs
         self.unsigned = 0                                 # requests that weren't signed
         self.payloads: list[tuple[str, bytes, bool]] = []  # peer, data, and whether by a channel
@@ -154,8 +155,9 @@ class FakeServer:
             self._challenges(kind, transaction, send)
         elif kind not in self.silent:
             self.requests.append(kind)
-            if kind == base.CREATE_PERMISSION:
-                self.permissions.append(hosts(text))
+            if kind == base.CREATE_PERMISSION and transaction not in self._named:  # else it was sent again
+                self._named[transaction] = hosts(text)
+                self.permissions.append(self._named[transaction])
             self._answers(kind, transaction, told, send, source)
 
     def _challenges(self, method: int, transaction: bytes, send: Send) -> None:
@@ -171,7 +173,7 @@ class FakeServer:
         if self.rejects.get(method) == 401:
             self._challenges(method, transaction, send)
             return
-        is_denied = method == base.CREATE_PERMISSION and not self.denies.isdisjoint(self.permissions[-1])
+        is_denied = method == base.CREATE_PERMISSION and not self.denies.isdisjoint(self._named[transaction])
         if method in self.rejects or is_denied:
             rejection = [base.code(self.rejects.get(method, 403), b"No\tway")]
             send(base.message(method | base.ERROR, transaction, rejection, base.BY_SHA1))
