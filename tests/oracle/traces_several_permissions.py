@@ -42,6 +42,13 @@ def asks(t, now, k, ips, credentials=None):
     return t.draw(now + 50 * MS, create_permission(k, ips, *([credentials] if credentials else [])))
 
 
+def are_granted(t, now, k, ips, *others):
+    """Permissions are asked for, granted, told of and held behind others."""
+    drawn = asks(t, now, k, ips)
+    t.decides(now + 50 * MS, drawn, "grant", success(CREATE_PERMISSION, k))
+    are_permitted(t, ips, *others)
+
+
 def granted_together():
     t = holding()
     t.permit(50 * MS, THREE)
@@ -61,9 +68,7 @@ def granted_together():
 
 def renewed_alone():
     t = holding()
-    drawn = asks(t, 50 * MS, 2, THREE)
-    t.decides(100 * MS, drawn, "grant", success(CREATE_PERMISSION, 2))
-    are_permitted(t, THREE)
+    are_granted(t, 50 * MS, 2, THREE)
     t.draw(DUE - 1, None)
     for i, ip in enumerate(THREE):
         now = DUE + 50 * MS * i
@@ -86,9 +91,7 @@ def named_twice():
 
 def named_alone():
     t = holding(PEER_1)
-    drawn = asks(t, 100 * MS, 3, [PEER_2])
-    t.decides(150 * MS, drawn, "grant", success(CREATE_PERMISSION, 3))
-    are_permitted(t, [PEER_2], PEER_1)
+    are_granted(t, 100 * MS, 3, [PEER_2], PEER_1)
     return "A permission of one address is asked for as those of several are", t
 
 
@@ -121,9 +124,7 @@ def refused():
 
 def as_many_as_may_be():
     t = holding()
-    drawn = asks(t, 50 * MS, 2, MOST)
-    t.decides(100 * MS, drawn, "grant", success(CREATE_PERMISSION, 2))
-    are_permitted(t, MOST)
+    are_granted(t, 50 * MS, 2, MOST)
     return "Permissions of 32 addresses, as many as one request may name, are granted", t
 
 
@@ -133,9 +134,7 @@ def rejected():
     t.decides(150 * MS, drawn, "refuse 403", error(CREATE_PERMISSION, 3, FORBIDDEN))
     are_forbidden(t, THREE, "10.0.0.9", cause=f"rejected 403 signed {b'Forbidden'.hex()}")
     t.poll(150 * MS, DUE)
-    drawn = asks(t, 150 * MS, 4, (PEER_3, PEER_1))
-    t.decides(200 * MS, drawn, "grant", success(CREATE_PERMISSION, 4))
-    are_permitted(t, (PEER_3, PEER_1), "10.0.0.9")
+    are_granted(t, 150 * MS, 4, (PEER_3, PEER_1), "10.0.0.9")
     return "A request for three is rejected: each of them is told of; two are asked for again, and granted", t
 
 
@@ -170,9 +169,7 @@ def challenged():
 
 def lapse_together():
     t = holding()
-    drawn = asks(t, 50 * MS, 2, (PEER_1, PEER_2))
-    t.decides(100 * MS, drawn, "grant", success(CREATE_PERMISSION, 2))
-    are_permitted(t, (PEER_1, PEER_2))
+    are_granted(t, 50 * MS, 2, (PEER_1, PEER_2))
     t.has(PEER_1)
     t.poll(LAPSE, LAPSE)
     are_forbidden(t, (PEER_1, PEER_2), cause="expired")
